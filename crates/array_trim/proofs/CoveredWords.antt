@@ -37,7 +37,8 @@ marks main = marks_start main.seat.space
 
 -- where words were put, and then so many at an address made free, both were put
 pub covers_then : {old mid new : Mutator} {words : List ℕ} (at count : ℕ) → PutsWords old mid words
-    → PutsWords mid new (with_free_cell (heap_words mid.seat) at count) → PutsWords old new (with_free_cell words at count)
+    → PutsWords mid new (with_free_cell (heap_words mid.seat) at count)
+    → PutsWords old new (with_free_cell words at count)
 covers_then {old} {mid} {new} at count first next = record {
   beside = rest_stays_again old.seat mid.seat new.seat first.beside next.beside;
   paths = next.paths ∙ first.paths;

@@ -24,7 +24,7 @@ use Rattle.write_barrier.specs.Recording.{Touches}
 use Rattle.object_cells.specs.CellWrites.{IsInCell}
 use Rattle.object_cells.specs.ElementChanges.{AreNewElements}
 use Rattle.object_cells.specs.Made.{PutsWords}
-use Rattle.object_cells.proofs.TouchedCells.{remembers}
+use Rattle.object_cells.proofs.TouchedCells.{none_made, remembers}
 use Rattle.array_trim.specs.Trims.{HasTrimmed}
 use Rattle.array_trim.proofs.Covers.{IsCovered, covering}
 use Rattle.array_trim.proofs.CutWords.{IsCut, counted, long_counted, cut_words, long_cut, cut_stays}
@@ -205,7 +205,7 @@ module _ {old new : Mutator} {at store : ℕ} {list : ListObject} (stored : List
       pieces = pieces;
       from = from;
       trim = trim;
-      remembers = remembers touch touches (trim_touches trim touch each);
+      remembers = remembers touch touches (trim_touches trim touch each) (none_made (heap_of old) touch);
     }
 
     pub cut_has_trimmed : HasTrimmed old new graph at list after came.length

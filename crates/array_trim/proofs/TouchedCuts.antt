@@ -7,7 +7,7 @@ use Rattle.page_space.specs.Extents.{eden_start}
 use Rattle.heap_model.specs.Types.{Value, Cell}
 use Rattle.heap_model.specs.Heaps.{Heap}
 use Rattle.heap_model.specs.Kinds.{count_offset}
-use Rattle.heap_model.specs.Remembered.{IsSlotOf, IsSlotOfOne, Touch, TouchesCells}
+use Rattle.heap_model.specs.Remembered.{IsSlotOf, IsSlotOfOne, Touch, TouchesBeside}
 use Rattle.heap_model.proofs.CellsApart.{IsOfCell, cells_apart}
 use Rattle.object_cells.proofs.ListChanging.{list_is_no_store}
 use Rattle.object_cells.proofs.NumberedSlots.{store_size}
@@ -144,7 +144,7 @@ module _ {old new : Heap} {cell store came : Cell} {pieces : List Cell} {before 
 
   -- so only words of these cells were touched
   pub trim_touches : (touch : ℕ → Touch) → ((a : ℕ) → CutTouch cell store came touch a)
-      → TouchesCells (eden_start old.space) (cell ∷ store ∷ []) (cell ∷ pieces) touch
+      → TouchesBeside (eden_start old.space) 0 0 (cell ∷ store ∷ []) (cell ∷ pieces) touch
   trim_touches touch cut =
-      cells_touched (eden_start old.space) went comes touch (λ a below. fits touch a (cut a))
-      (λ a below is. kept touch a (cut a) is)
+      cells_touched (eden_start old.space) 0 0 went comes touch (λ a below beside. fits touch a (cut a))
+      (λ a below beside is. kept touch a (cut a) is)

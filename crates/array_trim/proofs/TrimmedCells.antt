@@ -2,7 +2,7 @@
 -- which the list's cell refers. So cells stand in rows.
 use Rattle.std.proofs.Common.{◌≡◌, ℕ, ◌+◌, ◌<◌, ◌≤◌, ◌⊎◌, List, []}
 use Rattle.std.proofs.Common.{◌∷◌, ◌++◌, length, Contains, All, Some, slice_get}
-use Rattle.std.proofs.Common.{map, sym, ◌∙◌, ap, subst, arith}
+use Rattle.std.proofs.Common.{map, refl, sym, ◌∙◌, ap, subst, arith}
 use Rattle.std.proofs.lemmas.Bool.{false≢true}
 use Rattle.std.proofs.lemmas.List.{append-nil}
 use Rattle.std.proofs.lemmas.List.Elements.{All-nil, All-cons, All-contains, Contains-append_left}
@@ -20,7 +20,7 @@ use Rattle.heap_model.specs.Slots.{reference_word, RefersTo}
 use Rattle.heap_model.specs.Kinds.{HasNoNumber, count_offset}
 use Rattle.heap_model.specs.Wholeness.{Whole, HasSizes, HasRows}
 use Rattle.heap_model.specs.Showing.{ShowsList}
-use Rattle.heap_model.specs.Changes.{Patch, IsPatched, Rewrite, IsRewrite, patch_of, IsChange, CellsChange}
+use Rattle.heap_model.specs.Changes.{Patch, IsPatched, Rewrite, IsRewrite, patch_of, IsRunOf, IsChange, CellsChange}
 use Rattle.heap_model.proofs.CellsApart.{used_few}
 use Rattle.heap_model.proofs.Rewrites.{rewrite_slots, rewrites_are_patches, rewrites_keep_cells}
 use Rattle.heap_model.proofs.WordsAlike.{cell_below_roots}
@@ -129,7 +129,6 @@ module _ {old new : Heap} {cell store came : Cell} {pieces : List Cell} {before 
       record {
         same_space = trim.same_space;
         same_survivors = trim.same_survivors;
-        grown = omega (arith, trim.same_used);
         room = omega (
           arith,
           trim.whole.rows.few,
@@ -142,6 +141,10 @@ module _ {old new : Heap} {cell store came : Cell} {pieces : List Cell} {before 
         sized = trim.sized;
         each = are.0;
         apart = are.1;
+        from = from_used;
+        to = eden_start old.space + new.used;
+        run = IsRunOf.of_eden refl refl (omega (arith, trim.same_used));
+        beside = λ patch at among patched from below. omega (arith, from, below, trim.same_used);
         made_stand = subst (λ n. IsRow new.space new.words from_used (eden_start old.space + n) []) (sym trim.same_used)
             (IsRow.none from_used);
         cells_stay = λ at below free not_new. free_stays at below free;

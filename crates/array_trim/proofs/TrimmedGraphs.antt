@@ -20,8 +20,8 @@ use Rattle.object_cells.specs.ElementChanges.{AreNewElements}
 use Rattle.object_cells.specs.ListObjects.{IsListAt}
 use Rattle.object_cells.specs.Made.{PutsWords}
 use Rattle.object_cells.specs.Uses.{UsesMore}
-use Rattle.object_cells.proofs.NothingUsed.{uses_none}
-use Rattle.object_cells.proofs.RestOfWords.{keeps_regions}
+use Rattle.object_cells.proofs.NothingUsed.{room_for_none, uses_none}
+use Rattle.object_cells.proofs.TakenRuns.{bumped_none, takes_none}
 use Rattle.object_cells.proofs.NewElements.{elements_are_new}
 use Rattle.object_cells.proofs.RefilledLists.{links_reached}
 use Rattle.object_cells.proofs.ReplacedObjects.{ReplacesCells, replaced_shows, rests_again}
@@ -73,16 +73,17 @@ pub record Trimmed (old new : Mutator) (graph : Graph) (at : ℕ) (list : ListOb
   pub pieces : List Cell
   pub from : ℕ
   pub trim : Trimming (heap_of old) (heap_of new) shown.cell store came pieces list.elements after from
-  pub remembers : Remembers old new (shown.cell ∷ store ∷ []) (shown.cell ∷ pieces)
+  pub remembers : Remembers old new (shown.cell ∷ store ∷ []) (shown.cell ∷ pieces) []
 
 module _ {old new : Mutator} {graph : Graph} {at : ℕ} {list : ListObject} {after : List Value}
     (trimmed : Trimmed old new graph at list after) where
   -- the mutator rests again
-  rests : RestsAgain old new
+  rests : RestsAgain old new []
   rests =
       let cells = trimmed_cells trimmed.trim in
       rests_again (trimmed.shown.cell ∷ trimmed.store ∷ []) (trimmed.shown.cell ∷ trimmed.pieces) [] trimmed.shows
-      (keeps_regions trimmed.puts.beside trimmed.puts.young) trimmed.trim.sized cells.0 cells.1 trimmed.remembers
+      (takes_none trimmed.puts.beside (room_for_none old trimmed.shows.tied trimmed.shows.shows.whole)
+      (trimmed.puts.young ∙ sym (bumped_none old.young))) trimmed.trim.sized cells.0 cells.1 trimmed.remembers
 
   -- the list's cell shows the elements that stay, and no other object's went
   replaces : ReplacesCells (heap_of old) (heap_of new) graph list.number (ListOf after)

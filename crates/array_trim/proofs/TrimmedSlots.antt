@@ -1,5 +1,5 @@
--- The slots of a list that was trimmed: each slot of its store is one of the old store. And what stands beside it is its
--- own.
+-- The slots of a list that was trimmed: each slot of its store is one of the old store. And what stands beside it is
+-- its own.
 use Rattle.std.proofs.Common.{◌≡◌, ℕ, ◌+◌, ◌<◌, ◌⊎◌, List, []}
 use Rattle.std.proofs.Common.{◌∷◌, ◌++◌, drop, Contains, slice_get, IsTrue, false}
 use Rattle.std.proofs.Common.{inl, inr, refl, sym, ◌∙◌, ap, subst, arith}
@@ -113,7 +113,7 @@ module _ {old new : Heap} {cell store came : Cell} {pieces : List Cell} {before 
       } in
       let of_other : IsOfCell other came.at = subst (IsOfCell other) same (first_of_cell has) in
       let one : other ≡ store = cells_apart came.at trim.whole.rows has trim.refers.has of_other inside in
-      omega (arith, some, trim.place, same, ap (λ (c : Cell). c.at) one)
+      absurd (omega (arith, some, trim.place, same, ap (λ (c : Cell). c.at) one))
 
   -- so the store that went is the list's own, and of those that came only its own is an object's
   pub trim_writing : OwnWriting old new cell cell (store ∷ []) pieces []

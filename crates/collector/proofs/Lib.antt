@@ -6,5 +6,6 @@ mod RowWalks
 mod FilledWords
 pub mod ImageStores
 pub mod ImagesTight
+pub mod ImagesFree
 pub mod Keeping
 pub mod MadeRoom

@@ -1,11 +1,12 @@
 -- A heap that is scavenged twice for room.
-use Rattle.std.proofs.Common.{◌≡◌, ◌∙◌, ◌↔◌, ℕ, Bool, false, IsTrue, sym, subst}
+use Rattle.std.proofs.Common.{◌≡◌, ◌∙◌, ℕ, Bool, ap, subst}
 use Rattle.object_graph.specs.Graphs.{Graph}
 use Rattle.nursery.specs.Young.{HasRoom}
 use Rattle.write_barrier.specs.MutatorState.{Mutator}
 use Rattle.scavenger.specs.Laws.{KeepsGraphs}
-use Rattle.collector.specs.Making.{ScavengesFor}
+use Rattle.collector.specs.Making.{Serves, MakesRoom, ScavengesFor}
 use Rattle.collector.specs.States.{HeapState, HeapShows}
+use Rattle.collector.proofs.Keeping.{keeps_itself}
 
 -- graphs that are kept twice are kept, with the same rooms
 pub keeps_twice : {old mid new : Mutator} → KeepsGraphs old mid → KeepsGraphs mid new → KeepsGraphs old new
@@ -28,15 +29,33 @@ pub shows_twice : {old mid new : HeapState} → ((graph : Graph) → HeapShows o
     → (graph : Graph) → HeapShows old graph → HeapShows new graph
 shows_twice first then graph shown = then graph (first graph shown)
 
--- a heap was found to have no room, which it was
-pub no_room_twice : {here there : HeapState} (n : ℕ) {has : Bool} → here ≡ there
-    → (IsTrue has ↔ HasRoom here.main.young n) → has ≡ false → HasRoom there.main.young n → ⊥
-no_room_twice {here} {there} n same asked lacks room =
-    let here_too = subst (λ (heap : HeapState). HasRoom heap.main.young n) (sym same) room in
-    let granted = asked.1 here_too in
-    cc
+-- What becomes of a heap that is asked for room: it is scavenged where there was none, and shows what it showed, with
+-- the same rooms.
+pub record IsEnsured (old : HeapState) (n : ℕ) (new : HeapState) : Type 0 where
+  pub scavenged : (HasRoom old.main.young n → ⊥) → ScavengesFor old.main new.main n
+  pub shows : (graph : Graph) → HeapShows old graph → HeapShows new graph
+  pub rooms : KeepsGraphs old.main new.main
 
--- the regions stay where a heap that shows a graph is scavenged for words
+-- it is so where there is room
+pub ensured_there : {heap inside : HeapState} {n : ℕ} → inside ≡ heap → HasRoom inside.main.young n
+    → IsEnsured heap n heap
+ensured_there {heap} {inside} {n} same room = record {
+  scavenged = λ none. absurd (none (subst (λ (one : HeapState). HasRoom one.main.young n) same room));
+  shows = λ graph shown. shown;
+  rooms = keeps_itself heap.main;
+}
+
+-- the regions stay where there is room for words, or some are granted
+served_space : {old new : Mutator} {n : ℕ} → Serves old new n → new.seat.space ≡ old.seat.space
+served_space (Serves.eden room same) = ap (λ (main : Mutator). main.seat.space) same
+served_space (Serves.granted lacks grants keeps) = grants.beside.space
+
+-- where room is made for words
+made_space : {old new : Mutator} {all : Bool} {n : ℕ} → MakesRoom old new all n → new.seat.space ≡ old.seat.space
+made_space makes = served_space makes.serves ∙ makes.scavenges.seat.space
+
+-- and where a heap that shows a graph is scavenged for them
 pub scavenged_space : {old new : Mutator} {n : ℕ} → ScavengesFor old new n → new.seat.space ≡ old.seat.space
-scavenged_space (ScavengesFor.once scavenges room) = scavenges.seat.space
-scavenged_space (ScavengesFor.twice mid first keeps lacks then) = then.seat.space ∙ first.seat.space
+scavenged_space (ScavengesFor.once makes) = made_space makes
+scavenged_space (ScavengesFor.twice mid first keeps out makes) = made_space makes ∙ first.seat.space
+scavenged_space (ScavengesFor.in_vain mid first keeps out then again still) = then.seat.space ∙ first.seat.space

@@ -1,9 +1,11 @@
--- Laws of images of a heap: what they show, and which rooms objects have in them.
-use Rattle.std.specs.Prelude.{◌≡◌, ℕ, ◌↔◌}
+-- Laws of images of a heap: what they show, which rooms objects have in them, and which runs of pages are free.
+use Rattle.std.specs.Prelude.{◌≡◌, ℕ, ◌↔◌, List}
 use Rattle.object_graph.specs.Graphs.{Graph}
+use Rattle.heap_model.specs.Types.{Run}
 use Rattle.heap_model.specs.Heaps.{Heap}
 use Rattle.heap_model.specs.Wholeness.{Whole, Blank}
 use Rattle.heap_model.specs.Showing.{Shows}
+use Rattle.heap_model.specs.Collectable.{AreFreeRuns}
 use Rattle.heap_model.specs.Reaching.{IsTight}
 use Rattle.heap_model.specs.Slots.{IsPlace}
 use Rattle.heap_model.specs.Needs.{capacity_at}
@@ -34,3 +36,9 @@ ImagesHaveRooms =
 -- An image of a whole heap in which of young cells only those are kept that are reached is such a heap too.
 abbrev pub ImagesAreTight : Type 0
 ImagesAreTight = (heap image : Heap) → Whole heap → IsTight heap → IsImageOf heap image → IsTight image
+
+-- Free runs of a whole heap, each of which is one free cell, are free runs of an image.
+abbrev pub ImagesKeepFree : Type 0
+ImagesKeepFree =
+    (heap image : Heap) (rows : List (List Run)) → Whole heap → AreFreeRuns heap rows → IsImageOf heap image
+    → AreFreeRuns image rows

@@ -1,13 +1,36 @@
--- How room is made in eden.
-use Rattle.std.specs.Prelude.{ℕ, true, false}
-use Rattle.nursery.specs.Young.{HasRoom}
+-- How room is made for cells.
+use Rattle.std.specs.Prelude.{◌≡◌, ℕ, Bool, true, false}
+use Rattle.nursery.specs.Young.{HasRoom, in_eden}
+use Rattle.free_runs.specs.FreeRuns.{FitsNowhere}
 use Rattle.write_barrier.specs.MutatorState.{Mutator}
-use Rattle.scavenger.specs.Scavenged.{Scavenges}
+use Rattle.scavenger.specs.Granting.{Grants}
 use Rattle.scavenger.specs.Laws.{KeepsGraphs}
+use Rattle.scavenger.specs.Scavenged.{Scavenges}
 
--- The heap was scavenged for so many words: once, which promoted survivors; and only where that left no room for them a
--- second time, which promoted all that lives.
+-- There is no room for so many words: nothing is granted, eden has not so many, and no free run of a page has.
+pub record IsOutOfRoom (main : Mutator) (n : ℕ) : Type 0 where
+  pub ungranted : in_eden main.young ≡ true
+  pub lacks : HasRoom main.young n → ⊥
+  pub runs : FitsNowhere main.free n
+
+-- There is room for so many words: eden has them, and nothing has changed; or it has not, and words of a free run are
+-- granted.
+pub data Serves (old new : Mutator) (n : ℕ) : Type 0 where
+  eden : HasRoom old.young n → new ≡ old → Serves old new n
+  granted : (HasRoom old.young n → ⊥) → Grants old new n → KeepsGraphs old new → Serves old new n
+
+-- The heap was scavenged, which promoted survivors, or with `all` all that lives; then there is room.
+pub record MakesRoom (old new : Mutator) (all : Bool) (n : ℕ) : Type 0 where
+  pub mid : Mutator
+  pub scavenges : Scavenges old mid all
+  pub keeps : KeepsGraphs old mid
+  pub serves : Serves mid new n
+
+-- Room was made for so many words by a scavenge which promoted survivors; and only where that left none, neither in eden
+-- nor in a page, by a second one, which promoted all that lives; or both were in vain.
 pub data ScavengesFor (old new : Mutator) (n : ℕ) : Type 0 where
-  once : Scavenges old new false → HasRoom new.young n → ScavengesFor old new n
-  twice : (mid : Mutator) → Scavenges old mid false → KeepsGraphs old mid → (HasRoom mid.young n → ⊥)
-      → Scavenges mid new true → ScavengesFor old new n
+  once : MakesRoom old new false n → ScavengesFor old new n
+  twice : (mid : Mutator) → Scavenges old mid false → KeepsGraphs old mid → IsOutOfRoom mid n
+      → MakesRoom mid new true n → ScavengesFor old new n
+  in_vain : (mid : Mutator) → Scavenges old mid false → KeepsGraphs old mid → IsOutOfRoom mid n
+      → Scavenges mid new true → KeepsGraphs mid new → IsOutOfRoom new n → ScavengesFor old new n

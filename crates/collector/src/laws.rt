@@ -1,14 +1,16 @@
 //! Laws of images.
 ghost use Rattle.collector.specs.ImageLaws.{ImagesShow, ImagesAreBlank, ImagesKeepStores};
-ghost use Rattle.collector.specs.ImageLaws.{ImagesHaveRooms, ImagesAreTight};
+ghost use Rattle.collector.specs.ImageLaws.{ImagesHaveRooms, ImagesAreTight, ImagesKeepFree};
 
 /// An image shows each graph that the heap shows, and has no word but 0 where no cell stands. Each
 /// object stands there where it stood, with a store of as many slots, and a command allocates as many
-/// words on it as on the heap. It keeps only what is reached, if the heap does.
+/// words on it as on the heap. It keeps only what is reached, if the heap does, and its pages have the
+/// free runs of the heap.
 pub fn laws_of_images()
     ensures show { ImagesShow }
     ensures blank { ImagesAreBlank }
     ensures stores { ImagesKeepStores }
     ensures rooms { ImagesHaveRooms }
     ensures tight { ImagesAreTight }
+    ensures free { ImagesKeepFree }
 {}

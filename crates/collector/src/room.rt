@@ -1,18 +1,19 @@
-//! Room for new cells: where eden has none, scavenges make some.
-ghost use Rattle.std.specs.Prelude.{◌≡◌, ◌≤◌, ◌↔◌, OnOk, IfErr, is_ok, false};
+//! Room for new cells: where eden has none, scavenges make some, and else a free run of a page has it.
+ghost use Rattle.std.specs.Prelude.{◌≡◌, ◌≤◌, OnOk, OnErr, IfErr, IsTrue, false};
 ghost use Rattle.tagged_word.specs.Cells.{cell_words_most};
 ghost use Rattle.object_graph.specs.Graphs.{Graph};
 ghost use Rattle.nursery.specs.Young.{HasRoom};
+ghost use Rattle.free_runs.specs.FreeRuns.{FitsNowhere};
 ghost use Rattle.scavenger.specs.Scavenged.{Scavenges};
 ghost use Rattle.scavenger.specs.Laws.{KeepsGraphs};
-ghost use Rattle.collector.specs.Making.{ScavengesFor};
+ghost use Rattle.collector.specs.Making.{IsOutOfRoom, Serves, MakesRoom, ScavengesFor};
 ghost use Rattle.collector.specs.States.{HeapShows};
 
 use crate::script_heap::Heap;
-use scavenger::scavenge;
+use scavenger::{grant_run, scavenge};
 
-/// The heap is full: it has no room for a run of words, though it was scavenged for them, and all that
-/// lives was to be promoted.
+/// The heap is full: it has no room for so many words, though it was scavenged for them, and all that lives
+/// was to be promoted.
 #[derive(Clone, Copy, Debug, PartialEq, Eq)]
 pub struct Full {
     /// How many words were asked for.
@@ -44,18 +45,54 @@ impl Heap {
         self.collect(false);
     }
 
-    /// Makes room in eden for so many words, 1 to 2,048, where there is none: by a scavenge, and if that
-    /// leaves no room by one that promotes all that lives.
+    /// Whether there is room for so many words: in eden, or else in a free run of a page, of which so many
+    /// are granted then.
+    fn serve(&mut self, n: u32) -> bool
+        requires some { 1 ≤ n }
+        requires few { n ≤ cell_words_most }
+        requires shown { (graph : Graph) × HeapShows self.old graph }
+        ensures served { IsTrue result → Serves self.old.main self.new.main n }
+        ensures room { IsTrue result → HasRoom self.new.main.young n }
+        ensures lacks { result ≡ false → HasRoom self.old.main.young n → ⊥ }
+        ensures runs { result ≡ false → FitsNowhere self.old.main.free n }
+        ensures same { result ≡ false → self.new ≡ self.old }
+        ensures shows { (graph : Graph) → HeapShows self.old graph → HeapShows self.new graph }
+        ensures rooms { KeepsGraphs self.old.main self.new.main }
+        ensures spare { self.new.spare ≡ self.old.spare }
+    {
+        self.main.can_reserve(n) || grant_run(&mut self.main, n)
+    }
+
+    /// Makes room for so many words by a scavenge, which promotes survivors, or all that lives. Answers
+    /// whether there is room.
+    fn make_room(&mut self, promote_all: bool, n: u32) -> bool
+        requires some { 1 ≤ n }
+        requires few { n ≤ cell_words_most }
+        requires shown { (graph : Graph) × HeapShows self.old graph }
+        ensures made { IsTrue result → MakesRoom self.old.main self.new.main promote_all n }
+        ensures room { IsTrue result → HasRoom self.new.main.young n }
+        ensures scavenged { result ≡ false → Scavenges self.old.main self.new.main promote_all }
+        ensures out { result ≡ false → IsOutOfRoom self.new.main n }
+        ensures shows { (graph : Graph) → HeapShows self.old graph → HeapShows self.new graph }
+        ensures rooms { KeepsGraphs self.old.main self.new.main }
+        ensures spare { self.new.spare ≡ self.old.spare }
+    {
+        self.collect(promote_all);
+        self.serve(n)
+    }
+
+    /// Makes room for so many words, 1 to 2,048, where there is none: by a scavenge, and if behind it neither
+    /// eden nor a free run of a page has so many, by one that promotes all that lives. What eden has not
+    /// room for behind a scavenge, and a free run has, is granted of the run.
     ///
     /// # Errors
-    /// The heap is full: both were made, and left no room for them. So what stays young is longer than
-    /// each free run of a page.
+    /// The heap is full: both were made, eden has not so many words, and no free run of a page has.
     pub fn ensure(&mut self, n: u32) -> Result<(), Full>
         requires some { 1 ≤ n }
         requires few { n ≤ cell_words_most }
         requires shown { (graph : Graph) × HeapShows self.old graph }
         ensures room { OnOk result (HasRoom self.new.main.young n) }
-        ensures refused { (is_ok result ≡ false) ↔ (¬ HasRoom self.new.main.young n) }
+        ensures full { OnErr result (IsOutOfRoom self.new.main n) }
         ensures need { IfErr result (λ full. full.need ≡ n) }
         ensures kept { HasRoom self.old.main.young n → self.new ≡ self.old }
         ensures scavenged { ¬ HasRoom self.old.main.young n →
@@ -64,17 +101,9 @@ impl Heap {
         ensures rooms { KeepsGraphs self.old.main self.new.main }
         ensures spare { self.new.spare ≡ self.old.spare }
     {
-        if self.main.can_reserve(n) {
+        if self.main.can_reserve(n) || self.make_room(false, n) || self.make_room(true, n) {
             return Ok(());
         }
-        self.collect(false);
-        if self.main.can_reserve(n) {
-            return Ok(());
-        }
-        self.collect(true);
-        if !self.main.can_reserve(n) {
-            return Err(Full { need: n });
-        }
-        Ok(())
+        Err(Full { need: n })
     }
 }

@@ -9,7 +9,7 @@ use Rattle.tagged_word.specs.Cells.{store_head, length_offset}
 use Rattle.tagged_word.specs.Headers.{header_bits}
 use Rattle.object_graph.proofs.Lists.{slice_get-set_same, slice_get-set_other}
 use Rattle.heap_model.specs.Slots.{hole_word}
-use Rattle.object_cells.proofs.PutRanges.{length-with_range, with_range_before, with_range_inside, with_range_behind}
+use Rattle.write_barrier.proofs.PutRanges.{length-with_range, with_range_before, with_range_inside, with_range_behind}
 use Rattle.weak_pairs.specs.Pairs.{HoldNothing}
 use Rattle.weak_pairs.specs.Tables.{key_offset, value_offset, pairs_of, made_pair}
 use Rattle.ephemeron_table.specs.Puttings.{begun_table, table_header}

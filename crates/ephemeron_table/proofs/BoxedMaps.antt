@@ -33,6 +33,7 @@ use Rattle.object_cells.proofs.OwnIntegers as integer
 use Rattle.object_cells.proofs.OwnIntegers.{PutsInteger}
 use Rattle.object_cells.proofs.OwnerWrites.{weak_owns}
 use Rattle.object_cells.proofs.SlotBoxes.{IsBoxOf}
+use Rattle.object_cells.proofs.TakenRuns.{takes_none}
 use Rattle.weak_pairs.specs.Pairs.{IsFilledAt}
 use Rattle.weak_pairs.specs.Tables.{pairs_of}
 use Rattle.weak_pairs.specs.declared.table.Table.{Table}
@@ -178,6 +179,8 @@ module _ {old new : Mutator} {graph : Graph} {map key : ℕ} {weak : WeakObject}
       paths = ap (λ (m : Mutator). m.paths) puts_it;
       pairs = refills;
     };
+    takes = takes_none (integer.rest_stays put_it) (room_for_none old (known has).tied (known has).whole)
+        (integer.same_young put_it);
     remembers = integer_remembers put_it;
     now = has.told.pair;
     before_is = refl;

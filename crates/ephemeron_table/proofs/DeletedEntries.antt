@@ -17,8 +17,8 @@ use Rattle.heap_model.specs.Kinds.{HasWord, Pair, count_offset}
 use Rattle.heap_model.specs.Needs.{capacity_at, count_at}
 use Rattle.write_barrier.specs.MutatorState.{Mutator, heap_of, MainShows}
 use Rattle.object_cells.specs.Capacities.{ChangesObject}
-use Rattle.object_cells.proofs.NothingUsed.{uses_none, nothing_changes}
-use Rattle.object_cells.proofs.RestOfWords.{keeps_regions}
+use Rattle.object_cells.proofs.NothingUsed.{room_for_none, uses_none, nothing_changes}
+use Rattle.object_cells.proofs.TakenRuns.{bumped_none, takes_none}
 use Rattle.ephemeron_table.proofs.KeptTables.{tables_stay}
 use Rattle.ephemeron_table.specs.EntryChanges.{DeletesEntry}
 use Rattle.ephemeron_table.specs.WeakObjects.{IsWeakAt}
@@ -164,6 +164,7 @@ module _ {old new : Mutator} {graph : Graph} {map key : ℕ} {weak : WeakObject}
             (slot_stays is_known (some its) removes one (entry_filled its)));
         shows = entries_show old new graph weak (shown its).cell _ [] number None its.shows its.is.object its.is.reached
             its.is_key.reached (shown its).carries (shown its).shows (λ what is. absurd (none-some what is))
-            (keeps_regions removes.rest removes.young) refills puts_one counted
+            (takes_none removes.rest (room_for_none old is_known.tied is_known.whole)
+            (removes.young ∙ sym (bumped_none old.young))) refills puts_one counted
             (removed_remembers is_known (some its) removes);
       }

@@ -1,7 +1,7 @@
 -- Where the pair of a key was put, the graph is shown in which the map has the entry.
-use Rattle.std.proofs.Common.{◌≡◌, ℕ, ◌+◌, List, length, Some, sym, ◌∙◌, ap, subst, arith}
+use Rattle.std.proofs.Common.{◌≡◌, ℕ, List, length, Some, sym, ◌∙◌, ap, subst, arith}
 use Rattle.std.proofs.lemmas.Option.{same_Some}
-use Rattle.nursery.specs.Young.{HasRoom}
+use Rattle.nursery.specs.Young.{HasRoom, bumped}
 use Rattle.object_graph.specs.Graphs.{Graph, WeakObject}
 use Rattle.object_graph.specs.Invariants.{IsValue}
 use Rattle.object_graph.specs.Objects.{entry_value, with_entry}
@@ -17,7 +17,6 @@ use Rattle.heap_model.proofs.CellsApart.{one_at}
 use Rattle.write_barrier.specs.MutatorState.{Mutator, heap_of}
 use Rattle.object_cells.specs.Capacities.{ChangesObject}
 use Rattle.object_cells.specs.Uses.{UsesMore}
-use Rattle.object_cells.proofs.RestOfWords.{keeps_regions}
 use Rattle.ephemeron_table.specs.EntryChanges.{map_room, HasPutEntry}
 use Rattle.ephemeron_table.specs.PairLaws.{WrittenEntriesShow, IsNewValue}
 use Rattle.weak_pairs.proofs.CountedPairs.{count_filled}
@@ -40,7 +39,7 @@ pub entry_put : {old new : Mutator} {graph : Graph} {map key : ℕ} {weak : Weak
     → IsValue (length graph.objects) what → need ≡ wput_need (map_room old map weak) weak what number
     → puts.capacity ≡ (room_put (map_room old map weak) (entry_value weak.entries number)).capacity
     → HasRoom old.young need → RestStays old.seat new.seat
-    → new.young ≡ record old.young { used = old.young.used + need }
+    → new.young ≡ bumped old.young need
     → HasPutEntry old new graph map key weak number what
 entry_put {old} {new} {graph} {map} {key} {weak} {number} {what = what} puts entries_show fits need_is capacity_is room
     beside young =
@@ -61,7 +60,7 @@ entry_put {old} {new} {graph} {map} {key} {weak} {number} {what = what} puts ent
           same shown.shows)
           (λ one is. subst (IsNewValue graph) (same_Some what one is)
           (record { is = fits; reached = puts.is_held.reached }))
-          (keeps_regions beside young) puts.refills puts.one
+          puts.takes puts.refills puts.one
           (subst (HasWord (words_of_cell (heap_of new) puts.cell) count_offset) (counts_entries what all puts.counted)
           puts.refills.pairs.counted)
           puts.remembers;

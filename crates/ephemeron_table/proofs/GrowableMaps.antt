@@ -1,5 +1,6 @@
 -- A table may be made in the place of a weak map's that would be too full.
-use Rattle.std.proofs.Common.{◌≡◌, ℕ, ◌+◌, ◌*◌, ◌≤◌, ◌<◌, inl, inr, List, subst, arith}
+use Rattle.std.proofs.Common.{◌≡◌, ◌≢◌, ℕ, ◌+◌, ◌*◌, ◌≤◌, ◌<◌, List, refl, subst, arith}
+use Rattle.tagged_word.specs.declared.layout.Kind.TheVariants as kind
 use Rattle.tagged_word.specs.Cells.{store_head}
 use Rattle.tagged_word.proofs.Readings.{reference_to}
 use Rattle.page_space.specs.Extents.{marks_start}
@@ -7,27 +8,33 @@ use Rattle.heap_model.specs.Types.{Cell}
 use Rattle.heap_table.specs.declared.phase.Phase.TheVariants.{Quiet}
 use Rattle.heap_model.specs.Heaps.{HasCell}
 use Rattle.heap_model.specs.Slots.{IsPlace}
+use Rattle.heap_model.proofs.CellOutcomes.{object_is_no_filler}
 use Rattle.heap_model.proofs.CellsApart.{IsOfCell, first_of_cell}
 use Rattle.write_barrier.specs.MutatorState.{Mutator, heap_of}
 use Rattle.object_cells.proofs.CellsRead.{place_before_marks}
-use Rattle.object_cells.proofs.UnusedWords.{cell_apart}
 use Rattle.object_cells.proofs.WordsTold.{cell_fits}
 use Rattle.ephemeron_table.specs.Rehashing.{CanGrow, IsUsed, KeysUsed}
 use Rattle.weak_pairs.specs.declared.table.Table.{Table}
-use Rattle.ephemeron_table.proofs.KnownTables.{KnownMap, each_found, found, other_has, other_long}
+use Rattle.ephemeron_table.proofs.KnownTables.{KnownMap, each_found, found, other_has, other_long, table_no_filler}
 use Rattle.ephemeron_table.proofs.TablesRead.{count_within}
 
 module _ {old : Mutator} {map : ℕ} {table : Table} (known : KnownMap old map table) where
-  -- a word of a cell that stands is used
-  word_used : {one : Cell} {words : List ℕ} (a : ℕ) → HasCell (heap_of old) one words → IsOfCell one a → IsUsed old a
-  word_used a has of_one = elim (cell_apart known.whole.rows has) [
-    | inl before ↦ inl (omega (arith, before, of_one.below))
-    | inr behind ↦ inr (omega (arith, behind, of_one.from))
-  ]
+  -- a word of a cell that is no filler is used
+  word_used : {one : Cell} {words : List ℕ} (a : ℕ) → HasCell (heap_of old) one words → one.layout.kind ≢ kind.Filler
+      → IsOfCell one a → IsUsed old a
+  word_used {one} {words} a has no_filler of_one = record {
+    from = one.at;
+    to = one.at + one.size;
+    used = record { cell = one; words = words; has = has; starts = refl; ends = refl; no_filler = no_filler };
+    begins = of_one.from;
+    ends = of_one.below;
+  }
 
   -- so the place of an object is
   pub place_used : {number at : ℕ} → IsPlace (heap_of old) number at → IsUsed old at
-  place_used place = subst (IsUsed old) place.stands (word_used place.cell.at place.has (first_of_cell place.has))
+  place_used place =
+      subst (IsUsed old) place.stands (word_used place.cell.at place.has
+      (object_is_no_filler place.cell.layout.kind place.object) (first_of_cell place.has))
 
   pub place_within : {number at : ℕ} → IsPlace (heap_of old) number at → at < marks_start old.seat.space
   place_within place = place_before_marks known.whole.sized place
@@ -37,7 +44,7 @@ module _ {old : Mutator} {map : ℕ} {table : Table} (known : KnownMap old map t
   pairs_used a from below =
       let some : 0 < table.capacity = omega (arith, from, below) in
       let one = found known some in
-      word_used a (other_has known some) (record {
+      word_used a (other_has known some) (table_no_filler known some) (record {
         from = omega (arith, from, one.stands);
         below = omega (arith, below, one.stands, one.size, other_long known some);
       })
@@ -56,6 +63,7 @@ module _ {old : Mutator} {map : ℕ} {table : Table} (known : KnownMap old map t
   can_grow key count key_place quiet few over = record {
     tied = known.tied;
     quiet = quiet;
+    whole = known.whole;
     within = known.is.within;
     few = few;
     over = over;

@@ -1,7 +1,8 @@
--- A table that is made in the place of a map's has the next words of eden, of which no other cell has one.
-use Rattle.std.proofs.Common.{◌≡◌, ℕ, ◌+◌, ◌*◌, ◌≤◌, ◌<◌, inl, inr, length, slice_get, sym, ◌∙◌, ap, subst, arith}
+-- A table that is made in the place of a map's has the words in which the next cell is made: no other cell but fillers
+-- has one of these.
+use Rattle.std.proofs.Common.{◌≡◌, ℕ, ◌+◌, ◌*◌, ◌≤◌, ◌<◌, length, slice_get, sym, ◌∙◌, ap, subst, arith}
 use Rattle.tagged_word.specs.Cells.{store_head}
-use Rattle.page_space.specs.Extents.{Space, segments_start, marks_start}
+use Rattle.page_space.specs.Extents.{Space, marks_start}
 use Rattle.nursery.specs.Young.{HasRoom}
 use Rattle.heap_table.specs.Seats.{heap_words}
 use Rattle.heap_model.specs.Needs.{grown_table}
@@ -13,16 +14,17 @@ use Rattle.object_cells.specs.Contents.{next_at}
 use Rattle.object_cells.specs.Made.{PutsWords, with_content}
 use Rattle.object_cells.proofs.FilledTouches.{reserved_touch}
 use Rattle.object_cells.proofs.MadeBoxes.{length-with_content, with_content_stays}
-use Rattle.object_cells.proofs.UnusedWords.{next_before_segments, next_before_marks}
-use Rattle.ephemeron_table.specs.Rehashing.{CanGrow, RehashesPairs, new_table}
+use Rattle.object_cells.proofs.UnusedWords.{next_before_marks}
+use Rattle.ephemeron_table.specs.Rehashing.{CanGrow, IsUsed, RehashesPairs, new_table}
 use Rattle.weak_pairs.specs.Pairs.{HoldNothing, IsFilledAt}
-use Rattle.weak_pairs.specs.Tables.{TablesDisjoint, KeysMovable, made_pair, pairs_of}
+use Rattle.weak_pairs.specs.Tables.{TablesDisjoint, KeysMovable, IsOutsidePairs, made_pair, pairs_of}
 use Rattle.weak_pairs.specs.Probes.{HasFree}
 use Rattle.ephemeron_table.specs.Puttings.{InsertsRehashed, begun_table, table_touch}
 use Rattle.weak_pairs.specs.declared.table.Table.{Table}
 use Rattle.ephemeron_table.proofs.BegunTables.{begun_beside, begun_long, begun_nothing}
+use Rattle.ephemeron_table.proofs.UsedWords.{used_not_next}
 use Rattle.weak_pairs.proofs.CountedPairs.{count_filled}
-use Rattle.weak_pairs.proofs.PairLists.{pairs_stay}
+use Rattle.weak_pairs.proofs.PairLists.{beside_run, pairs_stay}
 use Rattle.weak_pairs.proofs.PairsPut.{length-with_pair}
 use Rattle.weak_pairs.proofs.KeyedPairs.{HaveKeys}
 use Rattle.weak_pairs.proofs.InsertedPairs.{has_free}
@@ -39,17 +41,13 @@ module _ {old : Mutator} {map key count : ℕ} {table : Table} (can : CanGrow ol
   abbrev made : Table
   made = record { at = at; capacity = capacity }
 
-  -- which stands where the next words of eden are
+  -- which stands where the next cell is made
   made_is : made ≡ new_table old table
   made_is =
       ap (λ n. let one : Table = record { at = n; capacity = capacity } in one) at_is
       ∙ ap (λ n. let one : Table = record { at = next_at old; capacity = n } in one) capacity_is
 
-  -- it and the box behind it end before the segments, and before the marks
-  pub grown_before_segments : at + (store_head + 2 * capacity + box) ≤ segments_start old.seat.space
-  grown_before_segments =
-      omega (arith, at_is, next_before_segments old (store_head + 2 * capacity + box) can.tied room)
-
+  -- it and the box behind it end before the marks
   pub grown_before_marks : at + (store_head + 2 * capacity + box) ≤ marks_start old.seat.space
   grown_before_marks = omega (arith, at_is, next_before_marks old (store_head + 2 * capacity + box) can.tied room)
 
@@ -60,12 +58,19 @@ module _ {old : Mutator} {map key count : ℕ} {table : Table} (can : CanGrow ol
   pub grown_more : table.capacity < capacity
   grown_more = omega (arith, can.few, can.over, capacity_is)
 
-  -- the pairs of the map's table are beside it
+  -- no word that is used is one of it
+  used_apart : (a : ℕ) → IsUsed old a → at ≤ a → a < at + (store_head + 2 * capacity) → ⊥
+  used_apart a used from below =
+      used_not_next (store_head + 2 * capacity + box) can.tied can.whole room used (omega (arith, at_is, from))
+      (omega (arith, at_is, below))
+
+  -- so one is beside its pairs
+  used_beside : (a : ℕ) → IsUsed old a → IsOutsidePairs made a
+  used_beside a used = beside_run made a (used_apart a used)
+
+  -- and the pairs of the map's table are
   pub grown_apart : TablesDisjoint table made
-  grown_apart a from below = elim (can.pairs a from below) [
-    | inl used ↦ inl (omega (arith, used, at_is))
-    | inr behind ↦ inr (omega (arith, behind, grown_before_segments))
-  ]
+  grown_apart a from below = used_beside a (can.pairs a from below)
 
   module _ {between begun : Mutator} (is : between ≡ reserved old (store_head + 2 * capacity + box))
       (begins : PutsWords between begun (begun_table (heap_words between.seat) made)) where
@@ -99,10 +104,7 @@ module _ {old : Mutator} {map key count : ℕ} {table : Table} (can : CanGrow ol
         pairs_stay (heap_words old.seat) (heap_words begun.seat) table
         (omega (arith, can.within, counted)) begun_words_long
         (λ a from below. ap (λ all. slice_get all a) begun_words
-        ∙ begun_beside (heap_words old.seat) made grown_within a (λ low high. elim (can.pairs a from below) [
-          | inl used ↦ omega (arith, used, at_is, low)
-          | inr behind ↦ omega (arith, behind, high, grown_before_segments)
-        ]))
+        ∙ begun_beside (heap_words old.seat) made grown_within a (used_apart a (can.pairs a from below)))
 
     -- and their keys are beside the table that is made
     pub grown_keys : KeysMovable (heap_of begun) table made
@@ -112,10 +114,7 @@ module _ {old : Mutator} {map key count : ℕ} {table : Table} (can : CanGrow ol
           known.1,
           record {
             within = omega (arith, known.2, begun_marks);
-            beside = elim known.3 [
-              | inl used ↦ inl (omega (arith, used, at_is))
-              | inr behind ↦ inr (omega (arith, behind, grown_before_segments))
-            ];
+            beside = used_beside known.0 known.3;
           },
         )
 

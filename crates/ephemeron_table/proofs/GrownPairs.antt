@@ -24,7 +24,7 @@ use Rattle.weak_pairs.specs.Tables.{number_at, numbers, key_number, pairs_of}
 use Rattle.weak_pairs.specs.declared.table.Table.{Table}
 use Rattle.weak_pairs.proofs.CountedPairs.{count_filled, count_put}
 use Rattle.ephemeron_table.proofs.GrowingTables.{boxed_pairs, grown_pairs_stay}
-use Rattle.ephemeron_table.proofs.GrownWords.{GrowsTable, pair, made_table, need, run, keys_boxed, fits_boxed}
+use Rattle.ephemeron_table.proofs.GrownWords.{GrowsTable, pair, made_table, need, keys_boxed, fits_boxed}
 use Rattle.ephemeron_table.proofs.GrownWords.{begun_stays, boxed_stays, run_word, fits_new, inserted_as_long}
 use Rattle.ephemeron_table.proofs.KeysFound.{key_filled}
 use Rattle.ephemeron_table.proofs.KnownTables.{pairs_long}
@@ -32,6 +32,7 @@ use Rattle.weak_pairs.proofs.PairsPut.{at_place}
 use Rattle.weak_pairs.proofs.PairLists.{pairs_stay}
 use Rattle.weak_pairs.proofs.KeyedPairs.{free_or_filled}
 use Rattle.ephemeron_table.proofs.RehashedPairs.{rehashed_found, rehashed_pairs}
+use Rattle.ephemeron_table.proofs.UsedWords.{used_not_next}
 use Rattle.weak_pairs.proofs.InsertedPairs.{inserted_free}
 use Rattle.weak_pairs.proofs.FilledPairs.{filled_elsewhere, free_not_filled, still_filled}
 
@@ -188,10 +189,8 @@ module _ {old new : Mutator} {map key count earlier : ℕ} {table : Table} {valu
 
   -- what is used was not reserved
   used_not_new : (a : ℕ) → IsUsed old a → next_at old ≤ a → a < next_at old + need grows → ⊥
-  used_not_new a used from below = elim used [
-    | inl before_it ↦ omega (arith, before_it, from)
-    | inr behind ↦ omega (arith, behind, below, (run grows).ends)
-  ]
+  used_not_new a used from below =
+      used_not_next (need grows) grows.can.tied grows.can.whole grows.puts.room used from below
 
   -- the numbers of the keys are those in the heap before
   far_numbers : numbers (heap_of grows.puts.begun) far ≡ numbers (heap_of old) far

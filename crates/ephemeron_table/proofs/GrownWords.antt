@@ -1,4 +1,5 @@
--- The words where an entry came to a table that was made: those of the map's own cell, and newly used ones.
+-- The words where an entry came to a table that was made: those of the map's own cell, and those of the run in which
+-- the table was made.
 use Rattle.std.proofs.Common.{◌≡◌, ◌≢◌, ℕ, ◌+◌, ◌*◌, ◌≤◌, ◌<◌, inl, inr, List, length, Some, slice_get, refl, sym, ◌∙◌}
 use Rattle.std.proofs.Common.{ap}
 use Rattle.std.proofs.Common.{arith, length-set}
@@ -18,10 +19,11 @@ use Rattle.write_barrier.specs.MutatorState.{Mutator, heap_of}
 use Rattle.object_cells.specs.Contents.{next_at}
 use Rattle.object_cells.specs.FilledRuns.{FillsRun}
 use Rattle.object_cells.specs.Made.{store_content, content_need, content_word}
-use Rattle.object_cells.proofs.EdenCells.{bare_layout, size_is}
-use Rattle.object_cells.proofs.FilledRuns.{IsUnusedRun, next_run, run_beside, FillsOwn}
+use Rattle.object_cells.proofs.RunCells.{bare_layout, size_is}
+use Rattle.object_cells.proofs.FilledRuns.{FillsOwn}
 use Rattle.object_cells.proofs.MadeBoxes.{with_content_box, with_content_stays}
 use Rattle.object_cells.proofs.NewStores.{IsLongCell}
+use Rattle.object_cells.proofs.UnusedWords.{IsUnusedRun, next_run, run_beside}
 use Rattle.ephemeron_table.specs.Rehashing.{CanGrow, PutsInNewTable, new_table, new_table_need, box_behind}
 use Rattle.ephemeron_table.specs.Puttings.{begun_table, table_header}
 use Rattle.weak_pairs.specs.Tables.{IsOutsidePairs, made_pair, pairs_of}
@@ -29,7 +31,7 @@ use Rattle.weak_pairs.specs.declared.table.Table.{Table}
 use Rattle.ephemeron_table.proofs.BegunTables.{begun_beside, begun_capacity, begun_header}
 use Rattle.ephemeron_table.proofs.GrowingTables as growing
 use Rattle.ephemeron_table.proofs.GrowingTables.{begun_words, begun_words_long, boxed_keys, boxed_within}
-use Rattle.ephemeron_table.proofs.KnownTables.{KnownMap, cell, cell_has, of_map}
+use Rattle.ephemeron_table.proofs.KnownTables.{KnownMap, cell, cell_has, map_no_filler, of_map}
 use Rattle.weak_pairs.proofs.PairsPut.{beside_put}
 use Rattle.weak_pairs.proofs.PairLists.{beside_run as pairs_beside_run}
 use Rattle.weak_pairs.proofs.KeyedPairs.{HaveKeys}
@@ -85,17 +87,17 @@ module _ {old new : Mutator} {map key count earlier : ℕ} {table : Table} {valu
   abbrev pub pair : Pair
   pair = made_pair (reference_word key) (content_word (store_content value) box)
 
-  -- what was reserved is a run of eden, before the marks
+  -- what was reserved is a run that no cell has but fillers, before the marks
   pub run : IsUnusedRun (heap_of old) (next_at old) need
-  run = next_run old need grows.known.tied grows.puts.room
+  run = next_run old need grows.known.tied grows.known.whole.rows grows.puts.room
 
   counted : length (heap_words old.seat) ≡ marks_start old.seat.space
   counted = grows.known.whole.sized.words
 
   -- no word of the map's cell was reserved
-  not_new : (k b : ℕ) → k < 3 → next_at old ≤ b → b < next_at old + need → b ≢ map + k
+  pub not_new : (k b : ℕ) → k < 3 → next_at old ≤ b → b < next_at old + need → b ≢ map + k
   not_new k b few from below same =
-      run_beside (map + k) run grows.known.whole.rows (cell_has grows.known) (of_map grows.known k few)
+      run_beside (map + k) run (map_no_filler grows.known) (cell_has grows.known) (of_map grows.known k few)
       (omega (arith, from, same)) (omega (arith, below, same))
 
   -- the table's words with its box
@@ -262,6 +264,7 @@ module _ {old new : Mutator} {map key count earlier : ℕ} {table : Table} {valu
         whole = grows.known.whole;
         has = cell_has grows.known;
         of_kind = grows.known.there.of_kind;
+        of_object = refl;
         stands = grows.known.there.stands;
         room = puts.room;
         at = refl;

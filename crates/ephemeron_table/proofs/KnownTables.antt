@@ -19,8 +19,9 @@ use Rattle.heap_model.specs.Heaps.{HasCell, words_of_cell}
 use Rattle.heap_model.specs.Slots.{is_object_kind, RefersToPlace}
 use Rattle.heap_model.specs.Kinds.{HasWord, Pair, free_pair, HasTable, IsWeakCell, IsFoundPair, IsProbed, HasNoNumber}
 use Rattle.heap_model.specs.Kinds.{IsSoundOf, count_offset}
-use Rattle.heap_model.specs.Wholeness.{Whole}
+use Rattle.heap_model.specs.Wholeness.{Whole, IsOwnedKind}
 use Rattle.heap_model.specs.Needs.{count_at}
+use Rattle.heap_model.proofs.CellOutcomes.{object_is_no_filler, owned_is_no_filler}
 use Rattle.heap_model.proofs.CellsApart.{IsOfCell, first_of_cell, cells_apart}
 use Rattle.heap_model.proofs.CellWords.{words_by_kind, words_are_size}
 use Rattle.heap_model.proofs.WordClasses.{same_reference}
@@ -81,6 +82,10 @@ module _ {old : Mutator} {map : ℕ} {table : Table} (known : KnownMap old map t
 
   pub cell_has : HasCell (heap_of old) cell (words_of_cell (heap_of old) cell)
   cell_has = has_own_words known.there.has
+
+  -- which is no filler
+  pub map_no_filler : cell.layout.kind ≢ kind.Filler
+  map_no_filler = object_is_no_filler cell.layout.kind (ap is_object_kind known.there.of_kind)
 
   abbrev pub sound : IsWeakCell (heap_of old) known.there.words
   sound = weak_sound known.whole known.there
@@ -195,6 +200,10 @@ module _ {old : Mutator} {map : ℕ} {table : Table} (known : KnownMap old map t
 
     pub other_has : HasCell (heap_of old) other (words_of_cell (heap_of old) other)
     other_has = has_own_words found.refers.has
+
+    -- it is no filler
+    pub table_no_filler : other.layout.kind ≢ kind.Filler
+    table_no_filler = owned_is_no_filler other.layout.kind (subst IsOwnedKind (sym found.of_kind) tt)
 
     pub other_long : other.length ≡ table.capacity
     other_long =

@@ -19,6 +19,7 @@ pub mod RehashedPairs
 pub mod RehashedTables
 pub mod TableBounds
 pub mod BegunTables
+pub mod UsedWords
 pub mod GrowingTables
 pub mod PutPairs
 pub mod PairComes

@@ -1,5 +1,5 @@
 -- A pair that was removed from a weak map's table refills the map.
-use Rattle.std.proofs.Common.{◌≡◌, ℕ, ◌+◌, ◌-◌, ◌<◌, inl, List, [], ◌∷◌, Some, slice_get, refl, ◌∙◌, ap, arith}
+use Rattle.std.proofs.Common.{◌≡◌, ℕ, ◌+◌, ◌-◌, ◌<◌, inl, List, [], ◌∷◌, Some, slice_get, refl, sym, ◌∙◌, ap, arith}
 use Rattle.std.proofs.Common.{Contains}
 use Rattle.tagged_word.specs.declared.layout.Kind.TheVariants as kind
 use Rattle.tagged_word.specs.Cells.{store_slot}
@@ -15,7 +15,8 @@ use Rattle.write_barrier.specs.MutatorState.{Mutator, heap_of}
 use Rattle.object_cells.specs.OwnSlots.{ComesFrom}
 use Rattle.object_cells.specs.declared.content.SlotContent.TheVariants as content
 use Rattle.object_cells.proofs.SlotsNow.{word_at_offset}
-use Rattle.object_cells.proofs.NothingUsed.{room_for_none, used_and_none}
+use Rattle.object_cells.proofs.NothingUsed.{room_for_none}
+use Rattle.object_cells.proofs.TakenRuns.{bumped_none}
 use Rattle.object_cells.proofs.TakenValues.{IsItsStore, only_store}
 use Rattle.object_cells.proofs.OwnContents as own
 use Rattle.object_cells.proofs.OwnContents.{PutsBeside}
@@ -57,7 +58,7 @@ module _ {old new : Mutator} {map place : ℕ} {table : Table} (known : KnownMap
       (record {
         beside = removes.rest;
         paths = removes.paths;
-        young = removes.young ∙ used_and_none old.young;
+        young = removes.young ∙ sym (bumped_none old.young);
         heap = refl;
       })
       removes.long removes.beside

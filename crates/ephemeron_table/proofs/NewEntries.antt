@@ -43,7 +43,7 @@ use Rattle.ephemeron_table.proofs.MapTouches.{put_remembers}
 use Rattle.ephemeron_table.proofs.NewKeys.{LacksKey, shown, known, no_pair_refers, entries_counted}
 use Rattle.ephemeron_table.proofs.NewKeys.{not_full_for, is_full_for, lacks_where_free}
 use Rattle.ephemeron_table.proofs.PairsByKey.{lacks_pair, pairs_shown}
-use Rattle.ephemeron_table.proofs.PutMaps.{ComesToPlace, puts_one, refills_weak, slot_stays}
+use Rattle.ephemeron_table.proofs.PutMaps.{ComesToPlace, makes_box, puts_one, refills_weak, slot_stays, takes_run}
 use Rattle.ephemeron_table.proofs.PutPairs.{put_words, pair, pairs_are_now, some}
 use Rattle.ephemeron_table.proofs.PutPlaces.{puts_to_table}
 use Rattle.ephemeron_table.proofs.PutShown.{CountsPut, PutsShown}
@@ -212,7 +212,9 @@ module _ {old : Mutator} {graph : Graph} {map key : ℕ} {weak : WeakObject} {nu
       made = _;
       stands = (shown ends.lacks).stands;
       refills = refills_weak comes_there;
-      remembers = put_remembers map_known (some map_known (below ends) (put_words puts)) (below ends) puts;
+      takes = takes_run comes_there;
+      remembers = put_remembers map_known (some map_known (below ends) (put_words puts)) (below ends) puts
+          (makes_box comes_there);
       one = one;
       capacity = _;
       changes = changes;

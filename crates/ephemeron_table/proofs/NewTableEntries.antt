@@ -16,7 +16,8 @@ use Rattle.object_cells.specs.HeldValues.{IsValueHeld}
 use Rattle.object_cells.specs.Capacities.{ChangesObject}
 use Rattle.object_cells.specs.Made.{RefusesRoom}
 use Rattle.object_cells.proofs.HeldNeeds.{held_is_value, new_value_held}
-use Rattle.object_cells.proofs.FilledRuns.{filled_named}
+use Rattle.object_cells.proofs.FilledRuns.{filled_named, own_row}
+use Rattle.object_cells.proofs.TakenRuns.{takes_run}
 use Rattle.object_cells.proofs.UnusedWords.{marks_fit}
 use Rattle.page_space.proofs.Starts.{marks_start_is}
 use Rattle.ephemeron_table.proofs.KeptTables.{tables_grow}
@@ -29,7 +30,7 @@ use Rattle.ephemeron_table.proofs.EntriesPut.{entry_put}
 use Rattle.ephemeron_table.proofs.GrownMaps.{GrowsEntry, puts_one, all_made, boxes_made, refills_weak, table_made}
 use Rattle.ephemeron_table.proofs.GrownPairs.{one_more}
 use Rattle.ephemeron_table.proofs.GrownTouches.{grown_remembers}
-use Rattle.ephemeron_table.proofs.GrownWords.{GrowsTable, filled, run}
+use Rattle.ephemeron_table.proofs.GrownWords.{GrowsTable, filled, need, run}
 use Rattle.ephemeron_table.proofs.KnownTables.{cell, count_is}
 use Rattle.ephemeron_table.proofs.PutPlaces.{puts_to_new_table}
 use Rattle.ephemeron_table.proofs.PutShown.{CountsPut, PutsShown}
@@ -157,6 +158,7 @@ module _ {old : Mutator} {graph : Graph} {map key : ℕ} {weak : WeakObject} {nu
       made = all_made entry;
       stands = (known growing.lacks).there.stands;
       refills = refills_weak entry;
+      takes = takes_run (need grows) (filled grows).beside puts.room (filled grows).young (own_row (filled grows)).row;
       remembers = grown_remembers grows;
       one = puts_one entry (no_pair_refers growing.lacks);
       capacity = grown_table table.capacity;

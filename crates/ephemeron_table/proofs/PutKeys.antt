@@ -11,14 +11,14 @@ use Rattle.heap_model.specs.Needs.{word_at}
 use Rattle.heap_model.specs.Rooms.{room_put, wput_need}
 use Rattle.write_barrier.specs.MutatorState.{Mutator, heap_of}
 use Rattle.write_barrier.specs.declared.room.NoRoom.{NoRoom}
-use Rattle.write_barrier.specs.Recording.{Touches}
+use Rattle.write_barrier.specs.Recording.{Touches, touched_one, touched_then}
 use Rattle.object_cells.specs.Contents.{next_at, box_in, filling_at, filling_of, filling_need, HoldsSlotWord}
-use Rattle.object_cells.specs.Contents.{LacksRoom, FillsSlot, filled_touch}
+use Rattle.object_cells.specs.Contents.{LacksRoom, FillsSlot}
 use Rattle.object_cells.specs.HeldValues.{IsValueHeld}
-use Rattle.object_cells.specs.Made.{store_content}
+use Rattle.object_cells.specs.Made.{content_need, content_touch, slot_touch, store_content}
 use Rattle.object_cells.proofs.NothingUsed.{room_for_none}
 use Rattle.object_cells.proofs.FilledSlots.{FilledBy, slot_filled, held_before, no_raw}
-use Rattle.object_cells.proofs.FilledTouches.{fills_touch}
+use Rattle.object_cells.proofs.FilledTouches.{fills_slot_touch}
 use Rattle.object_cells.proofs.HeldNeeds.{held_is_value, new_value_held}
 use Rattle.object_cells.proofs.SlotBoxes.{box_of_word, lacks_need}
 use Rattle.ephemeron_table.specs.EntryChanges.{map_room, HasPutEntry, IsMapFull, PutsEntry}
@@ -62,14 +62,16 @@ replaces_by : {old new : Mutator} {graph : Graph} {map key : ℕ} {weak : WeakOb
     → IsValue (length graph.objects) what → IsValueHeld old graph value what
     → FilledBy old new (table.at + value_offset place) (word_at (heap_of old) (table.at + value_offset place))
     (store_content value)
-    → Touches old new (filled_touch (filling_at old (table.at + value_offset place) (store_content value))
-    (table.at + value_offset place))
+    → (filling_need (filling_at old (table.at + value_offset place) (store_content value))
+    ≡ content_need (store_content value)
+    → Touches old new (touched_then (content_touch (store_content value) (next_at old))
+    (touched_one (slot_touch (store_content value)) (table.at + value_offset place))))
     → (need : ℕ) × ReplacesValue old new (known has) place key what need
     × (need ≡ wput_need (map_room old map weak) weak what number)
 replaces_by value what has is_value held (FilledBy.slot room words needs) touches =
     let holds = new_value_held false value what held.shows in (
       _,
-      slot_replaces value has holds is_value room words needs touches,
+      slot_replaces value has holds is_value room words (touches needs),
       sym needs
           ∙ entry_need has value what held.shows,
     )
@@ -98,7 +100,7 @@ replaces_value {old} {new} {place = place} {table} value what has is_value held 
     omega (arith, has.is_table.within, has.below) in
     replaces_by value what has is_value held
     (slot_filled fills has.shows.tied below room (λ w. no_raw w (new_value_held false value what held.shows)))
-    (fills_touch fills has.shows.tied has.shows.shows.whole below (value_before has value))
+    (fills_slot_touch fills has.shows.tied has.shows.shows.whole below (value_before has value))
 
 -- and so its pair was put
 pub puts_value_pair : {old new : Mutator} {graph : Graph} {map key : ℕ} {weak : WeakObject} {number place : ℕ}
@@ -125,6 +127,7 @@ puts_value_pair {old} {new} {table = table} value what has fits held fills =
       made = replaces.made;
       stands = (known has).there.stands;
       refills = replaces.refills;
+      takes = replaces.takes;
       remembers = replaces.remembers;
       one = puts_one has replaces;
       capacity = _;

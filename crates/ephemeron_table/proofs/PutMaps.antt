@@ -13,6 +13,7 @@ use Rattle.object_graph.specs.declared.value.Rep.TheVariants as rep
 use Rattle.object_graph.specs.Values.{rep_of}
 use Rattle.object_graph.specs.Invariants.{IsValue}
 use Rattle.object_graph.proofs.Lists.{slice_get-set_same}
+use Rattle.cell_layout.specs.Cells.{IsRow}
 use Rattle.heap_table.specs.Seats.{heap_words}
 use Rattle.heap_model.specs.Types.{Value, Cell, Held}
 use Rattle.heap_model.specs.Heaps.{words_of_cell}
@@ -23,8 +24,12 @@ use Rattle.write_barrier.specs.MutatorState.{Mutator, heap_of}
 use Rattle.object_cells.specs.Contents.{next_at}
 use Rattle.object_cells.specs.Made.{store_content, with_content, content_word}
 use Rattle.object_cells.specs.OwnSlots.{ComesFrom}
+use Rattle.object_cells.specs.Uses.{TakesRun}
 use Rattle.object_cells.proofs.HeldContents.{HoldsValue}
-use Rattle.object_cells.proofs.MadeBoxes.{made_boxes, length-with_content}
+use Rattle.object_cells.proofs.MadeBoxes.{made_boxes, made_row, length-with_content}
+use Rattle.object_cells.proofs.OwnerWrites.{weak_owns, written_own_keeps_cells}
+use Rattle.object_cells.proofs.TakenRuns as taken_runs
+use Rattle.object_cells.proofs.TakenRuns.{taken_run}
 use Rattle.object_cells.proofs.TakenValues as taken
 use Rattle.object_cells.proofs.TakenValues.{TakesValue}
 use Rattle.object_cells.proofs.OwnCells.{cell_below_layouts}
@@ -39,10 +44,11 @@ use Rattle.weak_pairs.proofs.PairsPut.{at_place, length-with_pair}
 use Rattle.weak_pairs.proofs.FilledPairs.{filled_elsewhere, still_filled}
 use Rattle.ephemeron_table.specs.PairWrites.{RefillsPairs, HasValue}
 use Rattle.ephemeron_table.specs.PairLaws.{RefillsWeak, PutsOne}
+use Rattle.ephemeron_table.proofs.MapTouches.{MakesBox}
 use Rattle.ephemeron_table.proofs.PairComes.{PairComes, value_comes, pair_shows}
 use Rattle.ephemeron_table.proofs.KnownTables.{table_is_no_box, are_before, KnownMap, cell, cell_has, sound, slot_there}
 use Rattle.ephemeron_table.proofs.KnownTables.{of_map, other, pairs_long}
-use Rattle.ephemeron_table.proofs.PutPairs.{PutsPairWords, pair, pairs_are_now, some, putting}
+use Rattle.ephemeron_table.proofs.PutPairs.{PutsPairWords, need, pair, pairs_are_now, some, putting}
 use Rattle.ephemeron_table.proofs.StayingTables as staying
 use Rattle.ephemeron_table.proofs.StayingTables.{WritesMap, StaysTable}
 use Rattle.ephemeron_table.proofs.KeysFound.{key_filled}
@@ -100,6 +106,24 @@ module _ {old new : Mutator} {map place key count number : ℕ} {table : Table} 
   pub takes : TakesValue kind.Weak kind.Table (heap_of old) (heap_of new) map_cell map_cell (table_cell ∷ []) []
       (store_content value) (next_at old) what (sound known).store
   takes = own.takes (putting known below puts) comes.objects comes.fits comes.holds
+
+  -- the box that is made stands where the next cell is made
+  pub boxes_row : IsRow new.seat.space (heap_words new.seat) (next_at old) (next_at old + need known below puts)
+      boxes_made
+  boxes_row = made_row (heap_of new) (store_content value) (next_at old) takes.writes.sized takes.stands
+
+  -- so words were taken for it
+  pub takes_run : TakesRun old new boxes_made
+  takes_run = taken_runs.takes_run (need known below puts) puts.words.beside puts.room puts.words.young boxes_row
+
+  abbrev pub makes_box : MakesBox old new (store_content value)
+  makes_box = record {
+    room = puts.room;
+    run = taken_run new (need known below puts) known.tied puts.room puts.words.young puts.words.beside.space;
+    rows = (written_own_keeps_cells weak_owns known.whole takes.writes).0;
+    row = boxes_row;
+    stand = taken.made_has takes;
+  }
 
   -- and the table stays where it is
   abbrev stays : StaysTable old new map table known (some known below puts) (table_cell ∷ []) boxes_made

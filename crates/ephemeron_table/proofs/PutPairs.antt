@@ -20,7 +20,7 @@ use Rattle.weak_pairs.proofs.PairsPut.{pairs_now, pairs_beside, beside_put, leng
 use Rattle.weak_pairs.proofs.PairLists.{pairs_stay}
 use Rattle.ephemeron_table.specs.Puttings.{PutsInTable}
 use Rattle.ephemeron_table.proofs.KnownTables.{KnownMap, cell, within_words, found, other, sound, puts_beside}
-use Rattle.ephemeron_table.proofs.KnownTables.{other_has, other_long, map_beside}
+use Rattle.ephemeron_table.proofs.KnownTables.{other_has, other_long, map_beside, table_no_filler}
 
 -- The words with a pair that comes to a place of the map's table, and with a count and a box that the value needs.
 pub record PutsPairWords (old new : Mutator) (map : ℕ) (table : Table) (place key count : ℕ) (value : Held)
@@ -86,7 +86,7 @@ module _ {old new : Mutator} {map place key count : ℕ} {table : Table} {value 
       ∙ ap (λ pairs. slice_set pairs place pair) (pairs_stay (heap_words old.seat) boxed table within
       (length-with_content (heap_words old.seat) (store_content value) (next_at old)) (λ a from less.
       with_content_stays (heap_words old.seat) (store_content value) (next_at old) a
-      (not_made putting a (other_has known some) (record {
+      (not_made putting a (table_no_filler known some) (other_has known some) (record {
         from = omega (arith, from, one.stands);
         below = omega (arith, less, one.stands, one.size, other_long known some);
       }))))

@@ -19,6 +19,7 @@ use Rattle.write_barrier.specs.Values.{held_of_class}
 use Rattle.write_barrier.specs.ValueLaws.{ShownValuesAreHeld}
 use Rattle.object_cells.specs.Capacities.{ChangesObject}
 use Rattle.object_cells.specs.HeldValues.{IsReachedValue, IsValueHeld}
+use Rattle.object_cells.specs.Uses.{TakesRun}
 use Rattle.object_cells.proofs.CellsRead.{word_stands}
 use Rattle.object_cells.proofs.OwnerWrites.{weak_owns, written_own_keeps_cells}
 use Rattle.ephemeron_table.specs.WeakObjects.{IsKeyAt, IsWeakAt}
@@ -66,7 +67,7 @@ pub data CountsPut (heap : Heap) (map : ℕ) (entries : List Entry) (number : �
       → CountsPut heap map entries number after
 
 -- The entry of a key was put: the pairs of all other keys are kept, only words of the map changed, and what was
--- recorded follows.
+-- recorded follows. What was made stands where the next cell is made.
 pub record PutsShown (old new : Mutator) (graph : Graph) (map key : ℕ) (weak : WeakObject) (number : ℕ) (value : Held)
     (what : Value) : Type 0 where
   pub shows : MainShows old graph
@@ -83,7 +84,8 @@ pub record PutsShown (old new : Mutator) (graph : Graph) (map key : ℕ) (weak :
   pub made : List Cell
   pub stands : cell.at ≡ map
   pub refills : RefillsWeak (heap_of old) (heap_of new) cell others made
-  pub remembers : Remembers old new (cell ∷ others) (cell ∷ others)
+  pub takes : TakesRun old new made
+  pub remembers : Remembers old new (cell ∷ others) (cell ∷ others) made
   pub one : PutsOne (heap_of old) (heap_of new) refills.pairs number (Some what)
   pub capacity : ℕ
   pub changes : ChangesObject (heap_of old) (heap_of new) map capacity

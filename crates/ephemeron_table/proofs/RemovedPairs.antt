@@ -4,9 +4,13 @@ use Rattle.std.proofs.Common.{arith}
 use Rattle.heap_model.specs.Slots.{reference_word}
 use Rattle.std.proofs.lemmas.Option.{slice_get_within}
 use Rattle.page_space.specs.Sizes.{AreWithin}
+use Rattle.nursery.specs.Young.{Young}
 use Rattle.heap_table.specs.Seats.{heap_words}
 use Rattle.heap_table.specs.declared.phase.Phase.TheVariants.{Quiet}
+use Rattle.heap_model.specs.Types.{Cell}
 use Rattle.heap_model.specs.Heaps.{Heap, words_of_cell}
+use Rattle.heap_model.specs.Changes.{CellsChange, IsOwnChange}
+use Rattle.heap_model.specs.Wholeness.{Whole}
 use Rattle.heap_model.specs.Kinds.{Pair}
 use Rattle.tagged_word.specs.Cells.{store_head, store_slot}
 use Rattle.heap_model.specs.Needs.{capacity_at, count_at, word_at}
@@ -14,7 +18,10 @@ use Rattle.write_barrier.specs.MutatorState.{Mutator, heap_of, IsTied}
 use Rattle.write_barrier.proofs.Recording.{remembers_heap}
 use Rattle.object_cells.specs.CellsAt.{IsQuietWhole}
 use Rattle.object_cells.specs.Capacities.{ChangesObject}
-use Rattle.object_cells.proofs.NothingUsed.{uses_none}
+use Rattle.object_cells.specs.Uses.{TakesRun}
+use Rattle.object_cells.proofs.GrantedRests.{left_are_granted}
+use Rattle.object_cells.proofs.NothingUsed.{room_for_none, uses_none}
+use Rattle.object_cells.proofs.TakenRuns.{bumped_none, takes_none}
 use Rattle.object_cells.proofs.CellsRead.{word_stands}
 use Rattle.weak_pairs.specs.Pairs.{HasPairsAt, IsFilledAt, AreWithout}
 use Rattle.ephemeron_table.proofs.KeptTables.{tables_stay}
@@ -93,6 +100,15 @@ beside_pairs : {old : Mutator} {map : ℕ} {table : Table} {pairs : List Pair} �
 beside_pairs {table = table} known has some word (inl before) = inl before
 beside_pairs {table = table} known has some word (inr behind) = inr (omega (arith, behind, known.is.capacity))
 
+-- Where no cell was made, what was granted stays so.
+still_tied : {old new : Mutator} {gone came : List Cell} → IsTied old → Whole (heap_of old) → TakesRun old new []
+    → CellsChange (heap_of old) (heap_of new) gone came [] → IsOwnChange (heap_of old) (heap_of new) gone came []
+    → IsTied new
+still_tied tied whole takes change own = record {
+  space = ap (λ (y : Young). y.space) takes.young ∙ tied.space ∙ sym takes.space;
+  granted = left_are_granted takes whole change own tied;
+}
+
 -- so a pair is removed
 pub removes_pair : {old new : Mutator} {map place : ℕ} {table : Table} {pairs : List Pair} {pair : Pair}
     → (known : KnownMap old map table) → (before : List Pair) → HasPairsAt (heap_of old) map before
@@ -109,6 +125,8 @@ removes_pair {old} {new} {map} {place} {table} {pairs} {pair} known before has t
     let remembers = removed_remembers known some removes in
     record {
       whole = record { quiet = removes.rest.phase ∙ quiet; whole = law.3 };
+      tied = still_tied known.tied known.whole (takes_none removes.rest (room_for_none old known.tied known.whole)
+          (removes.young ∙ sym (bumped_none old.young))) law.1 law.2;
       uses = uses_none removes.rest removes.young removes.touches.free;
       paths = removes.paths;
       changes = subst (λ a. ChangesObject (heap_of old) (heap_of new) a (capacity_at (heap_of old) a)) stands
@@ -116,7 +134,7 @@ removes_pair {old} {new} {map} {place} {table} {pairs} {pair} known before has t
       stay = λ word not_count no_pair. removes.beside word
           (beside_pairs known has some word (no_pair table.at (refers_there known has some))) not_count;
       bound = removes.touches.bound;
-      remembered = λ bounded were. remembers_heap old new _ _ [] remembers bounded known.whole law.1 were;
+      remembered = λ bounded were. remembers_heap old new _ _ [] remembers bounded known.whole law.0 law.1 were;
       after = pairs_of (heap_words new.seat) table;
       are = record {
         cell = cell known;

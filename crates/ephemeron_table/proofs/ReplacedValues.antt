@@ -5,7 +5,7 @@ use Rattle.std.specs.Prelude.{slice_set}
 use Rattle.std.proofs.lemmas.Bool.{cases_eq}
 use Rattle.std.proofs.lemmas.Option.{none-some, same_Some, slice_get_within}
 use Rattle.tagged_word.specs.Cells.{store_slot}
-use Rattle.nursery.specs.Young.{HasRoom}
+use Rattle.nursery.specs.Young.{HasRoom, bumped}
 use Rattle.heap_model.specs.Types.{Value, Cell}
 use Rattle.object_graph.specs.Graphs.{Graph, WeakObject}
 use Rattle.object_graph.proofs.Lists.{slice_get-set_same}
@@ -18,6 +18,7 @@ use Rattle.heap_model.proofs.WordsStay.{PlacesStay}
 use Rattle.write_barrier.specs.MutatorState.{Mutator, heap_of}
 use Rattle.write_barrier.specs.Recording.{Remembers}
 use Rattle.object_cells.specs.Capacities.{ChangesObject}
+use Rattle.object_cells.specs.Uses.{TakesRun}
 use Rattle.ephemeron_table.proofs.KeptTables.{tables_stay}
 use Rattle.weak_pairs.specs.Pairs.{IsFilledAt}
 use Rattle.ephemeron_table.specs.PairLaws.{RefillsWeak, PutsOne}
@@ -36,7 +37,8 @@ pub record ReplacesValue (old new : Mutator) {map : ℕ} {table : Table} (known 
   pub others : List Cell
   pub made : List Cell
   pub refills : RefillsWeak (heap_of old) (heap_of new) (cell known) others made
-  pub remembers : Remembers old new (cell known ∷ others) (cell known ∷ others)
+  pub takes : TakesRun old new made
+  pub remembers : Remembers old new (cell known ∷ others) (cell known ∷ others) made
   pub now : Pair
   pub before_is : refills.pairs.before ≡ pairs_of (heap_words old.seat) table
   pub now_is : refills.pairs.now ≡ slice_set (pairs_of (heap_words old.seat) table) place now
@@ -50,7 +52,7 @@ pub record ReplacesValue (old new : Mutator) {map : ℕ} {table : Table} (known 
       ≡ slice_get (heap_words old.seat) ((cell known).at + store_slot)
   pub room : HasRoom old.young need
   pub beside : RestStays old.seat new.seat
-  pub young : new.young ≡ record old.young { used = old.young.used + need }
+  pub young : new.young ≡ bumped old.young need
 
 module _ {old new : Mutator} {graph : Graph} {map key : ℕ} {weak : WeakObject} {number place : ℕ} {table : Table}
     {what : Value} {need : ℕ} (has : HasEntryPair old graph map key weak number place table)

@@ -1,9 +1,10 @@
 -- The word of an entry's value becomes another: so the entry has the value.
-use Rattle.std.proofs.Common.{◌≡◌, ℕ, ◌+◌, inl, inr, List, Some, false, slice_get, length, refl, sym, ◌∙◌, ap, subst}
-use Rattle.std.proofs.Common.{arith}
+use Rattle.std.proofs.Common.{◌≡◌, ◌≢◌, ℕ, ◌+◌, inl, inr, List, Some, false, slice_get, length, refl, sym, ◌∙◌, ap}
+use Rattle.std.proofs.Common.{subst, arith}
 use Rattle.std.specs.Prelude.{slice_set, option_map}
 use Rattle.std.proofs.lemmas.List.{map-set}
 use Rattle.std.proofs.lemmas.Option.{slice_get-map}
+use Rattle.tagged_word.specs.declared.layout.Kind.TheVariants as kind
 use Rattle.tagged_word.specs.Readings.{reference_in}
 use Rattle.heap_model.specs.Types.{Value, Cell, Held}
 use Rattle.object_graph.specs.declared.value.Rep.TheVariants as rep
@@ -19,23 +20,25 @@ use Rattle.heap_model.specs.Slots.{reference_word}
 use Rattle.heap_model.specs.Kinds.{Pair, count_offset}
 use Rattle.heap_model.proofs.CellsApart.{IsOfCell}
 use Rattle.write_barrier.specs.MutatorState.{Mutator, heap_of, reserved}
-use Rattle.write_barrier.specs.Recording.{Touches}
-use Rattle.object_cells.specs.Contents.{next_at, filling_at, filling_need, filled_touch}
-use Rattle.object_cells.specs.Made.{PutsWords, with_content, content_need, content_word, store_content}
+use Rattle.write_barrier.specs.Recording.{Touches, touched_one, touched_then}
+use Rattle.object_cells.specs.Contents.{next_at}
+use Rattle.object_cells.specs.Made.{PutsWords, with_content, content_need, content_touch, content_word, slot_touch}
+use Rattle.object_cells.specs.Made.{store_content}
 use Rattle.object_cells.proofs.CellsRead.{word_stands}
 use Rattle.object_cells.proofs.FilledSlots.{set_there, no_raw}
 use Rattle.object_cells.proofs.HeldContents.{HoldsValue}
 use Rattle.object_cells.proofs.MadeBoxes.{with_content_stays}
-use Rattle.object_cells.proofs.UnusedWords.{cell_is_used, next_before_segments}
+use Rattle.object_cells.proofs.UnusedWords.{next_apart}
 use Rattle.weak_pairs.specs.Tables.{number_at, key_offset, value_offset, numbers, key_number, pairs_of}
 use Rattle.weak_pairs.specs.declared.table.Table.{Table}
 use Rattle.weak_pairs.proofs.CountedPairs.{count_filled, count_kept}
 use Rattle.ephemeron_table.proofs.EntryPairs.{HasEntryPair, known, some, entry_filled, key_stands}
 use Rattle.ephemeron_table.proofs.KeysFound.{key_filled}
 use Rattle.ephemeron_table.proofs.KnownTables.{cell_has, sound, pairs_same, of_map, finds_all, found, other_has}
-use Rattle.ephemeron_table.proofs.KnownTables.{other_long, map_beside}
+use Rattle.ephemeron_table.proofs.KnownTables.{other_long, map_beside, map_no_filler, table_no_filler}
 use Rattle.ephemeron_table.proofs.MapTouches.{value_remembers}
 use Rattle.ephemeron_table.proofs.PutMaps.{ComesToPlace, boxes_made, refills_weak, refers_back, slot_stays, takes}
+use Rattle.ephemeron_table.proofs.PutMaps.{makes_box, takes_run}
 use Rattle.object_cells.proofs.TakenValues as taken
 use Rattle.ephemeron_table.proofs.PutPairs.{PutsPairWords, pair, pairs_are_now, some as in_table}
 use Rattle.ephemeron_table.proofs.ReplacedValues.{ReplacesValue}
@@ -56,10 +59,8 @@ module _ {old new : Mutator} {graph : Graph} {map key : ℕ} {weak : WeakObject}
     (words : PutsWords (reserved old (content_need (store_content value))) new
     (slice_set (with_content (heap_words old.seat) (store_content value) (next_at old)) (table.at + value_offset place)
     (content_word (store_content value) (next_at old))))
-    (need : filling_need (filling_at old (table.at + value_offset place) (store_content value))
-    ≡ content_need (store_content value))
-    (touches : Touches old new (filled_touch (filling_at old (table.at + value_offset place) (store_content value))
-    (table.at + value_offset place))) where
+    (touches : Touches old new (touched_then (content_touch (store_content value) (next_at old))
+    (touched_one (slot_touch (store_content value)) (table.at + value_offset place)))) where
   abbrev boxed : List ℕ
   boxed = with_content (heap_words old.seat) (store_content value) (next_at old)
 
@@ -69,19 +70,20 @@ module _ {old new : Mutator} {graph : Graph} {map key : ℕ} {weak : WeakObject}
   abbrev count : ℕ
   count = count_filled (sound (known has)).pairs
 
-  -- a word of a cell that stands is none of a box that is made
-  boxed_stays : {one : Cell} {all : List ℕ} (a : ℕ) → HasCell (heap_of old) one all → IsOfCell one a
-      → slice_get boxed a ≡ slice_get (heap_words old.seat) a
-  boxed_stays a stands of_one =
-      with_content_stays (heap_words old.seat) (store_content value) (next_at old) a (λ from below.
-      cell_is_used (known has).whole.rows stands of_one from
-      (omega (arith, below, next_before_segments old (content_need (store_content value)) (known has).tied room)))
+  -- a word of a cell that is no filler is none of a box that is made
+  boxed_stays : {one : Cell} {all : List ℕ} (a : ℕ) → HasCell (heap_of old) one all → one.layout.kind ≢ kind.Filler
+      → IsOfCell one a → slice_get boxed a ≡ slice_get (heap_words old.seat) a
+  boxed_stays a stands no_filler of_one =
+      with_content_stays (heap_words old.seat) (store_content value) (next_at old) a
+      (next_apart (content_need (store_content value)) a (known has).tied (known has).whole.rows room no_filler stands
+      of_one)
 
   -- the key stands there
   key_there : slice_get boxed (table.at + key_offset place) ≡ Some (reference_word key)
   key_there =
       let one = found (known has) (some has) in
-      boxed_stays (table.at + key_offset place) (other_has (known has) (some has)) (record {
+      boxed_stays (table.at + key_offset place) (other_has (known has) (some has))
+      (table_no_filler (known has) (some has)) (record {
         from = omega (arith, one.stands);
         below = omega (arith, one.stands, one.size, other_long (known has) (some has), has.below);
       })
@@ -95,7 +97,8 @@ module _ {old new : Mutator} {graph : Graph} {map key : ℕ} {weak : WeakObject}
         | inl before ↦ omega (arith, before, same)
         | inr behind ↦ omega (arith, behind, same, has.below)
       ])
-      ∙ boxed_stays (map + count_offset) (cell_has (known has)) (of_map (known has) 2 (omega arith))
+      ∙ boxed_stays (map + count_offset) (cell_has (known has)) (map_no_filler (known has))
+      (of_map (known has) 2 (omega arith))
       ∙ ap (λ n. slice_get (heap_words old.seat) (n + count_offset)) (sym (known has).there.stands)
       ∙ word_stands count_offset count (known has).there.has (sound (known has)).counted
 
@@ -153,8 +156,9 @@ module _ {old new : Mutator} {graph : Graph} {map key : ℕ} {weak : WeakObject}
     others = _;
     made = boxes_made comes;
     refills = refills_weak comes;
+    takes = takes_run comes;
     remembers = value_remembers (known has) (in_table (known has) has.below puts) place (store_content value) has.below
-        (λ w. no_raw w holds) need touches;
+        (λ w. no_raw w holds) touches (makes_box comes);
     now = now;
     before_is = refl;
     now_is = pairs_are_now (known has) has.below puts;

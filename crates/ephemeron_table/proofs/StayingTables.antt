@@ -33,7 +33,7 @@ use Rattle.ephemeron_table.proofs.KnownTables.{number_found, probed_pair, found,
 use Rattle.weak_pairs.proofs.PairLists.{pairs_are}
 use Rattle.ephemeron_table.proofs.TablesRead.{found_table, pairs_stand}
 
--- Words of the map's cell, of these others, and newly used ones have changed.
+-- Words of the map's cell, of these others, and of the run in which cells were made have changed.
 pub record WritesMap (old new : Mutator) (map : ℕ) (table : Table) (known : KnownMap old map table)
     (others made : List Cell)
     : Type 0 where

@@ -87,7 +87,7 @@ links_reached graph weak number value is there marked is_new one link =
 -- so the heap shows the graph in which the map has these entries
 pub written_entries_show : WrittenEntriesShow
 written_entries_show old new graph weak cell others made number value shows there marked key_marked carries shown is_new
-    regions refills puts counted remembers =
+    takes refills puts counted remembers =
     let before : Heap = heap_of old in
     let now : Heap = heap_of new in
     let entries : List Entry = entries_with weak.entries number value in
@@ -96,7 +96,8 @@ written_entries_show old new graph weak cell others made number value shows ther
     let weaving : Reweaving before now graph cell others made weak.entries number value =
     record { refills = refills; puts = puts; shown = shown; distinct = are.distinct } in
     let all : List Cell = cell ∷ others in
-    let rest : RestsAgain old new = rests_again all all made shows regions refills.writes.sized law.0 law.1 remembers in
+    let rest : RestsAgain old new made =
+    rests_again all all made shows takes refills.writes.sized law.0 law.1 remembers in
     let replaces : ReplacesCells before now graph weak.number (Weak entries) all all made = record {
       cells = law.1;
       own = pairs_own refills;

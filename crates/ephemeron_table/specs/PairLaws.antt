@@ -16,7 +16,7 @@ use Rattle.heap_model.specs.Changes.{CellsChange, IsOwnChange}
 use Rattle.write_barrier.specs.MutatorState.{Mutator, heap_of, MainShows}
 use Rattle.write_barrier.specs.Recording.{Remembers}
 use Rattle.object_cells.specs.HeldValues.{IsReachedValue}
-use Rattle.object_cells.specs.Uses.{KeepsRegions}
+use Rattle.object_cells.specs.Uses.{TakesRun}
 use Rattle.weak_pairs.specs.Pairs.{IsFilledAt}
 use Rattle.ephemeron_table.specs.PairWrites.{WritesWeak, RefillsPairs}
 use Rattle.weak_pairs.specs.Entries.{entries_with}
@@ -63,9 +63,9 @@ WrittenEntriesShow =
     → slice_get graph.objects weak.number ≡ Some (Weak weak.entries) → IsTrue (is_marked (reach graph) weak.number)
     → IsTrue (is_marked (reach graph) number) → cell.header.object ≡ weak.number
     → ShowsWeak (heap_of old) (reach graph) cell (words_of_cell (heap_of old) cell) weak.entries
-    → ((what : Value) → value ≡ Some what → IsNewValue graph what) → KeepsRegions old new
+    → ((what : Value) → value ≡ Some what → IsNewValue graph what) → TakesRun old new made
     → (refills : RefillsWeak (heap_of old) (heap_of new) cell others made)
     → PutsOne (heap_of old) (heap_of new) refills.pairs number value
     → HasWord (words_of_cell (heap_of new) cell) count_offset (length (entries_with weak.entries number value))
-    → Remembers old new (cell ∷ others) (cell ∷ others)
+    → Remembers old new (cell ∷ others) (cell ∷ others) made
     → MainShows new (reweave graph weak (entries_with weak.entries number value))

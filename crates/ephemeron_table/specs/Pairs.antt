@@ -8,7 +8,7 @@ use Rattle.heap_model.specs.Needs.{capacity_at, word_at}
 use Rattle.heap_model.specs.Remembered.{AreRemembered}
 use Rattle.page_space.specs.Extents.{eden_start}
 use Rattle.heap_table.specs.Seats.{heap_words}
-use Rattle.write_barrier.specs.MutatorState.{Mutator, heap_of}
+use Rattle.write_barrier.specs.MutatorState.{Mutator, heap_of, IsTied}
 use Rattle.object_cells.specs.CellsAt.{IsQuietWhole}
 use Rattle.object_cells.specs.Uses.{UsesMore}
 use Rattle.object_cells.specs.Capacities.{ChangesObject}
@@ -21,10 +21,11 @@ IsNoPairWord heap map word =
     → (word < table + store_head) ⊎ (table + (store_head + 2 * capacity_at heap map) ≤ word)
 
 -- The pair at a place of the weak map at an address was removed: the heap is whole again. Only the map's count changed,
--- and words of its table's pairs; no word more is used, each object stands where it stood, and what is recorded stays
--- right.
+-- and words of its table's pairs; no word more is used, what is granted stays so, each object stands where it stood,
+-- and what is recorded stays right.
 pub record RemovesPair (old new : Mutator) (map place : ℕ) (before : List Pair) : Type 0 where
   pub whole : IsQuietWhole new
+  pub tied : IsTied new
   pub paths : new.paths ≡ old.paths
   pub uses : UsesMore old new 0
   pub changes : ChangesObject (heap_of old) (heap_of new) map (capacity_at (heap_of old) map)

@@ -14,6 +14,7 @@ use Rattle.write_barrier.specs.Recording.{Touches, touched, touched_one, touched
 use Rattle.write_barrier.specs.Values.{with_range}
 use Rattle.object_cells.specs.Contents.{next_at}
 use Rattle.object_cells.specs.Made.{PutsWords, with_content, content_need, content_touch, content_word, store_content}
+use Rattle.object_cells.specs.Made.{store_touch}
 use Rattle.weak_pairs.specs.Tables.{number_at, key_offset, value_offset, with_pair, made_pair}
 use Rattle.weak_pairs.specs.declared.table.Table.{Table}
 use Rattle.weak_pairs.specs.Probes.{IsFirstFree}
@@ -22,9 +23,9 @@ use Rattle.weak_pairs.specs.Probes.{IsFirstFree}
 abbrev pub pair_touch : ℕ → ℕ → ℕ → Touch
 pair_touch table place = touched Touch.Stored (table + key_offset place) (table + (value_offset place + 1))
 
--- which addresses making a table of so many pairs touches
+-- which addresses making a table of so many pairs touches: its head, and its slots
 abbrev pub table_touch : Table → ℕ → Touch
-table_touch table = touched Touch.Wiped table.at (table.at + (store_head + 2 * table.capacity))
+table_touch table = store_touch (2 * table.capacity) table.at
 
 -- The pair of a key and a value comes to a place of the map's table, and the map has so many entries; a box that the
 -- value needs is made.

@@ -1,8 +1,8 @@
 -- How the pairs of a table come to another one, and to a map that has that then.
-use Rattle.std.specs.Prelude.{◌≡◌, ℕ, ◌+◌, ◌*◌, ◌≤◌, ◌<◌, ◌⊎◌, Some, slice_set}
+use Rattle.std.specs.Prelude.{◌≡◌, ℕ, ◌+◌, ◌*◌, ◌≤◌, ◌<◌, Some, slice_set}
 use Rattle.tagged_word.specs.Cells.{store_head, store_slot}
 use Rattle.tagged_word.specs.Readings.{reference_in}
-use Rattle.page_space.specs.Extents.{segments_start, marks_start}
+use Rattle.page_space.specs.Extents.{marks_start}
 use Rattle.nursery.specs.Young.{HasRoom}
 use Rattle.object_graph.specs.Meaning.{weak_most}
 use Rattle.heap_model.specs.Types.{Held}
@@ -13,10 +13,12 @@ use Rattle.heap_model.specs.Slots.{reference_word}
 use Rattle.heap_model.specs.Kinds.{Pair, count_offset}
 use Rattle.heap_model.specs.Needs.{grown_table}
 use Rattle.heap_model.specs.Remembered.{Touch}
+use Rattle.heap_model.specs.Wholeness.{Whole}
 use Rattle.write_barrier.specs.MutatorState.{Mutator, heap_of, IsTied, reserved}
 use Rattle.write_barrier.specs.Recording.{Touches, touched_one, touched_then}
 use Rattle.object_cells.specs.Contents.{next_at}
-use Rattle.object_cells.specs.Made.{PutsWords, with_content, content_need, content_touch, content_word, store_content}
+use Rattle.object_cells.specs.Made.{IsUsedRange, PutsWords, with_content, content_need, content_touch, content_word}
+use Rattle.object_cells.specs.Made.{store_content}
 use Rattle.weak_pairs.specs.Pairs.{IsFilledAt}
 use Rattle.weak_pairs.specs.Tables.{TableIsWithin, numbers, pairs_of}
 use Rattle.ephemeron_table.specs.Puttings.{InsertsRehashed, begun_table, table_touch}
@@ -30,22 +32,28 @@ pub record RehashesPairs (old new : Mutator) (from to : Table) (count : ℕ) : T
   pub moved : AreRehashed (pairs_of (heap_words old.seat) from) (pairs_of (heap_words new.seat) to) count
   pub found : FindsAll (numbers (heap_of old) (pairs_of (heap_words new.seat) to))
 
--- the address is none of eden's words that are not used
-abbrev pub IsUsed : Mutator → ℕ → Type 0
-IsUsed main at = (at < next_at main) ⊎ (segments_start main.seat.space ≤ at)
+-- the address is that of a word of a cell that is no filler
+pub record IsUsed (main : Mutator) (at : ℕ) : Type 0 where
+  pub from : ℕ
+  pub to : ℕ
+  pub used : IsUsedRange (heap_of main) from to
+  pub begins : from ≤ at
+  pub ends : at < to
 
--- each pair that holds something has the word of an address as its key, which is one before the marks and none of
--- eden's words that are not used
+-- each pair that holds something has the word of an address as its key, which is one before the marks and that of a
+-- word of a cell that is no filler
 abbrev pub KeysUsed : Mutator → Table → Type 0
 KeysUsed main table =
     (place : ℕ) (pair : Pair) → IsFilledAt (pairs_of (heap_words main.seat) table) place pair
     → (at : ℕ) × (reference_in pair.key ≡ Some at) × (at < marks_start main.seat.space) × IsUsed main at
 
 -- A table may be made in the place of a map's, for the pair of this key: with it the map has more entries than half of
--- the pairs, and no more than it may have.
+-- the pairs, and no more than it may have. The heap is whole, so what is made has no word of the map's table, nor one
+-- of a key.
 pub record CanGrow (main : Mutator) (map : ℕ) (table : Table) (key count : ℕ) : Type 0 where
   pub tied : IsTied main
   pub quiet : main.seat.phase ≡ Quiet
+  pub whole : Whole (heap_of main)
   pub within : TableIsWithin (heap_of main) table
   pub few : count < weak_most
   pub over : table.capacity < 2 * (count + 1)
@@ -55,7 +63,7 @@ pub record CanGrow (main : Mutator) (map : ℕ) (table : Table) (key count : ℕ
   pub key_within : key < marks_start main.seat.space
   pub key_used : IsUsed main key
 
--- the table that is made, of the next words of eden
+-- the table that is made, where the next cell is made
 abbrev pub new_table : Mutator → Table → Table
 new_table main table = record { at = next_at main; capacity = grown_table table.capacity }
 

@@ -8,7 +8,7 @@ use write_barrier::NoRoom;
 pub enum TableStop {
     /// The key is new, and the map has 256 entries or more: how many.
     TableFull { entries: u32 },
-    /// Eden has not the words for a table or a box that the entry needs.
+    /// There is no room for a table or a box that the entry needs.
     Full(NoRoom),
 }
 

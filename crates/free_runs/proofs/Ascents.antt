@@ -3,7 +3,7 @@ use Rattle.std.proofs.Common.{inl, inr, ℕ, zero, suc, ◌+◌, ◌-◌, ◌*�
 use Rattle.std.proofs.Common.{length, get_or, arith}
 use Rattle.page_space.specs.declared.run.Run.{Run}
 use Rattle.page_space.specs.Sizes.{page_words}
-use Rattle.free_runs.specs.FreeRuns.{LiesIn, AscendIn, IsRowOf, left_of, runs_most}
+use Rattle.free_runs.specs.FreeRuns.{LiesIn, AscendIn, IsRowOf, IsBehind, left_of, runs_most}
 use Rattle.free_runs.proofs.Cuts.{Left, left_is}
 
 -- each run takes two words at least: its own, and the one behind it
@@ -55,3 +55,20 @@ taken_ascends start end n [] run behind some enough ascend =
     left_ascends start end n run behind (left_of run n) some enough ascend.0 ascend.1 (left_is run n enough)
 taken_ascends start end n (first ∷ before) run behind some enough ascend =
     (ascend.0, taken_ascends (first.at + first.words + 1) end n before run behind some enough ascend.1)
+
+-- the runs of a page still ascend with one more behind them
+pub added_ascends : (first start end : ℕ) (runs : List Run) (run : Run) → AscendIn start end runs
+    → LiesIn first end run → start ≤ run.at → IsBehind runs run → AscendIn start end (runs ++ run ∷ [])
+added_ascends first start end [] run ascend lies from behind =
+    (record { from = from; some = lies.some; below = lies.below }, tt)
+added_ascends first start end (one ∷ more) run ascend lies from behind = (
+  ascend.0,
+  added_ascends first (one.at + one.words + 1) end more run ascend.1 lies (omega (arith, behind 0 one (omega arith)))
+      (λ k d below. behind (suc k) d (omega (arith, below))),
+)
+
+-- so they are still the runs of that page
+pub row_added : (page : ℕ) (runs : List Run) (run : Run) → IsRowOf page runs
+    → LiesIn (page_words * page) (page_words * (page + 1)) run → IsBehind runs run → IsRowOf page (runs ++ run ∷ [])
+row_added page runs run row lies behind =
+    added_ascends (page_words * page) (page_words * page) (page_words * (page + 1)) runs run row lies lies.from behind

@@ -1,5 +1,6 @@
 -- The longest of runs, as far as a loop has come, and against the words that are wanted.
-use Rattle.std.proofs.Common.{◌≡◌, ℕ, ◌+◌, ◌-◌, ◌<◌, ◌≤◌, max, List, length, get_or, take, refl, ap, ◌∙◌, arith}
+use Rattle.std.proofs.Common.{◌≡◌, ℕ, ◌+◌, ◌-◌, ◌<◌, ◌≤◌, max, List, [], ◌∷◌, ◌++◌, length, get_or, take, refl, ap, ◌∙◌}
+use Rattle.std.proofs.Common.{arith}
 use Rattle.std.proofs.lemmas.List.{take_more}
 use Rattle.std.proofs.lemmas.List.Recursion.{max_bounds, max_least, max_push}
 use Rattle.page_space.specs.declared.run.Run.{Run}
@@ -21,6 +22,10 @@ pub one_more : (runs : List Run) (place : ℕ) (d : Run) → place < length runs
 one_more runs place d below =
     ap longest_in (take_more runs place d below)
     ∙ max_push longest_in (λ run. run.words) refl (λ _ _. refl) (take place runs) (get_or runs place d)
+
+-- with one run more the longest is that or the longest before
+pub longest_pushed : (runs : List Run) (run : Run) → longest_in (runs ++ run ∷ []) ≡ max (longest_in runs) run.words
+longest_pushed = max_push longest_in (λ run. run.words) refl (λ _ _. refl)
 
 -- one row more is looked at
 pub one_row_more : (rows : List (List Run)) (page : ℕ) (d : List Run) → page < length rows

@@ -24,6 +24,10 @@ AscendIn start end (run ∷ more) = LiesIn start end run × AscendIn (run.at + r
 abbrev pub IsRowOf : ℕ → List Run → Type 0
 IsRowOf page runs = AscendIn (page_words * page) (page_words * (page + 1)) runs
 
+-- each of these runs ends before the run begins, with a word between them
+abbrev pub IsBehind : List Run → Run → Type 0
+IsBehind runs run = All (λ one. one.at + one.words < run.at) runs
+
 -- the runs of a page
 abbrev pub row_of : List (List Run) → ℕ → List Run
 row_of rows page = get_or rows page []

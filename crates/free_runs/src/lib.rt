@@ -7,10 +7,11 @@
 //! start: no call takes memory later.
 #![tactic(auto)]
 
-ghost use Rattle.std.specs.Prelude.{◌≡◌, ◌<◌, ◌≤◌, ◌↔◌, length, set, IfOk, IfSome, IfNone, IsNone};
+ghost use Rattle.std.specs.Prelude.{◌≡◌, ◌+◌, ◌*◌, ◌<◌, ◌≤◌, ◌↔◌, [], ◌∷◌, ◌++◌, length, set};
+ghost use Rattle.std.specs.Prelude.{IfOk, IfSome, IfNone, IsNone};
 ghost use Rattle.std.specs.Prelude.{MatchOption};
 ghost use Rattle.page_space.specs.Sizes.{page_words, pages_most};
-ghost use Rattle.free_runs.specs.FreeRuns.{AreFree, IsRowOf, FitsNowhere, TakesFront};
+ghost use Rattle.free_runs.specs.FreeRuns.{AreFree, IsRowOf, LiesIn, IsBehind, FitsNowhere, TakesFront};
 ghost use Rattle.free_runs.specs.FreeRuns.{longest_of, row_of, whole_rows};
 ghost use Rattle.free_runs.specs.Standing.{FitsIn, FitsInNone};
 
@@ -127,6 +128,25 @@ impl FreeRuns {
         ensures { self.new ≡ set self.old page runs.now }
     {
         self.rows[page as usize].put(runs);
+    }
+
+    /// The page has no run any more.
+    pub fn clear_page(&mut self, page: u32)
+        requires { page < length self.old }
+        ensures { self.new ≡ set self.old page [] }
+    {
+        self.rows[page as usize].clear();
+    }
+
+    /// The page has one run more, which begins behind the last of those that it has, and does not
+    /// touch it.
+    pub fn add(&mut self, page: u32, run: Run)
+        requires there { page < length self.old }
+        requires lies { LiesIn (page_words * page) (page_words * (page + 1)) run }
+        requires behind { IsBehind (row_of self.old page) run }
+        ensures { self.new ≡ set self.old page (row_of self.old page ++ run ∷ []) }
+    {
+        self.rows[page as usize].add(run);
     }
 
     /// The words of the longest run, 0 where there is none.

@@ -1,5 +1,5 @@
 //! The runs of one page.
-ghost use Rattle.std.specs.Prelude.{◌≡◌, ◌+◌, ◌<◌, ◌≤◌, ◌^◌, length, All, IfOk, MatchOption};
+ghost use Rattle.std.specs.Prelude.{◌≡◌, ◌+◌, ◌<◌, ◌≤◌, ◌^◌, [], ◌∷◌, ◌++◌, length, All, IfOk, MatchOption};
 ghost use Rattle.page_space.specs.Sizes.{pages_most};
 ghost use Rattle.free_runs.specs.FreeRuns.{longest_in, runs_most, whole_row, AreShort, TakesFrom};
 ghost use Rattle.free_runs.specs.Standing.{StandsAt};
@@ -100,6 +100,25 @@ impl Row {
             unreachable!();
         }
         self.longest = longest(runs);
+    }
+
+    /// No run stays.
+    pub(crate) fn clear(&mut self)
+        ensures { self.new ≡ [] }
+    {
+        self.runs.clear();
+        self.longest = 0;
+    }
+
+    /// One run more, behind the others.
+    pub(crate) fn add(&mut self, run: Run)
+        requires { length self.old < runs_most }
+        ensures { self.new ≡ self.old ++ run ∷ [] }
+    {
+        if self.runs.push(run).is_err() {
+            unreachable!();
+        }
+        self.longest = self.longest.max(run.words);
     }
 
     /// The first words of the first run that has so many.

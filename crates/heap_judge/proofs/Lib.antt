@@ -5,3 +5,7 @@ pub mod OnlyPlaces
 pub mod KeysOnce
 pub mod EachItem
 pub mod ShownCells
+pub mod Listed
+pub mod FreeHere
+pub mod Young
+pub mod RecordedSlots

@@ -4,3 +4,5 @@ pub mod ShownSlots
 pub mod KeyPairs
 pub mod Reached
 pub mod Bindings
+pub mod Recorded
+pub mod FreeCells

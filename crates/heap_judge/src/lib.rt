@@ -1,7 +1,8 @@
 //! Heap judge: whether an image of a heap shows the graph that the ideal meaning has.
 //!
 //! Model: none of its own. `Shows` of `heap_model` says which graph a heap shows; each function here
-//! answers whether one part of it holds, and `shows` puts them together.
+//! answers whether one part of it holds, and `shows` puts them together. `are_remembered` and
+//! `are_free_runs` answer what `AreRemembered` and `AreFreeRuns` of `heap_model` say of pages.
 //! Invariant: none. A judge that needs what another one found requires it; `shows` requires nothing.
 //! The judges are slow: each object that can be reached is looked for in the whole heap.
 #![tactic(auto)]
@@ -9,15 +10,19 @@
 mod bindings;
 mod entries;
 mod fields;
+mod free;
 mod lists;
 mod objects;
 mod pairs;
 mod paths;
 mod places;
+mod remembered;
 mod shown;
 mod values;
 mod weak;
 mod whole;
 
+pub use free::are_free_runs;
+pub use remembered::are_remembered;
 pub use shown::shows;
 pub use whole::is_whole_heap;

@@ -1,9 +1,9 @@
 -- A heap in which a variable was bound anew: it has the same cells, and is whole.
 use Rattle.std.proofs.Common.{ℕ, ◌<◌, ◌≤◌, inl, inr, List, [], Contains, Option, sym, subst, arith, append-nil}
 use Rattle.std.proofs.lemmas.Bool.{cases_eq}
-use Rattle.heap_model.specs.Types.{Value, Held}
+use Rattle.heap_model.specs.Types.{Cell, Value, Held}
 use Rattle.handle_roots.specs.Roots.{FitsHeld, Holds, with_root}
-use Rattle.heap_model.specs.Heaps.{Heap}
+use Rattle.heap_model.specs.Heaps.{Heap, HasCell}
 use Rattle.heap_model.specs.Wholeness.{IsHeld, HasRoot, Whole}
 use Rattle.heap_model.specs.Showing.{ShowsHeld}
 use Rattle.heap_model.specs.Changes.{IsOwnChange}
@@ -29,7 +29,7 @@ alike_move heap other alike few = record {
   paths = sym (append-nil heap.paths);
   went = λ cell there. absurd (none_in cell there);
   comes = λ cell there. absurd (none_in cell there);
-  kept = λ cell words has not_gone. has_alike other alike few has;
+  kept = λ cell words has not_gone not_filled. has_alike other alike few has;
   back = λ cell words has. inr (has_alike heap.words (alike_back alike) few has, none_in cell);
 }
 
@@ -55,6 +55,14 @@ bound_moves heap variable one below whole =
       cells = alike_move heap other (with_root_alike heap.space heap.words variable one below) (used_few whole.rows);
       own = no_own_change heap (bound heap variable one);
     }
+
+-- each cell stands there as before
+pub bound_keeps : (heap : Heap) (variable : ℕ) (one : Held) {cell : Cell} {words : List ℕ}
+    → variable < heap.space.variables → Whole heap → HasCell heap cell words
+    → HasCell (bound heap variable one) cell words
+bound_keeps heap variable one {cell} {words} below whole has =
+    (bound_moves heap variable one below whole).cells.kept cell words has (none_in cell)
+    (λ filled. none_in filled.begins.other filled.begins.among)
 
 -- what shows a value a variable may hold
 shown_is_held : {heap : Heap} (one : Held) (value : Option Value) → ShowsHeld heap one value → IsHeld heap one

@@ -1,16 +1,17 @@
--- What a change of cells does to each cell: it went, or it stands as before. Places of objects stay, and boxes that did
--- not go.
+-- What a change of cells does to each cell that is no filler: it went, or it stands as before. Places of objects stay,
+-- and boxes that did not go.
 use Rattle.std.proofs.Common.{◌≡◌, ◌≢◌, ℕ, ◌⊎◌, inl, inr, List, [], ◌∷◌, ◌++◌, Contains}
 use Rattle.std.proofs.Common.{IsTrue, ℤ}
-use Rattle.std.proofs.Common.{refl, ◌∙◌, ap, subst, arith}
-use Rattle.std.proofs.lemmas.Bool.{cases_eq}
+use Rattle.std.proofs.Common.{refl, sym, ◌∙◌, ap, subst, arith}
+use Rattle.std.proofs.lemmas.Bool.{cases_eq, false≢true}
 use Rattle.std.proofs.lemmas.List.Elements.{Contains-append_left}
 use Rattle.tagged_word.specs.declared.layout.Kind.TheVariants as kind
 use Rattle.tagged_word.proofs.Members.{first_in, rest_in, in_cases}
-use Rattle.heap_model.specs.Types.{Path, Cell}
+use Rattle.heap_model.specs.Types.{Kind, Path, Cell}
 use Rattle.heap_model.specs.Heaps.{Heap, HasCell, words_of_cell}
 use Rattle.heap_model.specs.Slots.{is_object_kind, RefersToBox}
-use Rattle.heap_model.specs.Changes.{CellsChange, IsStill}
+use Rattle.heap_model.specs.Wholeness.{IsOwnedKind}
+use Rattle.heap_model.specs.Changes.{CellsChange, IsFilled, IsStill}
 use Rattle.heap_model.proofs.CellsApart.{one_at}
 use Rattle.heap_model.proofs.WordsStay.{PlacesStay, BoxStays}
 
@@ -21,7 +22,7 @@ pub record CellsMove (old new : Heap) (gone came made : List Cell) : Type 0 wher
   pub went : (cell : Cell) → Contains gone cell → HasCell old cell (words_of_cell old cell)
   pub comes : (cell : Cell) → Contains (came ++ made) cell → HasCell new cell (words_of_cell new cell)
   pub kept : (cell : Cell) (words : List ℕ) → HasCell old cell words → (Contains gone cell → ⊥)
-      → HasCell new cell words
+      → (IsFilled made cell → ⊥) → HasCell new cell words
   pub back : (cell : Cell) (words : List ℕ) → HasCell new cell words
       → Contains (came ++ made) cell ⊎ (HasCell old cell words × (Contains gone cell → ⊥))
 
@@ -36,6 +37,25 @@ cells_move change = record {
   kept = change.kept;
   back = change.back;
 }
+
+-- an object's cell is no filler
+pub object_is_no_filler : (k : Kind) → IsTrue (is_object_kind k) → k ≢ kind.Filler
+object_is_no_filler k object filler = false≢true (sym (ap is_object_kind filler) ∙ object)
+
+-- nor is one that belongs to an object
+pub owned_is_no_filler : (k : Kind) → IsOwnedKind k → k ≢ kind.Filler
+owned_is_no_filler k owned filler = subst IsOwnedKind filler owned
+
+-- nor is a box
+pub box_is_no_filler : (k : Kind) → k ≡ kind.Boxed → k ≢ kind.Filler
+box_is_no_filler k box = owned_is_no_filler k (subst IsOwnedKind (sym box) tt)
+
+-- a cell that is no filler and did not go stands as before
+pub stays_standing : {old new : Heap} {gone came made : List Cell} {cell : Cell} {words : List ℕ}
+    → CellsMove old new gone came made → HasCell old cell words → cell.layout.kind ≢ kind.Filler
+    → (Contains gone cell → ⊥) → HasCell new cell words
+stays_standing {cell = cell} {words} cells has no_filler not_gone =
+    cells.kept cell words has not_gone (λ filled. no_filler filled.filler)
 
 -- Among these cells one stands at the address, or none does.
 data IsAmong (cells : List Cell) (at : ℕ) : Type 0 where
@@ -69,17 +89,19 @@ pub data Fate (new : Heap) (gone : List Cell) (cell : Cell) (words : List ℕ) :
 
 -- what stands among the cells that went at the address of a cell is that cell
 fate_of : {old new : Heap} {gone came made : List Cell} {cell : Cell} {words : List ℕ}
-    → CellsMove old new gone came made → HasCell old cell words → IsAmong gone cell.at → Fate new gone cell words
-fate_of {gone = gone} cells has (IsAmong.found other among same) =
+    → CellsMove old new gone came made → HasCell old cell words → cell.layout.kind ≢ kind.Filler
+    → IsAmong gone cell.at → Fate new gone cell words
+fate_of {gone = gone} cells has no_filler (IsAmong.found other among same) =
     Fate.has_gone (subst (Contains gone) (one_at (cells.went other among) has same) among)
-fate_of {gone = gone} {cell = cell} {words} cells has (IsAmong.missing none) =
+fate_of {gone = gone} {cell = cell} cells has no_filler (IsAmong.missing none) =
     let stays = λ (there : Contains gone cell). none cell there refl in
-    Fate.stands (cells.kept cell words has stays) stays
+    Fate.stands (stays_standing cells has no_filler stays) stays
 
--- each cell of the old heap went or stands
+-- each cell of the old heap that is no filler went or stands
 pub fate : {old new : Heap} {gone came made : List Cell} {cell : Cell} {words : List ℕ}
-    → CellsMove old new gone came made → HasCell old cell words → Fate new gone cell words
-fate {gone = gone} {cell = cell} cells has = fate_of cells has (among gone cell.at)
+    → CellsMove old new gone came made → HasCell old cell words → cell.layout.kind ≢ kind.Filler
+    → Fate new gone cell words
+fate {gone = gone} {cell = cell} cells has no_filler = fate_of cells has no_filler (among gone cell.at)
 
 -- each object that went stands where it stood
 abbrev pub ObjectsStay : List Cell → List Cell → Type 0
@@ -90,7 +112,7 @@ ObjectsStay gone came =
 pub places_stay : {old new : Heap} {gone came made : List Cell} → CellsMove old new gone came made
     → ObjectsStay gone came → PlacesStay old new
 places_stay {old} {new} {gone} {came} {made} cells stay number at place =
-    elim (fate cells place.has) [
+    elim (fate cells place.has (object_is_no_filler place.cell.layout.kind place.object)) [
       | Fate.has_gone there ↦
           let still = stay place.cell there place.object in
           record {
@@ -117,7 +139,10 @@ pub box_not_gone : {old new : Heap} {gone came made : List Cell} {word : ℕ} {v
 box_not_gone cells box not_gone = record {
   cell = box.cell;
   words = box.words;
-  target = record { refers = box.target.refers; has = cells.kept box.cell box.words box.target.has not_gone };
+  target = record {
+    refers = box.target.refers;
+    has = stays_standing cells box.target.has (box_is_no_filler box.cell.layout.kind box.box) not_gone;
+  };
   box = box.box;
   holds = box.holds;
   fits = box.fits;

@@ -75,25 +75,27 @@ count_came {heap} {number = number} {at} {entries} {cell} shows there marked has
     let same : cell.at ≡ at = once cell.at (place_of has object carries) ∙ sym (once at place) in
     subst (λ a. count_at heap a ≡ length entries) same (word_of_cell count_offset (length entries) has counted)
 
--- Weak maps count their entries where the objects are the same, no more of them can be reached, and all cells stand as
--- before.
+-- Weak maps count their entries where the objects are the same, no more of them can be reached, and all cells of objects
+-- stand as before.
 pub counts_stay : {old new : Heap} {before after : Graph} → Shows old before → Shows new after
     → CountsEntries old before → after.objects ≡ before.objects → ReachesNoMore before after
-    → ((cell : Cell) (words : List ℕ) → HasCell old cell words → HasCell new cell words) → CountsEntries new after
+    → ((cell : Cell) (words : List ℕ) → HasCell old cell words → IsTrue (is_object_kind cell.layout.kind)
+    → HasCell new cell words) → CountsEntries new after
 counts_stay shows shown counts same fewer kept number at entries there marked place =
     count_kept shown (record {
       shows = shows;
       counts = counts;
       there = ap (λ objects. slice_get objects number) (sym same) ∙ there;
       marked = fewer number marked;
-      stays = λ cell words has object carries. kept cell words has;
+      stays = λ cell words has object carries. kept cell words has object;
     }) there marked place
 
 -- And so they do where an object was made, whose cell has the count of its entries if it is a weak map.
 pub counts_made : {old new : Heap} {before : Graph} {cell : Cell} {words : List ℕ} (variable : ℕ) (what : Object)
     → Shows old before → Shows new (make before variable what) → CountsEntries old before
     → ReachesOneMore before (make before variable what) (length before.objects)
-    → ((one : Cell) (others : List ℕ) → HasCell old one others → HasCell new one others) → HasCell new cell words
+    → ((one : Cell) (others : List ℕ) → HasCell old one others → IsTrue (is_object_kind one.layout.kind)
+    → HasCell new one others) → HasCell new cell words
     → IsTrue (is_object_kind cell.layout.kind) → cell.header.object ≡ length before.objects → HasCountOf words what
     → CountsEntries new (make before variable what)
 counts_made {before = before} {words = words} variable what shows shown counts fewer kept has object carries counted
@@ -112,6 +114,6 @@ counts_made {before = before} {words = words} variable what shows shown counts f
             counts = counts;
             there = sym (slice_get-append_left before.objects (what ∷ []) number below) ∙ there;
             marked = was_marked;
-            stays = λ one others has object carries. kept one others has;
+            stays = λ one others has object carries. kept one others has object;
           }) there marked place
     ]

@@ -15,7 +15,7 @@ use Rattle.heap_model.specs.Wholeness.{IsOwnedKind, HasSlotAt, NamesFrom}
 use Rattle.heap_model.proofs.ObjectSlots.{HasSlotOf, FieldSlot, store_slot_at}
 use Rattle.heap_model.proofs.SlotWords.{store_is_owned}
 use Rattle.heap_model.proofs.WordsStay.{BoxStays}
-use Rattle.heap_model.proofs.CellOutcomes.{CellsMove}
+use Rattle.heap_model.proofs.CellOutcomes.{CellsMove, owned_is_no_filler, stays_standing}
 use Rattle.heap_model.proofs.Moves.{Moves, named_stays}
 
 -- an object of the old heap that did not go
@@ -44,7 +44,10 @@ owned_stays {old} {owner = owner} {cell} {words} {others} {slot} {word} moves ke
       at = refl;
     } in
     let stays = named_stays moves names keeps.not_gone refers.has refl in
-    record { refers = refers.refers; has = moves.cells.kept cell others refers.has stays }
+    record {
+      refers = refers.refers;
+      has = stays_standing moves.cells refers.has (owned_is_no_filler cell.layout.kind owned) stays;
+    }
 
 -- its boxes stay
 pub kept_box : {old new : Heap} {gone came made : List Cell} {owner : Cell} {words : List ℕ} {word : ℕ}

@@ -37,7 +37,9 @@ pub mod AnewBindings
 pub mod NewObjects
 pub mod RowCovers
 pub mod LayoutsStay
+pub mod EdenChanges
 pub mod Patches
+pub mod RunCells
 pub mod FreeCells
 pub mod PatchedRows
 pub mod RowSeams
@@ -45,6 +47,9 @@ pub mod RowParts
 pub mod NewRows
 pub mod NewCells
 pub mod KeptCells
+pub mod PatchedCells
+pub mod FillerRows
+pub mod FilledPages
 pub mod WordChanges
 pub mod Rewrites
 pub mod SlotWrites
@@ -56,3 +61,4 @@ pub mod FreeStays
 pub mod RememberedSlots
 pub mod RememberedStays
 pub mod RememberedAlike
+pub mod ReachedFrom

@@ -12,7 +12,7 @@ use Rattle.heap_model.specs.Wholeness.{IsOwnedKind, NamesFrom, Whole}
 use Rattle.heap_model.specs.Changes.{IsOwnOf, IsOwnChange}
 use Rattle.heap_model.proofs.CellsApart.{one_at}
 use Rattle.heap_model.proofs.WordsStay.{PlacesStay, slot_word_stays}
-use Rattle.heap_model.proofs.CellOutcomes.{CellsMove, Fate, fate, places_stay}
+use Rattle.heap_model.proofs.CellOutcomes.{CellsMove, Fate, fate, places_stay, box_is_no_filler}
 use Rattle.heap_model.proofs.OneOwner.{object_is_not_owned, one_owner}
 
 -- the cells of a whole heap change, and this change is some objects' own
@@ -49,7 +49,7 @@ named_stays {old} {gone = gone} {owner = owner} {cell} {named = named} moves nam
 box_stays : {old new : Heap} {gone came made : List Cell} {word : ℕ} {v : ℤ} → Moves old new gone came made
     → RefersToBox old word v → (w : ℤ) × RefersToBox new word w
 box_stays {old} {new} {gone} {came} {made} {word} {v} moves box =
-    elim (fate moves.cells box.target.has) [
+    elim (fate moves.cells box.target.has (box_is_no_filler box.cell.layout.kind box.box)) [
       | Fate.has_gone there ↦
           let still = moves.own.boxes_stay box.cell there box.box in
           let other : Cell = still.other in

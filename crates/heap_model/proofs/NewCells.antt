@@ -8,7 +8,8 @@ use Rattle.cell_layout.specs.Cells.{IsRow}
 use Rattle.cell_layout.proofs.OneCell.{cells_have_words}
 use Rattle.cell_layout.proofs.Rows.{rows_part_around, cell_within}
 use Rattle.heap_model.specs.Heaps.{Heap, Row, HasCell, cell_extents, words_of_cell}
-use Rattle.heap_model.specs.Changes.{Patch, IsPatched, IsNewlyUsed}
+use Rattle.heap_model.specs.Changes.{Patch, IsPatched}
+use Rattle.heap_model.proofs.EdenChanges.{IsBehindUsed}
 use Rattle.heap_model.proofs.CellsApart.{IsOfCell, one_of_row}
 use Rattle.heap_model.proofs.RowCovers.{covered}
 use Rattle.heap_model.proofs.Patches.{Patching, IsFree, patch_is, patched_not_new}
@@ -22,7 +23,7 @@ pub data OriginAt (old new : Heap) (patches : List Patch) (made : List Cell) (ce
   in_patch : (patch : Patch) → Contains patches patch → Contains patch.after cell → IsPatched at patch
       → OriginAt old new patches made cell at
   in_none : HasCell old cell (words_of_cell old cell) → IsFree patches at → OriginAt old new patches made cell at
-  in_new : Contains made cell → IsNewlyUsed old new at → OriginAt old new patches made cell at
+  in_new : Contains made cell → IsBehindUsed old new at → OriginAt old new patches made cell at
 
 -- the patch has the addresses of its cells
 pub after_is_patched : {old new : Heap} {patches : List Patch} {made : List Cell} {patch : Patch} {cell : Cell} {at : ℕ}
@@ -35,7 +36,7 @@ after_is_patched {old} {new} {patch = patch} {cell} patching there after of_cell
 
 -- the addresses of what was made are newly used
 pub made_is_new : {old new : Heap} {patches : List Patch} {made : List Cell} {cell : Cell} {at : ℕ}
-    → Patching old new patches made → Contains made cell → IsOfCell cell at → IsNewlyUsed old new at
+    → Patching old new patches made → Contains made cell → IsOfCell cell at → IsBehindUsed old new at
 made_is_new {old} {new} {made = made} {cell} patching there of_cell =
     let from : ℕ = eden_start old.space + old.used in
     let to : ℕ = eden_start old.space + new.used in

@@ -9,6 +9,7 @@ use Rattle.heap_model.proofs.CellsApart.{one_at, one_words}
 use Rattle.heap_model.proofs.ObjectSlots.{store_slot_at}
 use Rattle.heap_model.proofs.SlotWords.{IsStoreWord, store_is_owned, store_word}
 use Rattle.heap_model.proofs.OneOwner.{one_owner}
+use Rattle.heap_model.proofs.CellOutcomes.{object_is_no_filler, owned_is_no_filler, stays_standing}
 use Rattle.heap_model.proofs.Moves.{Moves, place_stays}
 use Rattle.heap_model.proofs.NamedBefore.{slot_named_before}
 use Rattle.heap_model.proofs.KeptObjects.{Keeps, owned_stays}
@@ -50,7 +51,7 @@ names_before : {old new : Heap} {gone came made : List Cell} {owner : Cell} {wor
     → Moves old new gone came made → HasCell old owner words → (Contains gone owner → ⊥)
     → NamesFrom new owner slot named → NamesFrom old owner slot named
 names_before {old} {new} {gone} {owner = owner} {words} {slot} moves had not_gone names =
-    let has = moves.cells.kept owner words had not_gone in
+    let has = stays_standing moves.cells had (object_is_no_filler owner.layout.kind names.object) not_gone in
     let keeps : Keeps old new gone owner words =
     record { had = had; has = has; not_gone = not_gone; object = names.object } in
     let at_new = subst (λ all. HasSlotAt new owner all slot names.word) (one_words names.has has) names.of_owner in
@@ -65,7 +66,9 @@ named_apart : {old new : Heap} {gone came made : List Cell} {owner another : Cel
 named_apart {gone = gone} {owner = owner} {another} {other = other} {named} moves names not_gone comes names_too =
     elim (moves.own.named another other named comes names_too) [
       | inl before ↦ not_gone (subst (Contains gone) (one_owner moves.whole before.1.2 names) before.1.1)
-      | inr new_place ↦ new_place names.cell names.others names.refers.has names.at
+      | inr new_place ↦
+          owned_is_no_filler names.cell.layout.kind names.owned
+          (new_place names.cell names.others names.refers.has names.at)
     ]
 
 -- no two slots of the new heap name one cell

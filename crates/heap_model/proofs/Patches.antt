@@ -14,7 +14,8 @@ use Rattle.heap_model.specs.Types.{Cell}
 use Rattle.cell_layout.proofs.Rows.{cell_within}
 use Rattle.heap_model.specs.Heaps.{Heap, Row, EndsUsed, IsUsedRow, HasCell, cell_extents, words_of_cell}
 use Rattle.heap_model.specs.Wholeness.{HasRows, HasSizes}
-use Rattle.heap_model.specs.Changes.{Patch, IsPatch, IsPatched, IsNewlyUsed, IsChange}
+use Rattle.heap_model.specs.Changes.{Patch, IsPatch, IsPatched}
+use Rattle.heap_model.proofs.EdenChanges.{IsBehindUsed, EdenChange}
 use Rattle.heap_model.proofs.CellsApart.{IsOfCell, cells_apart, cell_extent_stands, ends_within, used_few}
 use Rattle.heap_model.proofs.RowCovers.{covered}
 
@@ -22,7 +23,7 @@ use Rattle.heap_model.proofs.RowCovers.{covered}
 pub record Patching (old new : Heap) (patches : List Patch) (made : List Cell) : Type 0 where
   pub sized : HasSizes old
   pub rows : HasRows old
-  pub change : IsChange old new patches made
+  pub change : EdenChange old new patches made
 
 -- no patch has the address
 abbrev pub IsFree : List Patch → ℕ → Type 0
@@ -121,22 +122,27 @@ eden_ends : (heap : Heap) (row : Row) → row.extent ≡ extent_of heap.space Ed
     → row.end ≡ eden_start heap.space + heap.used
 eden_ends heap row same used = subst (λ (extent : Extent). EndsUsed heap extent row.end extent.region) same used.ends
 
--- no address of a cell is newly used
-pub not_new : {old new : Heap} {patches : List Patch} {made : List Cell} {cell : Cell} {words : List ℕ} {at : ℕ}
-    → Patching old new patches made → HasCell old cell words → IsOfCell cell at → IsNewlyUsed old new at → ⊥
-not_new {old} {new} {cell = cell} {at = at} patching has of_cell is_new =
+-- no address of a cell is behind the used words of eden
+pub cell_not_behind : {old new : Heap} {cell : Cell} {words : List ℕ} {at : ℕ} → HasRows old
+    → new.used ≤ old.space.sizes.young → HasCell old cell words → IsOfCell cell at → IsBehindUsed old new at → ⊥
+cell_not_behind {old} {cell = cell} {at = at} rows few has of_cell behind =
     let row : Row = has.row in
     let in_eden : ContainsAddress (extent_of old.space Eden) at =
-    record { from = omega (arith, is_new.from); below = omega (arith, is_new.below, new_few patching) } in
+    record { from = omega (arith, behind.from); below = omega (arith, behind.below, few) } in
     let same : row.extent ≡ extent_of old.space Eden =
     disjoint old.space row.extent (extent_of old.space Eden) at (cell_extent_stands old.space row.extent has.in_region)
-    (eden_stands old.space) (row_holds patching.rows has.in_region has.used has.in_row of_cell) in_eden in
+    (eden_stands old.space) (row_holds rows has.in_region has.used has.in_row of_cell) in_eden in
     let within = cell_within old.space old.words row.extent.start row.end row.cells cell has.used.stands has.in_row in
-    omega (arith, within.1, eden_ends old row same has.used, is_new.from, of_cell.below)
+    omega (arith, within.1, eden_ends old row same has.used, behind.from, of_cell.below)
+
+-- so no address of a cell is newly used
+pub not_new : {old new : Heap} {patches : List Patch} {made : List Cell} {cell : Cell} {words : List ℕ} {at : ℕ}
+    → Patching old new patches made → HasCell old cell words → IsOfCell cell at → IsBehindUsed old new at → ⊥
+not_new patching has of_cell is_new = cell_not_behind patching.rows (new_few patching) has of_cell is_new
 
 -- nor is one of a patch
 pub patched_not_new : {old new : Heap} {patches : List Patch} {made : List Cell} {patch : Patch} {at : ℕ}
-    → Patching old new patches made → Contains patches patch → IsPatched at patch → IsNewlyUsed old new at → ⊥
+    → Patching old new patches made → Contains patches patch → IsPatched at patch → IsBehindUsed old new at → ⊥
 patched_not_new {old} {patch = patch} {at} patching there patched is_new =
     let is = patch_is patching there in
     let one = covered old.space old.words patch.from patch.to patch.before at is.stood patched.from patched.below in

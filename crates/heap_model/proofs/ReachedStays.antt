@@ -11,6 +11,7 @@ use Rattle.heap_model.specs.Heaps.{Heap, words_of_cell}
 use Rattle.heap_model.specs.Slots.{is_object_kind, IsPlace}
 use Rattle.heap_model.specs.Showing.{ShowsReached}
 use Rattle.heap_model.specs.Changes.{IsShown}
+use Rattle.heap_model.proofs.CellOutcomes.{object_is_no_filler, stays_standing}
 use Rattle.heap_model.proofs.Moves.{Moves}
 use Rattle.heap_model.proofs.KeptObjects.{Keeps}
 use Rattle.heap_model.proofs.PlacesBefore.{AreNumberedFrom, place_before}
@@ -41,7 +42,8 @@ pub reached_stays : {old new : Heap} {gone came made : List Cell} (count : ℕ) 
 reached_stays {old} {new} {gone} count before after number what moves numbered marked below shown stood keys =
     let object = object_of_shown old before shown.cell shown.words what shown.shows in
     let not_gone = λ (there : Contains gone shown.cell). stood shown.cell there object shown.carries in
-    let has = moves.cells.kept shown.cell shown.words shown.has not_gone in
+    let no_filler = object_is_no_filler shown.cell.layout.kind object in
+    let has = stays_standing moves.cells shown.has no_filler not_gone in
     let keeps : Keeps old new gone shown.cell shown.words =
     record { had = shown.has; has = has; not_gone = not_gone; object = object } in
     record {

@@ -8,7 +8,7 @@ use Rattle.heap_model.specs.Wholeness.{Whole}
 use Rattle.heap_model.specs.Laws.{bound}
 use Rattle.heap_model.specs.Remembered.{IsPageSlot, RefersToYoung, AreRemembered}
 use Rattle.heap_model.proofs.BoundRoots.{with_root_alike}
-use Rattle.heap_model.proofs.BoundHeaps.{none_in, bound_moves}
+use Rattle.heap_model.proofs.BoundHeaps.{none_in, bound_moves, bound_keeps}
 use Rattle.heap_model.proofs.RememberedSlots.{page_slot_below, refers_to_young_stays}
 
 -- the cells of the one heap's pages stand in the other
@@ -67,7 +67,7 @@ bound_pages_alike heap variable one below whole =
     record {
       same_space = refl;
       words = λ at before. alike.cells at (omega (arith, before, roots_start_is heap.space));
-      stand = λ cell words has of_page. (words, moves.cells.kept cell words has (none_in cell));
+      stand = λ cell words has of_page. (words, bound_keeps heap variable one below whole has);
       stood = λ cell words has of_page. elim (moves.cells.back cell words has) [
         | inl there ↦ absurd (none_in cell there)
         | inr was ↦ (words, was.0)

@@ -87,7 +87,7 @@ come_with_rewrites : (rewrites : List Rewrite)
 come_with_rewrites [] = refl
 come_with_rewrites (rewrite ∷ rewrites) = ap (λ more. rewrite.into ++ more) (come_with_rewrites rewrites)
 
--- where only these and newly used words change, those that were rewritten went, and those that they became came
+-- where only these and the run change, those that were rewritten went, and those that they became came
 pub rewrites_keep_cells : RewritesKeepCells
 rewrites_keep_cells old new rewrites made whole change =
     let kept = changes_keep_cells old new (map patch_of rewrites) made whole change in

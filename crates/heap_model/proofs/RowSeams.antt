@@ -58,7 +58,8 @@ pub seam_at_start : {old new : Heap} {patches : List Patch} {made : List Cell} {
 seam_at_start {old} {row = row} context patch there some_left patched =
     let start : ℕ = row.extent.start in
     let room = ends_within old row (used_few context.patching.rows) context.there context.used in
-    let holds : ContainsAddress row.extent start = record { from = omega arith; below = omega (arith, some_left, room) } in
+    let holds : ContainsAddress row.extent start =
+    record { from = omega arith; below = omega (arith, some_left, room) } in
     omega (arith, (patch_in_row context there patched holds).from, patched.from)
 
 -- behind a cell of a patch the old row is in the patch, or at its end

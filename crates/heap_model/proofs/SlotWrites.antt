@@ -11,8 +11,8 @@ use Rattle.cell_layout.specs.Cells.{none}
 use Rattle.cell_layout.specs.CellLaws.{ReadsAlike, IsOfSlot}
 use Rattle.heap_model.specs.Heaps.{Heap}
 use Rattle.heap_model.specs.Wholeness.{HasRows, HasSizes, Whole}
-use Rattle.heap_model.specs.Changes.{IsPatched, Rewrite, IsRewrite, patch_of, written, WritesSlots, IsChange}
-use Rattle.heap_model.specs.Changes.{CellsChange}
+use Rattle.heap_model.specs.Changes.{IsPatched, Rewrite, IsRewrite, patch_of, written, WritesSlots, IsRunOf}
+use Rattle.heap_model.specs.Changes.{IsChange, CellsChange}
 use Rattle.heap_model.specs.Laws.{SlotWritesKeepCells}
 use Rattle.heap_model.proofs.CellsApart.{IsOfCell, has_is_cell, cells_apart, first_of_cell, used_few}
 use Rattle.heap_model.proofs.WordsAlike.{cell_below_roots}
@@ -95,13 +95,16 @@ is_change heap words cells whole writes =
     record {
       same_space = refl;
       same_survivors = refl;
-      grown = omega arith;
       room = whole.rows.few;
       more = [];
       paths = sym (append-nil heap.paths);
       sized = sizes_stay heap words cells whole writes;
       each = are.0;
       apart = are.1;
+      from = eden_start heap.space + heap.used;
+      to = eden_start heap.space + heap.used;
+      run = IsRunOf.of_eden refl refl (omega arith);
+      beside = λ patch at there patched above below. omega arith;
       made_stand = none (eden_start heap.space + heap.used);
       cells_stay = λ at below free not_new. writes.stay at (λ cell offset there slot same.
           let among = in_map patch_of rewrites (by_itself cell) (in_map by_itself cells cell there) in

@@ -89,12 +89,14 @@ came_beside {old} {half = half} cell whole change collectable came inside =
     collectable.empty other (words_of_cell old other) has
     (begins_in_half half cell.at whole.rows has of_other inside)
 
--- what was made stands in eden
+-- what was made stands in eden or in a page
 made_beside : {old new : Heap} (half at : ℕ) → HasRows new → new.space ≡ old.space → IsNewlyUsed old new at
     → IsInHalf old.space half at → ⊥
-made_beside {old} {new} half at rows same is_new inside =
+made_beside {old} {new} half at rows same (IsNewlyUsed.of_eden from below) inside =
     let young : new.space.sizes.young ≡ old.space.sizes.young = ap (λ (s : Space). s.sizes.young) same in
-    omega (arith, half_behind old.space half at inside, is_new.below, rows.few, young)
+    omega (arith, half_behind old.space half at inside, below, rows.few, young)
+made_beside {old} half at rows same (IsNewlyUsed.of_page filler below) inside =
+    omega (arith, half_behind old.space half at inside, below)
 
 -- a heap whose objects change inside their own cells stays so
 pub own_changes_stay_collectable : OwnChangesStayCollectable

@@ -1,92 +1,70 @@
--- Where only patches and newly used words change, cells stand in rows again, and all but those of the patches are as
--- before.
-use Rattle.std.proofs.Common.{◌≢◌, ℕ, ◌+◌, inl, inr, List, ◌++◌, Contains}
-use Rattle.std.proofs.Common.{sym, subst}
-use Rattle.std.proofs.lemmas.List.Elements.{Contains-append_cases}
+-- Where only patches and the run change, cells stand in rows again, and all but those of the patches are as before.
+use Rattle.std.proofs.Common.{◌≡◌, ℕ, ◌+◌, ◌≤◌, List, subst, arith}
 use Rattle.page_space.specs.Extents.{eden_start}
+use Rattle.cell_layout.specs.Cells.{IsRow}
 use Rattle.heap_model.specs.Types.{Cell}
-use Rattle.heap_model.specs.Heaps.{Heap, HasCell, words_of_cell}
-use Rattle.heap_model.specs.Changes.{Patch, IsNewlyUsed, BeginsInOneOf, CellsChange}
+use Rattle.heap_model.specs.Heaps.{Heap}
+use Rattle.heap_model.specs.Wholeness.{HasRows, Whole}
+use Rattle.heap_model.specs.Changes.{Patch, IsRunOf, IsNewlyUsed, IsChange, CellsChange}
 use Rattle.heap_model.specs.Laws.{ChangesKeepCells, gone_with, come_with}
-use Rattle.heap_model.proofs.CellsApart.{first_of_cell}
-use Rattle.heap_model.proofs.RowCovers.{covered, from_one, of_one}
-use Rattle.heap_model.proofs.Patches.{Patching, patch_is, before_has, not_new, spot}
-use Rattle.heap_model.proofs.RowParts.{after_stands}
-use Rattle.heap_model.proofs.NewRows.{has_rows, made_stands}
-use Rattle.heap_model.proofs.NewCells.{came_cell, first_of_row, after_is_patched, made_is_new}
-use Rattle.heap_model.proofs.KeptCells.{made_cell, kept_cell, not_gone_is_free, cell_back}
+use Rattle.heap_model.proofs.EdenChanges.{EdenChange, EdenCellsChange}
+use Rattle.heap_model.proofs.Patches.{Patching}
+use Rattle.heap_model.proofs.NewRows.{has_rows}
+use Rattle.heap_model.proofs.PatchedCells.{cells_change}
+use Rattle.heap_model.proofs.FilledPages.{page_keeps_cells}
 
--- what went stood in the old heap
-went_stood : {old new : Heap} {patches : List Patch} {made : List Cell} (cell : Cell) → Patching old new patches made
-    → Contains (gone_with patches) cell → HasCell old cell (words_of_cell old cell)
-went_stood {patches = patches} cell patching gone =
-    let one = from_one (λ (patch : Patch). patch.before) patches cell gone in
-    before_has (patch_is patching one.among) one.has
-
--- what came or was made stands in the new one
-comes_stands : {old new : Heap} {patches : List Patch} {made : List Cell} (cell : Cell) → Patching old new patches made
-    → Contains (come_with patches ++ made) cell → HasCell new cell (words_of_cell new cell)
-comes_stands {patches = patches} {made} cell patching there =
-    elim (Contains-append_cases (come_with patches) made cell there) [
-      | inl came ↦
-          let one = from_one (λ (patch : Patch). patch.after) patches cell came in
-          came_cell patching one.among one.has
-      | inr is_made ↦ made_cell patching is_made
-    ]
-
--- what came begins in the words of what went
-came_in_place : {old new : Heap} {patches : List Patch} {made : List Cell} (cell : Cell)
-    → Patching old new patches made → Contains (come_with patches) cell → BeginsInOneOf (gone_with patches) cell
-came_in_place {old} {new} {patches} cell patching came =
-    let one = from_one (λ (patch : Patch). patch.after) patches cell came in
-    let patch : Patch = one.one in
-    let stands = after_stands patching one.among in
-    let of_cell = first_of_row old.space new.words patch.from patch.to patch.after cell stands one.has in
-    let patched = after_is_patched patching one.among one.has of_cell in
-    let stood = (patch_is patching one.among).stood in
-    let before =
-    covered old.space old.words patch.from patch.to patch.before cell.at stood patched.from patched.below in
+-- a change whose run is behind the used words of eden
+eden_change : {old new : Heap} {patches : List Patch} {made : List Cell} (change : IsChange old new patches made)
+    → change.from ≡ eden_start old.space + old.used → change.to ≡ eden_start old.space + new.used
+    → old.used ≤ new.used → EdenChange old new patches made
+eden_change {old} {new} {made = made} change begins ends grown =
+    let From : ℕ → Type 0 = λ from. IsRow new.space new.words from change.to made in
+    let To : ℕ → Type 0 = λ to. IsRow new.space new.words (eden_start old.space + old.used) to made in
     record {
-      other = before.cell;
-      among = of_one (λ (some : Patch). some.before) patches patch before.cell one.among before.among;
-      from = before.of_cell.from;
-      below = before.of_cell.below;
+      same_space = change.same_space;
+      same_survivors = change.same_survivors;
+      grown = grown;
+      room = change.room;
+      more = change.more;
+      paths = change.paths;
+      sized = change.sized;
+      each = change.each;
+      apart = change.apart;
+      made_stand = subst To ends (subst From begins change.made_stand);
+      cells_stay = λ at below free not_new. change.cells_stay at below free
+          (λ above before. not_new record { from = omega (arith, above, begins); below = omega (arith, before, ends) });
+      roots_stay = change.roots_stay;
     }
 
--- what was made begins in newly used words
-made_newly : {old new : Heap} {patches : List Patch} {made : List Cell} (cell : Cell)
-    → Patching old new patches made → Contains made cell → IsNewlyUsed old new cell.at
-made_newly {old} {new} {made = made} cell patching there =
-    let from : ℕ = eden_start old.space + old.used in
-    let to : ℕ = eden_start old.space + new.used in
-    made_is_new patching there (first_of_row old.space new.words from to made cell (made_stands patching) there)
-
--- no cell began where one was made
-new_place : {old new : Heap} {patches : List Patch} {made : List Cell} (cell other : Cell) (words : List ℕ)
-    → Patching old new patches made → Contains made cell → HasCell old other words → other.at ≢ cell.at
-new_place {old} {new} cell other words patching there has same =
-    not_new patching has (first_of_cell has)
-    (subst (IsNewlyUsed old new) (sym same) (made_newly cell patching there))
-
--- the cells change by those of the patches
-cells_change : {old new : Heap} {patches : List Patch} {made : List Cell} → Patching old new patches made
-    → CellsChange old new (gone_with patches) (come_with patches) made
-cells_change {patches = patches} patching = record {
-  same_space = patching.change.same_space;
-  more = patching.change.more;
-  paths = patching.change.paths;
-  went = λ cell there. went_stood cell patching there;
-  comes = λ cell there. comes_stands cell patching there;
-  kept = λ cell words has stays. kept_cell patching has (not_gone_is_free patching has stays (spot patches cell.at));
-  back = λ cell words has. cell_back patching has;
-  in_place = λ cell there. came_in_place cell patching there;
-  newly = λ cell there. made_newly cell patching there;
-  new_places = λ cell other words there has. new_place cell other words patching there has;
-  roots_stay = patching.change.roots_stay;
+-- how cells change by it
+eden_cells_change : {old new : Heap} {gone came made : List Cell} {patches : List Patch}
+    → IsChange old new patches made → EdenCellsChange old new gone came made → CellsChange old new gone came made
+eden_cells_change change eden = record {
+  same_space = change.same_space;
+  more = change.more;
+  paths = change.paths;
+  went = eden.went;
+  comes = eden.comes;
+  kept = λ cell words has stays not_filled. eden.kept cell words has stays;
+  back = eden.back;
+  in_place = eden.in_place;
+  newly = λ cell there. let behind = eden.newly cell there in IsNewlyUsed.of_eden behind.from behind.below;
+  new_places = λ cell other words there has same. absurd (eden.new_places cell other words there has same);
+  roots_stay = change.roots_stay;
 }
 
--- changes of patches and of newly used words keep cells
+-- where patches and the run change, by the kinds of runs
+keep_cells : {old new : Heap} {patches : List Patch} {made : List Cell} → Whole old
+    → (change : IsChange old new patches made) → IsRunOf old new change.from change.to
+    → HasRows new × CellsChange old new (gone_with patches) (come_with patches) made
+keep_cells {old} {new} {patches} {made} whole change (IsRunOf.of_eden begins ends grown) =
+    let patching : Patching old new patches made =
+    record { sized = whole.sized; rows = whole.rows; change = eden_change change begins ends grown } in
+    (has_rows patching, eden_cells_change change (cells_change patching))
+keep_cells whole change (IsRunOf.of_page forward same fillers) =
+    page_keeps_cells
+    record { whole = whole; change = change; forward = forward; same_used = same; fillers = fillers }
+
+-- changes of patches and of the run keep cells
 pub changes_keep_cells : ChangesKeepCells
-changes_keep_cells old new patches made whole change =
-    let patching : Patching old new patches made = record { sized = whole.sized; rows = whole.rows; change = change } in
-    (has_rows patching, cells_change patching)
+changes_keep_cells old new patches made whole change = keep_cells whole change change.run

@@ -5,7 +5,7 @@ use Rattle.tagged_word.specs.declared.layout.Kind.TheVariants as kind
 use Rattle.heap_model.specs.Types.{Path, Object, Cell}
 use Rattle.object_graph.specs.Graphs.{Graph}
 use Rattle.object_graph.specs.Reach.{is_marked, reach}
-use Rattle.page_space.specs.Extents.{eden_start, roots_start, layouts_start}
+use Rattle.page_space.specs.Extents.{Extent, eden_start, roots_start, layouts_start}
 use Rattle.cell_layout.specs.Cells.{IsRow}
 use Rattle.cell_layout.specs.CellLaws.{IsOfSlot}
 use Rattle.heap_model.specs.Heaps.{Heap, Row, IsUsedRow, HasCell, cell_extents, words_of_cell}
@@ -43,10 +43,35 @@ PatchesDisjoint patches =
     (one other : Patch) (at : ℕ) → Contains patches one → Contains patches other → IsPatched at one → IsPatched at other
     → one ≡ other
 
--- the address is behind the used words of eden in the old heap, and among them in the new one
-pub record IsNewlyUsed (old new : Heap) (at : ℕ) : Type 0 where
-  pub from : eden_start old.space + old.used ≤ at
-  pub below : at < eden_start old.space + new.used
+-- a filler, which has one word, stands at the address
+pub record IsFillerAt (heap : Heap) (at : ℕ) : Type 0 where
+  pub cell : Cell
+  pub words : List ℕ
+  pub has : HasCell heap cell words
+  pub stands : cell.at ≡ at
+  pub filler : cell.layout.kind ≡ kind.Filler
+
+-- The words from an address up to another are of one page, and each is a filler.
+pub record AreFillers (heap : Heap) (from to : ℕ) : Type 0 where
+  pub extent : Extent
+  pub among : Contains (cell_extents heap.space) extent
+  pub begins : extent.start ≤ from
+  pub ends : to ≤ extent.start + extent.words
+  pub of_page : to ≤ eden_start heap.space
+  pub each : (at : ℕ) → from ≤ at → at < to → IsFillerAt heap at
+
+-- The words in which cells are made, from an address up to another: those behind the used words of eden, which are used
+-- from then on; or fillers of a page, while as much of eden is used as before.
+pub data IsRunOf (old new : Heap) (from to : ℕ) : Type 0 where
+  of_eden : from ≡ eden_start old.space + old.used → to ≡ eden_start old.space + new.used → old.used ≤ new.used
+      → IsRunOf old new from to
+  of_page : from ≤ to → new.used ≡ old.used → AreFillers old from to → IsRunOf old new from to
+
+-- The address is behind the used words of eden in the old heap, and among them in the new one; or a filler of a page
+-- stood there.
+pub data IsNewlyUsed (old new : Heap) (at : ℕ) : Type 0 where
+  of_eden : eden_start old.space + old.used ≤ at → at < eden_start old.space + new.used → IsNewlyUsed old new at
+  of_page : IsFillerAt old at → at < eden_start old.space → IsNewlyUsed old new at
 
 -- a cell, and the cells that come to stand in its words
 pub record Rewrite : Type 0 where
@@ -79,21 +104,24 @@ pub record WritesSlots (heap : Heap) (words : List ℕ) (cells : List Cell) : Ty
       → ((cell : Cell) (offset : ℕ) → Contains cells cell → IsOfSlot cell offset → cell.at + offset ≢ at)
       → slice_get words at ≡ slice_get heap.words at
 
--- Only words of the patches and words that are newly used have changed, and layout words of shapes that are new. Cells
--- stand in the newly used words.
+-- Only words of the patches and of the run have changed, and layout words of shapes that are new. Cells were made that
+-- stand in the run, which has no word of a patch.
 pub record IsChange (old new : Heap) (patches : List Patch) (made : List Cell) : Type 0 where
   pub same_space : new.space ≡ old.space
   pub same_survivors : new.survivors ≡ old.survivors
-  pub grown : old.used ≤ new.used
   pub room : new.survivors + new.used ≤ new.space.sizes.young
   pub more : List Path
   pub paths : new.paths ≡ old.paths ++ more
   pub sized : HasSizes new
   pub each : All (IsPatch old new) patches
   pub apart : PatchesDisjoint patches
-  pub made_stand : IsRow new.space new.words (eden_start old.space + old.used) (eden_start old.space + new.used) made
+  pub from : ℕ
+  pub to : ℕ
+  pub run : IsRunOf old new from to
+  pub beside : (patch : Patch) (at : ℕ) → Contains patches patch → IsPatched at patch → from ≤ at → at < to → ⊥
+  pub made_stand : IsRow new.space new.words from to made
   pub cells_stay : (at : ℕ) → at < roots_start old.space → (All (λ patch. IsPatched at patch → ⊥) patches)
-      → (IsNewlyUsed old new at → ⊥) → slice_get new.words at ≡ slice_get old.words at
+      → (from ≤ at → at < to → ⊥) → slice_get new.words at ≡ slice_get old.words at
   pub roots_stay : (at : ℕ) → roots_start old.space ≤ at → at < layouts_start old.space
       → slice_get new.words at ≡ slice_get old.words at
 
@@ -104,9 +132,14 @@ pub record BeginsInOneOf (cells : List Cell) (cell : Cell) : Type 0 where
   pub from : other.at ≤ cell.at
   pub below : cell.at < other.at + other.size
 
+-- a filler stood where one of these cells was made
+pub record IsFilled (made : List Cell) (cell : Cell) : Type 0 where
+  pub filler : cell.layout.kind ≡ kind.Filler
+  pub begins : BeginsInOneOf made cell
+
 -- The cells of the new heap: those that went are replaced by those that came, each of which begins in words of one that
--- went, and all others stand as before. The cells that were made stand where no cell began before, in words that are
--- newly used.
+-- went, and all others stand as before, but for fillers in whose words cells were made. These begin in words that are
+-- newly used, where no other cell began before.
 pub record CellsChange (old new : Heap) (gone came made : List Cell) : Type 0 where
   pub same_space : new.space ≡ old.space
   pub more : List Path
@@ -114,13 +147,13 @@ pub record CellsChange (old new : Heap) (gone came made : List Cell) : Type 0 wh
   pub went : (cell : Cell) → Contains gone cell → HasCell old cell (words_of_cell old cell)
   pub comes : (cell : Cell) → Contains (came ++ made) cell → HasCell new cell (words_of_cell new cell)
   pub kept : (cell : Cell) (words : List ℕ) → HasCell old cell words → (Contains gone cell → ⊥)
-      → HasCell new cell words
+      → (IsFilled made cell → ⊥) → HasCell new cell words
   pub back : (cell : Cell) (words : List ℕ) → HasCell new cell words
       → Contains (came ++ made) cell ⊎ (HasCell old cell words × (Contains gone cell → ⊥))
   pub in_place : (cell : Cell) → Contains came cell → BeginsInOneOf gone cell
   pub newly : (cell : Cell) → Contains made cell → IsNewlyUsed old new cell.at
   pub new_places : (cell other : Cell) (words : List ℕ) → Contains made cell → HasCell old other words
-      → other.at ≢ cell.at
+      → other.at ≡ cell.at → other.layout.kind ≡ kind.Filler
   pub roots_stay : (at : ℕ) → roots_start old.space ≤ at → at < layouts_start old.space
       → slice_get new.words at ≡ slice_get old.words at
 
@@ -146,13 +179,14 @@ pub record IsStillBox (others : List Cell) (cell : Cell) : Type 0 where
   pub place : other.at ≡ cell.at
   pub box : other.layout.kind ≡ kind.Boxed
 
--- no cell of the heap begins at the address
+-- no cell of the heap begins at the address, but for a filler
 abbrev pub IsNewPlace : Heap → ℕ → Type 0
-IsNewPlace heap at = (cell : Cell) (words : List ℕ) → HasCell heap cell words → cell.at ≢ at
+IsNewPlace heap at =
+    (cell : Cell) (words : List ℕ) → HasCell heap cell words → cell.at ≡ at → cell.layout.kind ≡ kind.Filler
 
 -- What a change of cells owes. All that went is some objects' own, and these went too. Each object that went stands
 -- where it stood, and each box. What came is sound. A cell that an object of those that came or were made names was
--- named by an object that went, or stands where none began before; and none is named twice by these.
+-- named by an object that went, or stands where none began before but a filler; and none is named twice by these.
 pub record IsOwnChange (old new : Heap) (gone came made : List Cell) : Type 0 where
   pub own : (cell : Cell) → Contains gone cell → IsOwnOf old gone cell
   pub objects_stay : (cell : Cell) → Contains gone cell → IsTrue (is_object_kind cell.layout.kind) → IsStill came cell

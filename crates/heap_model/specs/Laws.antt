@@ -27,8 +27,7 @@ gone_with patches = flat_map (λ patch. patch.before) patches
 abbrev pub come_with : List Patch → List Cell
 come_with patches = flat_map (λ patch. patch.after) patches
 
--- Where only patches and newly used words change, cells stand in rows again, and all but those of the patches are as
--- before.
+-- Where only patches and the run change, cells stand in rows again, and all but those of the patches are as before.
 abbrev pub ChangesKeepCells : Type 0
 ChangesKeepCells =
     (old new : Heap) (patches : List Patch) (made : List Cell) → Whole old → IsChange old new patches made
@@ -40,7 +39,7 @@ RewritesArePatches =
     (old new : Heap) (rewrites : List Rewrite) → HasRows old → All (IsRewrite old new) rewrites
     → All (IsPatch old new) (map patch_of rewrites) × PatchesDisjoint (map patch_of rewrites)
 
--- Where only these and newly used words change, those that were rewritten went, and those that they became came.
+-- Where only these and the run change, those that were rewritten went, and those that they became came.
 abbrev pub RewritesKeepCells : Type 0
 RewritesKeepCells =
     (old new : Heap) (rewrites : List Rewrite) (made : List Cell) → Whole old

@@ -5,8 +5,8 @@ use Rattle.tagged_word.specs.Readings.{reference_in}
 use Rattle.page_space.specs.Extents.{eden_start}
 use Rattle.heap_model.specs.Types.{Cell}
 use Rattle.heap_model.specs.Heaps.{Heap, HasCell}
-use Rattle.heap_model.specs.Wholeness.{Whole}
-use Rattle.heap_model.specs.Changes.{CellsChange}
+use Rattle.heap_model.specs.Wholeness.{HasRows, Whole}
+use Rattle.heap_model.specs.Changes.{IsFillerAt, CellsChange}
 
 -- the address is that of a slot of the cell which a scavenge visits
 pub record IsSlotOf (cell : Cell) (at : ℕ) : Type 0 where
@@ -69,19 +69,39 @@ pub record IsInOneOf (cells : List Cell) (at : ℕ) : Type 0 where
   pub from : cell.at ≤ at
   pub below : at < cell.at + cell.size
 
--- In place of cells of a heap, whose young generation begins at `eden`, others came. Touched were only words of those
--- that went; what was put as a slot's word is in a slot of those that came, and what was wiped in none; and a word that
--- was not touched is a slot of those that came exactly where it was one of those that went.
-pub record TouchesCells (eden : ℕ) (gone came : List Cell) (touch : ℕ → Touch) : Type 0 where
-  pub within : (at : ℕ) → at < eden → (touch at ≡ Touch.Kept) ⊎ IsInOneOf gone at
-  pub stored : (at : ℕ) → at < eden → touch at ≡ Touch.Stored → IsSlotOfOne came at
-  pub wiped : (at : ℕ) → at < eden → touch at ≡ Touch.Wiped → IsSlotOfOne came at → ⊥
-  pub kept : (at : ℕ) → at < eden → touch at ≡ Touch.Kept → IsSlotOfOne gone at ↔ IsSlotOfOne came at
+-- In place of cells of a heap, whose young generation begins at `eden`, others came. Beside the words from an address up
+-- to another, in which cells were made, touched were only words of those that went; what was put as a slot's word is in a
+-- slot of those that came, and what was wiped in none; and a word that was not touched is a slot of those that came
+-- exactly where it was one of those that went.
+pub record TouchesBeside (eden from to : ℕ) (gone came : List Cell) (touch : ℕ → Touch) : Type 0 where
+  pub within : (at : ℕ) → at < eden → (from ≤ at → at < to → ⊥) → (touch at ≡ Touch.Kept) ⊎ IsInOneOf gone at
+  pub stored : (at : ℕ) → at < eden → (from ≤ at → at < to → ⊥) → touch at ≡ Touch.Stored → IsSlotOfOne came at
+  pub wiped : (at : ℕ) → at < eden → (from ≤ at → at < to → ⊥) → touch at ≡ Touch.Wiped → IsSlotOfOne came at → ⊥
+  pub kept : (at : ℕ) → at < eden → (from ≤ at → at < to → ⊥) → touch at ≡ Touch.Kept
+      → IsSlotOfOne gone at ↔ IsSlotOfOne came at
 
--- Where cells of a heap change, and what was touched is of those that went and came, the list stays right.
+-- The words from an address up to another of which cells were made: those of pages were fillers. Each word is of a cell
+-- that was made, and these have their slots there. What was put as a slot's word is in a slot of these, and what was
+-- wiped or not touched in none.
+pub record TouchesMade (old : Heap) (from to : ℕ) (made : List Cell) (touch : ℕ → Touch) : Type 0 where
+  pub fillers : (at : ℕ) → at < eden_start old.space → from ≤ at → at < to → IsFillerAt old at
+  pub covers : (at : ℕ) → from ≤ at → at < to → IsInOneOf made at
+  pub within : (at : ℕ) → IsSlotOfOne made at → (from ≤ at) × (at < to)
+  pub stored : (at : ℕ) → at < eden_start old.space → from ≤ at → at < to → touch at ≡ Touch.Stored
+      → IsSlotOfOne made at
+  pub slots : (at : ℕ) → at < eden_start old.space → IsSlotOfOne made at → touch at ≡ Touch.Stored
+
+-- Cells of a heap went, others came in their place, and cells were made; this is how their words were touched.
+pub record TouchesCells (old : Heap) (gone came made : List Cell) (touch : ℕ → Touch) : Type 0 where
+  pub from : ℕ
+  pub to : ℕ
+  pub beside : TouchesBeside (eden_start old.space) from to gone came touch
+  pub of_made : TouchesMade old from to made touch
+
+-- Where cells of a heap change, and their words were touched so, the list stays right.
 abbrev pub ChangesStayRemembered : Type 0
 ChangesStayRemembered =
     (old new : Heap) (gone came made : List Cell) (were are : List ℕ) (touch : ℕ → Touch) → Whole old
-    → CellsChange old new gone came made
+    → HasRows new → CellsChange old new gone came made
     → Records (eden_start old.space) old.words new.words were are touch
-    → TouchesCells (eden_start old.space) gone came touch → AreRemembered old were → AreRemembered new are
+    → TouchesCells old gone came made touch → AreRemembered old were → AreRemembered new are

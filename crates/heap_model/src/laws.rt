@@ -3,13 +3,13 @@ ghost use Rattle.heap_model.specs.Laws.{OwnChangesKeepWhole, OwnChangesShow, Mad
 ghost use Rattle.heap_model.specs.Laws.{BindingsShow, NewBindingsShow, NewObjectsShow};
 ghost use Rattle.heap_model.specs.Laws.{NewObjectsAreNoKeys};
 ghost use Rattle.heap_model.specs.Rooms.{ShownObjectsHaveRooms};
-ghost use Rattle.heap_model.specs.Collectable.{OwnChangesStayCollectable, OwnChangesKeepFree};
+ghost use Rattle.heap_model.specs.Collectable.{OwnChangesStayCollectable, OwnChangesKeepFree, OwnChangesKeepFillers};
 ghost use Rattle.heap_model.specs.Remembered.{ChangesStayRemembered};
 ghost use Rattle.heap_model.specs.Laws.{ChangesKeepCells, RewritesArePatches, RewritesKeepCells, SlotWritesKeepCells};
 
 /// A heap whose objects change inside their own cells is whole again, and shows the graph in which
 /// these objects are what their cells show; no cell comes to the half that is empty, and free runs
-/// stay free. A cell that was made and refers to nothing is such a change. Where each
+/// and fillers stay of which no cell is made. A cell that was made and refers to nothing is such a change. Where each
 /// touch of a word of a page was recorded, the list of the slots of pages that refer to young cells
 /// stays right.
 pub fn laws_of_changes()
@@ -18,6 +18,7 @@ pub fn laws_of_changes()
     ensures made { MadeCellsAreOwn }
     ensures collectable { OwnChangesStayCollectable }
     ensures free { OwnChangesKeepFree }
+    ensures fillers { OwnChangesKeepFillers }
     ensures remembered { ChangesStayRemembered }
 {}
 

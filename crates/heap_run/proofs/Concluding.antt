@@ -55,7 +55,8 @@ keeps how line n is reached spent =
 Runs-ended : (sizes : Sizes) (bytes : List ℕ) (script : ScriptText) (image : HeapImage) (how : How) (line n status : ℕ)
     (old mid new : List ℕ → Type 0) (faults_old faults_mid faults_new : ℕ) → reading bytes ≡ Ok script
     → IsKeepable sizes script image → (reached : RanTo script (image_heap image) n)
-    → HasSpent script (image_heap image) n → EndsRun script (image_heap image) n reached.so_far how line
+    → (spent : HasSpent script (image_heap image) n)
+    → EndsRun script (image_heap image) spent.last.rows n reached.so_far how line
     → Appends old mid reached.so_far.bytes → faults_mid ≡ faults_old
     → Lasts how line mid new faults_mid faults_new status → (status ≡ 5) ⊎ (status ≢ 5)
     → Runs sizes bytes old new faults_old faults_new (ended_by image how line n status)

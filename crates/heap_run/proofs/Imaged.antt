@@ -2,7 +2,7 @@
 use Rattle.std.proofs.Common.{◌≡◌, ℕ, ◌+◌, List, [], ◌∷◌, Option, Some, None, ap, ◌∙◌, sym}
 use Rattle.std.proofs.Common.{subst, inl, inr, IsTrue}
 use Rattle.std.proofs.Common.{nat_lt}
-use Rattle.heap_model.specs.Types.{Command}
+use Rattle.heap_model.specs.Types.{Command, Run}
 use Rattle.heap_command.specs.Executed.{Executed}
 use Rattle.page_space.specs.Extents.{Space}
 use Rattle.object_graph.specs.Graphs.{Graph}
@@ -12,7 +12,7 @@ use Rattle.heap_model.specs.Heaps.{Heap}
 use Rattle.heap_model.specs.Wholeness.{Whole}
 use Rattle.heap_model.specs.Showing.{Shows}
 use Rattle.collector.specs.Images.{IsImageOf}
-use Rattle.collector.specs.ImageLaws.{ImagesShow, ImagesKeepStores, ImagesHaveRooms, ImagesAreTight}
+use Rattle.collector.specs.ImageLaws.{ImagesShow, ImagesKeepStores, ImagesHaveRooms, ImagesAreTight, ImagesKeepFree}
 use Rattle.heap_script.specs.declared.finished.How.{How}
 use Rattle.heap_script.specs.declared.finished.How.TheVariants as how
 use Rattle.heap_script.specs.declared.finished.Finished.{Finished}
@@ -25,6 +25,7 @@ pub record Laws : Type 0 where
   pub stores : ImagesKeepStores
   pub rooms : ImagesHaveRooms
   pub tight : ImagesAreTight
+  pub free : ImagesKeepFree
 
 -- the run has come so far on the image too
 abbrev pub reached_imaged : {script : ScriptText} {heap image : Heap} {n : ℕ} → Laws → IsImageOf heap image
@@ -45,8 +46,9 @@ graph_is r l =
     let same : r.so_far ≡ l.so_far = cc (r.said, l.said) in
     ap (λ (so_far : Told). so_far.graph) same
 
--- as many words are used on the image, stores have as many slots, and objects have the same rooms
-spent_imaged : {script : ScriptText} {heap image : Heap} {n : ℕ} → Laws → RanTo script heap n
+-- as many words are used on the image, stores have as many slots, objects have the same rooms, and the same runs are
+-- free
+abbrev spent_imaged : {script : ScriptText} {heap image : Heap} {n : ℕ} → Laws → RanTo script heap n
     → IsImageOf heap image → HasSpent script heap n → HasSpent script image n
 spent_imaged {heap = heap} {image = image} laws r is spent = record {
   last = spent.last;
@@ -63,11 +65,12 @@ spent_imaged {heap = heap} {image = image} laws r is spent = record {
       let graph = spent.reached.so_far.graph in
       (laws.rooms heap image graph rooms (subst (Shows heap) (graph_is r spent.reached) r.shown) is).0
       (spent.rooms rooms has);
+  free = laws.free heap image spent.last.rows r.shown.whole spent.free is;
 }
 
 -- an image is as full as the heap
-as_full : {heap image : Heap} (need : ℕ) → Laws → Whole heap → IsImageOf heap image → IsFull heap need
-    → IsFull image need
+as_full : {heap image : Heap} {rows : List (List Run)} (need : ℕ) → Laws → Whole heap → IsImageOf heap image
+    → IsFull heap rows need → IsFull image rows need
 as_full {heap} {image} need laws whole is full =
     let space : heap.space ≡ image.space = sym is.space in
     let survivors : heap.survivors ≡ image.survivors = sym is.survivors in
@@ -78,63 +81,66 @@ as_full {heap} {image} need laws whole is full =
       lacks = subst (λ (s : Space). IsTrue (nat_lt s.sizes.young (image.survivors + image.used + need))) space
           (subst (λ (n : ℕ). IsTrue (nat_lt heap.space.sizes.young (n + image.used + need))) survivors
           (subst (λ (n : ℕ). IsTrue (nat_lt heap.space.sizes.young (heap.survivors + n + need))) used full.lacks));
+      runs = full.runs;
     }
 
 -- it is full for the command of a line, if the heap is
-full_for : {heap image : Heap} (graph : Graph) (need : ℕ) (command : Option Command) → Laws → Shows heap graph
-    → IsImageOf heap image → LacksRoomFor heap graph need command → LacksRoomFor image graph need command
-full_for graph need None laws shows is full = full
-full_for {heap = heap} {image = image} graph need (Some command) laws shows is (needs, full) = (
+full_for : {heap image : Heap} (rows : List (List Run)) (graph : Graph) (need : ℕ) (command : Option Command) → Laws
+    → Shows heap graph → IsImageOf heap image → LacksRoomFor heap rows graph need command
+    → LacksRoomFor image rows graph need command
+full_for rows graph need None laws shows is full = full
+full_for {heap = heap} {image = image} rows graph need (Some command) laws shows is (needs, full) = (
   λ rooms has. needs rooms ((laws.rooms heap image graph rooms shows is).1 has),
   as_full need laws shows.whole is full,
 )
 
 -- so at the first of the lines that are left
-full_at : {heap image : Heap} (graph : Graph) (line need : ℕ) (lines : List Executed) → Laws → Shows heap graph
-    → IsImageOf heap image → IsFullAt heap graph line need lines → IsFullAt image graph line need lines
-full_at graph line need [] laws shows is full = full
-full_at {heap = heap} {image = image} graph line need (next ∷ more) laws shows is (number-is, full) =
-    (number-is, full_for {heap = heap} {image = image} graph need next.command laws shows is full)
+full_at : {heap image : Heap} (rows : List (List Run)) (graph : Graph) (line need : ℕ) (lines : List Executed) → Laws
+    → Shows heap graph → IsImageOf heap image → IsFullAt heap rows graph line need lines
+    → IsFullAt image rows graph line need lines
+full_at rows graph line need [] laws shows is full = full
+full_at {heap = heap} {image = image} rows graph line need (next ∷ more) laws shows is (number-is, full) =
+    (number-is, full_for {heap = heap} {image = image} rows graph need next.command laws shows is full)
 
 -- a run comes to the same on the image
-comes_imaged : {script : ScriptText} {heap image : Heap} {n : ℕ} (came : How) (line : ℕ) → Laws
-    → IsImageOf heap image → (r : RanTo script heap n) → EndsRun script heap n r.so_far came line
-    → EndsRun script image n r.so_far came line
-comes_imaged how.End line laws is r comes = comes
-comes_imaged (how.Fault word) line laws is r comes = comes
-comes_imaged {script = script} {heap = heap} {image = image} {n = n} (how.HeapFull need) line laws is r comes =
+comes_imaged : {script : ScriptText} {heap image : Heap} {n : ℕ} (rows : List (List Run)) (came : How) (line : ℕ)
+    → Laws → IsImageOf heap image → (r : RanTo script heap n) → EndsRun script heap rows n r.so_far came line
+    → EndsRun script image rows n r.so_far came line
+comes_imaged rows how.End line laws is r comes = comes
+comes_imaged rows (how.Fault word) line laws is r comes = comes
+comes_imaged {script = script} {heap = heap} {image = image} {n = n} rows (how.HeapFull need) line laws is r comes =
     record {
       goes_on = comes.goes_on;
-      full = full_at {heap = heap} {image = image} r.so_far.graph line need (left_after script n) laws r.shown is
-          comes.full;
+      full = full_at {heap = heap} {image = image} rows r.so_far.graph line need (left_after script n) laws
+          r.shown is comes.full;
     }
-comes_imaged (how.SinkFault need) line laws is r comes = comes
-comes_imaged how.LineLimit line laws is r comes = comes
+comes_imaged rows (how.SinkFault need) line laws is r comes = comes
+comes_imaged rows how.LineLimit line laws is r comes = comes
 
 -- the sink failed where it failed
-failed_imaged : {script : ScriptText} {heap image : Heap} {n : ℕ} (line need : ℕ) → Laws
-    → IsImageOf heap image → (r : RanTo script heap n) → FailedAt script heap n r.so_far line need
-    → FailedAt script image n r.so_far line need
-failed_imaged line need laws is r (inl between) = inl between
-failed_imaged line need laws is r (inr (came, comes, same)) =
-    inr (came, comes_imaged came line laws is r comes, same)
+failed_imaged : {script : ScriptText} {heap image : Heap} {n : ℕ} (rows : List (List Run)) (line need : ℕ) → Laws
+    → IsImageOf heap image → (r : RanTo script heap n) → FailedAt script heap rows n r.so_far line need
+    → FailedAt script image rows n r.so_far line need
+failed_imaged rows line need laws is r (inl between) = inl between
+failed_imaged rows line need laws is r (inr (came, comes, same)) =
+    inr (came, comes_imaged rows came line laws is r comes, same)
 
 -- what was written was written
-writes_imaged : {script : ScriptText} {heap image : Heap} (came : How) (finished : Finished) (old new : List ℕ → Type 0)
-    (faults_old faults_new : ℕ) → Laws → IsImageOf heap image
+writes_imaged : {script : ScriptText} {heap image : Heap} (rows : List (List Run)) (came : How) (finished : Finished)
+    (old new : List ℕ → Type 0) (faults_old faults_new : ℕ) → Laws → IsImageOf heap image
     → (r : RanTo script heap finished.executed)
-    → Writes script heap finished r.so_far old new faults_old faults_new came
-    → Writes script image finished r.so_far old new faults_old faults_new came
-writes_imaged how.End finished old new fo fn laws is r (comes, appends, steady) =
-    (comes_imaged how.End finished.line laws is r comes, appends, steady)
-writes_imaged (how.Fault word) finished old new fo fn laws is r (comes, appends, steady) =
-    (comes_imaged (how.Fault word) finished.line laws is r comes, appends, steady)
-writes_imaged (how.HeapFull need) finished old new fo fn laws is r (comes, appends, steady) =
-    (comes_imaged (how.HeapFull need) finished.line laws is r comes, appends, steady)
-writes_imaged (how.SinkFault need) finished old new fo fn laws is r (failed, cut, rose) =
-    (failed_imaged finished.line need laws is r failed, cut, rose)
-writes_imaged how.LineLimit finished old new fo fn laws is r (comes, appends, steady) =
-    (comes_imaged how.LineLimit finished.line laws is r comes, appends, steady)
+    → Writes script heap rows finished r.so_far old new faults_old faults_new came
+    → Writes script image rows finished r.so_far old new faults_old faults_new came
+writes_imaged rows how.End finished old new fo fn laws is r (comes, appends, steady) =
+    (comes_imaged rows how.End finished.line laws is r comes, appends, steady)
+writes_imaged rows (how.Fault word) finished old new fo fn laws is r (comes, appends, steady) =
+    (comes_imaged rows (how.Fault word) finished.line laws is r comes, appends, steady)
+writes_imaged rows (how.HeapFull need) finished old new fo fn laws is r (comes, appends, steady) =
+    (comes_imaged rows (how.HeapFull need) finished.line laws is r comes, appends, steady)
+writes_imaged rows (how.SinkFault need) finished old new fo fn laws is r (failed, cut, rose) =
+    (failed_imaged rows finished.line need laws is r failed, cut, rose)
+writes_imaged rows how.LineLimit finished old new fo fn laws is r (comes, appends, steady) =
+    (comes_imaged rows how.LineLimit finished.line laws is r comes, appends, steady)
 
 -- the run finishes on the image as on the heap
 pub finishes_imaged : {script : ScriptText} {heap image : Heap} (finished : Finished) (old new : List ℕ → Type 0)
@@ -144,5 +150,5 @@ pub finishes_imaged : {script : ScriptText} {heap image : Heap} (finished : Fini
 finishes_imaged finished old new fo fn laws is f = record {
   reached = reached_imaged laws is f.reached;
   spent = spent_imaged laws f.reached is f.spent;
-  writes = writes_imaged finished.how finished old new fo fn laws is f.reached f.writes;
+  writes = writes_imaged f.spent.last.rows finished.how finished old new fo fn laws is f.reached f.writes;
 }

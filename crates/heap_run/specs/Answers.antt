@@ -94,8 +94,8 @@ abbrev pub unopened : LastLine → Answer
 unopened line = record { told = []; last = Some line; kept = None }
 
 -- The kept heap of a script that was run with these sizes: its regions are those of the sizes and of the script's
--- variables, it shows the graph after the executed lines, as many words are used as the lines since the last scavenge
--- needed, or since the first line if there was none, and all words that no cell uses are 0.
+-- variables, it shows the graph after the executed lines, these spent the words that they needed, of eden and of free
+-- runs, and all words that no cell uses are 0.
 pub record IsKeptHeapOf (sizes : Sizes) (script : ScriptText) (kept : Kept) : Type 0 where
   pub regions : kept.image.regions ≡ record { sizes = sizes; variables = length script.variables }
   pub blank : Blank (image_heap kept.image)
@@ -124,7 +124,7 @@ pub data Comes (words : List (List ℕ)) (input : Input) : Answer → Type 0 whe
   ended : (sizes : Sizes) (bytes : List ℕ) (script : ScriptText) (kept : Kept) (came : How)
       → AsksToRun words sizes → ReadsAll input bytes → reading bytes ≡ Ok script
       → (keeps : IsKeptHeapOf sizes script kept)
-      → EndsRun script (image_heap kept.image) kept.executed keeps.reached.so_far came kept.line
+      → EndsRun script (image_heap kept.image) keeps.spent.last.rows kept.executed keeps.reached.so_far came kept.line
       → kept.need ≡ need_at came
       → Comes words input (record {
         told = keeps.reached.so_far.bytes;

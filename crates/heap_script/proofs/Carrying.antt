@@ -8,7 +8,6 @@ use Rattle.heap_command.specs.Commands.{IsWithin}
 use Rattle.object_graph.specs.Graphs.{Graph}
 use Rattle.object_graph.specs.Meaning.{does, fault}
 use Rattle.object_graph.specs.Limits.{ideal_limits}
-use Rattle.page_space.specs.Extents.{Space}
 use Rattle.nursery.specs.Young.{HasRoom}
 use Rattle.mutator.specs.declared.stop.Stop.{Stop}
 use Rattle.mutator.specs.declared.stop.Stop.TheVariants.{NoRoom}
@@ -16,6 +15,7 @@ use Rattle.mutator.specs.CarriesOut.{Carries}
 use Rattle.write_barrier.specs.MutatorState.{Mutator, heap_of, MainShows}
 use Rattle.heap_model.specs.Rooms.{Room, HasRooms, need_of}
 use Rattle.heap_model.proofs.ShownRooms.{shown_objects_have_rooms}
+use Rattle.object_cells.proofs.NothingUsed.{room_for_none}
 use Rattle.heap_script.specs.Collecting.{Tries, Finds}
 use Rattle.heap_script.proofs.FewWords.{need_few}
 
@@ -31,12 +31,9 @@ pub record IsRefused (names : List (List ℕ)) (old new : Mutator) (graph : Grap
   pub few : need ≤ cell_words_most
 
 -- where there is no room, some words were wanted
-wants_some : (main : Mutator) (graph : Graph) (need : ℕ) → MainShows main graph → (HasRoom main.young need → ⊥)
+pub wants_some : (main : Mutator) (graph : Graph) (need : ℕ) → MainShows main graph → (HasRoom main.young need → ⊥)
     → 1 ≤ need
-wants_some main graph zero shows lacks =
-    let same : main.young.space.sizes.young ≡ main.seat.space.sizes.young =
-    ap (λ (space : Space). space.sizes.young) shows.tied in
-    absurd (lacks (omega (arith, same, shows.shows.whole.rows.few)))
+wants_some main graph zero shows lacks = absurd (lacks (room_for_none main shows.tied shows.shows.whole))
 wants_some main graph (suc need) shows lacks = omega arith
 
 -- a command that needs some words does not ask for a scavenge

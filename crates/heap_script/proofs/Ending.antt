@@ -1,9 +1,11 @@
 -- How a run that goes no further has ended.
-use Rattle.std.proofs.Common.{◌≡◌, ℕ, ◌<◌, Bool, List, [], ◌∷◌, Option}
-use Rattle.std.proofs.Common.{Some, None, Err, refl, sym, ap, subst, ◌∙◌}
+use Rattle.std.proofs.Common.{◌≡◌, ◌≢◌, ℕ, ◌<◌, ◌≤◌, ◌==◌, true, false, List, [], ◌∷◌, Option}
+use Rattle.std.proofs.Common.{Some, None, Err, refl, sym, ap, subst, ◌∙◌, arith}
+use Rattle.std.proofs.lemmas.Bool.Decides.{nat_tests}
 use Rattle.std.specs.Prelude.{slice_get}
 use Rattle.heap_model.specs.Types.{Command, FaultWord}
 use Rattle.heap_command.specs.Executed.{Executed}
+use Rattle.heap_command.specs.declared.command.Command.TheVariants.{Scavenge}
 use Rattle.object_graph.specs.Graphs.{Graph}
 use Rattle.object_graph.specs.Meaning.{does, done, fault}
 use Rattle.object_graph.specs.Run.{lines_most, Ending, end, fault_at, limit_at, fault_in, ending}
@@ -17,22 +19,28 @@ use Rattle.object_graph.specs.Limits.{ideal_limits}
 use Rattle.heap_model.specs.Heaps.{Heap}
 use Rattle.heap_model.specs.Reaching.{IsTight}
 use Rattle.heap_model.specs.Rooms.{Room, HasRooms, need_of}
-use Rattle.nursery.specs.Young.{Young, HasRoom}
+use Rattle.heap_model.proofs.ShownRooms.{shown_objects_have_rooms}
+use Rattle.nursery.specs.Young.{Young, HasRoom, in_eden}
 use Rattle.write_barrier.specs.MutatorState.{Mutator, heap_of, IsTied, MainShows}
 use Rattle.scavenger.specs.Scavenged.{Scavenges}
+use Rattle.scavenger.specs.Laws.{KeepsGraphs}
 use Rattle.scavenger.proofs.Tight.{scavenges_are_tight}
-use Rattle.collector.specs.Making.{ScavengesFor}
+use Rattle.collector.specs.Making.{IsOutOfRoom, Serves, ScavengesFor}
 use Rattle.collector.specs.States.{HeapState, HeapShows}
 use Rattle.collector.proofs.Keeping.{still_shows}
 use Rattle.mutator.specs.CarriesOut.{Carries}
 use Rattle.heap_script.specs.declared.finished.How.TheVariants as how
+use Rattle.heap_script.specs.Collecting.{LacksWords, Collects, CarriesAtLast}
+use Rattle.heap_script.specs.Stages.{Stage, stage_of}
 use Rattle.heap_script.specs.Runs.{left_after, RanTo, EndsAs, EndsRun, IsFull, IsFullAt}
 use Rattle.heap_script.specs.Progress.{how_of, CarriesLine, Pauses}
 use Rattle.heap_script.proofs.Lacking.{full_for}
+use Rattle.heap_script.proofs.Serving.{taken_words}
 use Rattle.heap_script.proofs.Running.{Running}
-use Rattle.heap_script.proofs.Carrying.{no_room_apart}
+use Rattle.heap_script.proofs.Carrying.{no_room_apart, wants_some}
 use Rattle.heap_script.proofs.GoingOn.{ending-within, ending-below, goes-on}
-use Rattle.heap_script.proofs.LineCarried.{found_space, wants_room, Running-found}
+use Rattle.heap_script.proofs.Collected.{wants_room, lacks_behind, Running-collected}
+use Rattle.heap_script.proofs.LineCarried.{found_space}
 
 -- at the limit, it ends at whatever line is next
 ending-limit : (names : List (List ℕ)) (graph : Graph) (next : Executed) (more : List Executed)
@@ -45,77 +53,99 @@ pub EndsAs-reached : (script : ScriptText) (heap : Heap) (n : ℕ) (how : Ending
 EndsAs-reached script heap n how r ends = record { within = r.within; said = r.said; ends = ends }
 
 -- no line is left
-pub EndsRun-end : (script : ScriptText) (heap : Heap) (at n : ℕ) (ts : List ℕ) → (r : RanTo script heap n)
+pub EndsRun-end : (script : ScriptText) (stage : Stage) (at n : ℕ) (ts : List ℕ) → (r : RanTo script stage.heap n)
     → IsLeft script.lines at ts (left_after script n) → slice_get script.lines at ≡ None
-    → EndsRun script heap n r.so_far how.End 0
-EndsRun-end script heap at n ts r left none =
+    → EndsRun script stage.heap stage.rows n r.so_far how.End 0
+EndsRun-end script stage at n ts r left none =
     let ended = at_end script.lines at ts (left_after script n) left none in
     let ends : ending ideal_limits script.fields r.so_far.graph n (left_after script n) ≡ Some end =
     ap (ending ideal_limits script.fields r.so_far.graph n) ended.1
     ∙ ending-within script.fields r.so_far.graph n [] r.few in
-    (refl, EndsAs-reached script heap n end r ends)
+    (refl, EndsAs-reached script stage.heap n end r ends)
 
 -- a line is left, and no more may be executed
-pub EndsRun-limit : (script : ScriptText) (heap : Heap) (at' n number : ℕ) (ts' : List ℕ) (command : Option Command)
-    → (r : RanTo script heap n) → Goes script.lines at' ts' (left_after script n) (executed number command)
-    → n ≡ lines_most → EndsRun script heap n r.so_far how.LineLimit number
-EndsRun-limit script heap at' n number ts' command r goes most =
+pub EndsRun-limit : (script : ScriptText) (stage : Stage) (at' n number : ℕ) (ts' : List ℕ) (command : Option Command)
+    → (r : RanTo script stage.heap n) → Goes script.lines at' ts' (left_after script n) (executed number command)
+    → n ≡ lines_most → EndsRun script stage.heap stage.rows n r.so_far how.LineLimit number
+EndsRun-limit script stage at' n number ts' command r goes most =
     let ends : ending ideal_limits script.fields r.so_far.graph n (left_after script n) ≡ Some (limit_at number) =
     ap (ending ideal_limits script.fields r.so_far.graph n) goes.is
     ∙ ap (λ m. ending ideal_limits script.fields r.so_far.graph m (executed number command ∷ goes.rest)) most
     ∙ ending-limit script.fields r.so_far.graph (executed number command) goes.rest in
-    EndsAs-reached script heap n (limit_at number) r ends
+    EndsAs-reached script stage.heap n (limit_at number) r ends
 
--- eden is empty, and only what is reached is kept
-record IsLeftBare (main : Mutator) : Type 0 where
-  empty : main.young.used ≡ 0
-  tight : IsTight (heap_of main)
+-- So many words are wanted of a heap in vain: it was scavenged for them, by a second scavenge too, which promoted all
+-- that lives, and has no room.
+record IsInVain (old new : Mutator) (need : ℕ) : Type 0 where
+  mid : Mutator
+  first : Scavenges old mid false
+  keeps : KeepsGraphs old mid
+  out : IsOutOfRoom mid need
+  again : Scavenges mid new true
+  keeps_again : KeepsGraphs mid new
+  out_again : IsOutOfRoom new need
 
--- so a scavenge leaves a heap that showed a graph
-left_by_one : {old new : Mutator} {graph : Graph} {all : Bool} → MainShows old graph → Scavenges old new all
-    → IsLeftBare new
-left_by_one {old} {new} {graph} {all} shows scavenges = record {
-  empty = ap (λ (young : Young). young.used) scavenges.young;
-  tight = scavenges_are_tight old new graph all shows scavenges;
+-- some words are not none
+none_of_some : (words n : ℕ) → words ≡ n → 1 ≤ n → (words == 0) ≡ true → ⊥
+none_of_some words n same some none = grind (arith, nat_tests)
+
+-- where there is room for some words, the heap is not out of room for them
+room_there : {mid new : Mutator} {need : ℕ} → 1 ≤ need → Serves mid new need → IsOutOfRoom new need → ⊥
+room_there {need = need} some (Serves.eden room same) out =
+    out.lacks (subst (λ (main : Mutator). HasRoom main.young need) (sym same) room)
+room_there {need = need} some (Serves.granted lacks grants keeps) out =
+    let words : grants.run.words ≡ need = taken_words grants.takes in
+    let none : (grants.run.words == 0) ≡ true = sym (ap in_eden grants.young) ∙ out.ungranted in
+    absurd (none_of_some grants.run.words need words some none)
+
+-- a heap that was scavenged for words and has no room was scavenged in vain
+in_vain : {old new : Mutator} {need : ℕ} → 1 ≤ need → ScavengesFor old new need → IsOutOfRoom new need
+    → IsInVain old new need
+in_vain some (ScavengesFor.once made) out = absurd (room_there some made.serves out)
+in_vain some (ScavengesFor.twice mid first keeps lacks made) out = absurd (room_there some made.serves out)
+in_vain some (ScavengesFor.in_vain mid first keeps lacks again keeps_again lacks_again) out = record {
+  mid = mid;
+  first = first;
+  keeps = keeps;
+  out = lacks;
+  again = again;
+  keeps_again = keeps_again;
+  out_again = out;
 }
 
--- and so do scavenges for words
-left_bare : {old new : Mutator} {graph : Graph} {need : ℕ} → MainShows old graph → ScavengesFor old new need
-    → IsLeftBare new
-left_bare shows (ScavengesFor.once scavenges room) = left_by_one shows scavenges
-left_bare {graph = graph} shows (ScavengesFor.twice first scavenges keeps lacks again) =
-    left_by_one (keeps.shows graph shows) again
-
 -- a command faults
-EndsRun-faulted : (script : ScriptText) (heap : Heap) (at' n number : ℕ) (ts' : List ℕ) (command : Command)
-    (word : FaultWord) → (r : RanTo script heap n) → n < lines_most
+EndsRun-faulted : (script : ScriptText) (stage : Stage) (at' n number : ℕ) (ts' : List ℕ) (command : Command)
+    (word : FaultWord) → (r : RanTo script stage.heap n) → n < lines_most
     → Goes script.lines at' ts' (left_after script n) (executed number (Some command))
     → does ideal_limits script.fields r.so_far.graph command ≡ fault word
-    → EndsRun script heap n r.so_far (how.Fault word) number
-EndsRun-faulted script heap at' n number ts' command word r below goes does-is =
+    → EndsRun script stage.heap stage.rows n r.so_far (how.Fault word) number
+EndsRun-faulted script stage at' n number ts' command word r below goes does-is =
     let graph = r.so_far.graph in
     let ends : ending ideal_limits script.fields graph n (left_after script n) ≡ Some (fault_at number word) =
     ap (ending ideal_limits script.fields graph n) goes.is
     ∙ ending-below script.fields graph n (executed number (Some command)) goes.rest below
     ∙ ap (fault_in number) does-is in
-    EndsAs-reached script heap n (fault_at number word) r ends
+    EndsAs-reached script stage.heap n (fault_at number word) r ends
 
--- there is no room for a command on a heap that was scavenged
+-- there is no room for a command on a heap that was scavenged: neither in eden nor in a page
 EndsRun-full : (script : ScriptText) (main : Mutator) (at' n number : ℕ) (ts' : List ℕ) (command : Command)
-    (need : ℕ) (after : Graph) (written : List ℕ) → IsTied main → IsLeftBare main
+    (need : ℕ) (after : Graph) (written : List ℕ) → IsTied main → main.young.used ≡ 0 → IsTight (heap_of main)
     → (r : RanTo script (heap_of main) n) → n < lines_most
     → Goes script.lines at' ts' (left_after script n) (executed number (Some command))
     → does ideal_limits script.fields r.so_far.graph command ≡ done after written
-    → ((rooms : ℕ → Room) → HasRooms (heap_of main) r.so_far.graph rooms
-    → need ≡ need_of r.so_far.graph rooms command)
-    → (HasRoom main.young need → ⊥) → EndsRun script (heap_of main) n r.so_far (how.HeapFull need) number
-EndsRun-full script main at' n number ts' command need after written tied left r below goes does-is needs lacks =
+    → LacksWords main r.so_far.graph command need → IsOutOfRoom main need
+    → EndsRun script (heap_of main) main.free n r.so_far (how.HeapFull need) number
+EndsRun-full script main at' n number ts' command need after written tied empty tight r below goes does-is lacks out =
     let graph = r.so_far.graph in
-    let filled : IsFull (heap_of main) need =
-    record { empty = left.empty; tight = left.tight; lacks = full_for main need tied lacks } in
+    let filled : IsFull (heap_of main) main.free need = record {
+      empty = empty;
+      tight = tight;
+      lacks = full_for main need tied out.ungranted out.lacks;
+      runs = out.runs;
+    } in
     record {
       goes_on = goes-on script graph after written at' n number ts' command below goes does-is;
-      full = subst (IsFullAt (heap_of main) graph number need) (sym goes.is) (refl, (needs, filled));
+      full = subst (IsFullAt (heap_of main) main.free graph number need) (sym goes.is) (refl, (lacks.needs, filled));
     }
 
 -- a command that is not carried out leaves the heap as it was
@@ -137,6 +167,26 @@ stopped-line names heap after graph (Some command) text stop shown spare carries
     let shows = subst (λ (main : Mutator). MainShows main graph) (sym same) (carries.keeps.shows graph shown.main) in
     (still_shows heap after graph shown spare space shows, space)
 
+-- A command that stopped for want of room lacked the words before the scavenges too.
+lacked_before : {names : List (List ℕ)} {old new : Mutator} {graph : Graph} {command : Command} {text : List ℕ}
+    {need : ℕ} → MainShows old graph → command ≢ Scavenge
+    → (carries : CarriesAtLast names old new graph command text (Err (NoRoom need)))
+    → LacksWords carries.mid graph command need → LacksWords old graph command need
+lacked_before {old = old} {graph = graph} {command = command} {need = need} shows apart carries lacks =
+    let needs : (rooms : ℕ → Room) → HasRooms (heap_of old) graph rooms → need ≡ need_of graph rooms command =
+    λ rooms has. lacks.needs rooms ((carries.keeps.rooms graph rooms shows).0 has) in
+    record {
+      needs = needs;
+      lacks = elim carries.collects [
+        | Collects.asked is scavenges ↦ absurd (apart is)
+        | Collects.unchanged other same ↦
+            subst (λ (main : Mutator). HasRoom main.young need → ⊥) same lacks.lacks
+        | Collects.for_room count other lacked scavenges ↦
+            let (rooms, has) = shown_objects_have_rooms (heap_of old) graph shows.shows in
+            subst (λ (n : ℕ). HasRoom old.young n → ⊥) (lacked.needs rooms has ∙ sym (needs rooms has)) lacked.lacks
+      ];
+    }
+
 -- a run that halts at a line that was not executed
 pub Pauses-line : (script : ScriptText) (heap after : HeapState) (objects : ℕ) (waiting : List ℕ)
     (old new : List ℕ → Type 0) (at at' : ℕ) (ts ts' : List ℕ) (n number : ℕ) (command : Option Command)
@@ -145,29 +195,46 @@ pub Pauses-line : (script : ScriptText) (heap after : HeapState) (objects : ℕ)
     → Goes script.lines at' ts' (left_after script n) (executed number command)
     → CarriesLine script.fields heap.main after.main r.reached.so_far.graph command text (Err stop)
     → faults_new ≡ faults_old
-    → Pauses script (heap_of after.main) waiting (record { how = how_of stop; line = number; executed = n }) old new
+    → Pauses script (stage_of after.main) waiting (record { how = how_of stop; line = number; executed = n }) old new
     faults_old faults_new
 Pauses-line script heap after objects waiting old new at at' ts ts' n number None text stop faults_old faults_new r
     below goes (same, nothing, is) steady =
     absurd (cc)
 Pauses-line script heap after objects waiting old new at at' ts ts' n number (Some command) text (Fault word)
     faults_old faults_new r below goes carries steady =
-    let comes = EndsRun-faulted script (heap_of heap.main) at' n number ts' command word r.reached below goes
+    let comes = EndsRun-faulted script (stage_of heap.main) at' n number ts' command word r.reached below goes
     carries.carries.0 in
     rw (carries.faulted word refl)
-    (record { reached = r.reached; spends = r.spends; halts = (comes, r.handed, steady) })
+    (record {
+      reached = r.reached;
+      spends = r.spends;
+      free = r.shown.main.free;
+      halts = (comes, r.handed, steady);
+    })
 Pauses-line script heap after objects waiting old new at at' ts ts' n number (Some command) text (NoRoom need)
     faults_old faults_new r below goes carries steady =
     let mid = carries.mid in
     let graph = r.reached.so_far.graph in
+    let shows = r.shown.main in
     let (next, written, does-is, needs, lacks, same) = carries.carries in
-    let apart = no_room_apart mid graph need command (carries.keeps.shows graph r.shown.main) needs lacks in
-    let found = Running-found r apart (wants_room r.reached.so_far below goes does-is) carries.collects carries.keeps in
-    let left : IsLeftBare mid = subst IsLeftBare same (left_bare r.shown.main (carries.gave_up need refl)) in
-    let comes = EndsRun-full script mid at' n number ts' command need next written found.shown.main.tied left
-    found.reached below goes does-is needs lacks in
-    rw same
-    (record { reached = found.reached; spends = found.spends; halts = (comes, found.handed, steady) })
+    let (scavenged, out) = carries.gave_up need refl in
+    let apart = no_room_apart mid graph need command (carries.keeps.shows graph shows) needs lacks in
+    let lacked = lacked_before shows apart carries (record { needs = needs; lacks = lacks }) in
+    let vain = in_vain (wants_some heap.main graph need shows lacked.lacks) scavenged out in
+    let wants = wants_room r.reached.so_far below goes does-is in
+    let once = Running-collected r wants lacked vain.first vain.keeps in
+    let still = lacks_behind vain.keeps shows lacked vain.out in
+    let found = Running-collected once wants still vain.again vain.keeps_again in
+    let empty = ap (λ (young : Young). young.used) vain.again.young in
+    let tight = scavenges_are_tight vain.mid after.main graph true once.shown.main vain.again in
+    let comes = EndsRun-full script after.main at' n number ts' command need next written found.shown.main.tied empty
+    tight found.reached below goes does-is (lacks_behind vain.keeps_again once.shown.main still out) out in
+    record {
+      reached = found.reached;
+      spends = found.spends;
+      free = found.shown.main.free;
+      halts = (comes, found.handed, steady);
+    }
 Pauses-line script heap after objects waiting old new at at' ts ts' n number (Some command) text (NoClear entries)
     faults_old faults_new r below goes carries steady =
     absurd carries.carries

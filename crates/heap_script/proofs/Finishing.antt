@@ -1,12 +1,13 @@
 -- A run that has paused, once its last bytes are handed on.
 use Rattle.std.proofs.Common.{◌≡◌, ℕ, List, inl, inr, refl, subst, ◌∙◌}
 use Rattle.script_text.specs.Scripts.{ScriptText}
-use Rattle.heap_model.specs.Heaps.{Heap}
+use Rattle.heap_model.specs.Collectable.{AreFreeRuns}
 use Rattle.byte_ends.specs.Faults.{Rose}
 use Rattle.byte_ends.specs.Sink.{Appends}
 use Rattle.heap_script.specs.declared.finished.How.{How}
 use Rattle.heap_script.specs.declared.finished.How.TheVariants.{End, Fault, HeapFull, SinkFault, LineLimit}
 use Rattle.heap_script.specs.declared.finished.Finished.{Finished}
+use Rattle.heap_script.specs.Stages.{Stage}
 use Rattle.heap_script.specs.Runs.{Finishes, RanTo, Spends, HasSpent, need_at, EndsRun, CutsOff}
 use Rattle.heap_script.specs.Progress.{Pauses, Handed}
 use Rattle.heap_script.proofs.Handing.{Appends-handed, CutsOff-handed}
@@ -16,10 +17,10 @@ abbrev finished_by : How → ℕ → ℕ → Finished
 finished_by how line executed = record { how = how; line = line; executed = executed }
 
 -- the heap to which the lines led has spent what they need
-spent_all : {script : ScriptText} {heap : Heap} {n : ℕ} → RanTo script heap n → Spends script heap n
-    → HasSpent script heap n
-spent_all {heap = heap} reached spends = record {
-  last = heap;
+abbrev spent_all : {script : ScriptText} {stage : Stage} {n : ℕ} → RanTo script stage.heap n → Spends script stage n
+    → AreFreeRuns stage.heap stage.rows → HasSpent script stage.heap n
+spent_all {stage = stage} reached spends free = record {
+  last = stage;
   spends = spends;
   reached = reached;
   space = refl;
@@ -27,93 +28,94 @@ spent_all {heap = heap} reached spends = record {
   survivors = refl;
   stores = λ number at place. (place, refl);
   rooms = λ rooms has. has;
+  free = free;
 }
 
 -- the sink failed between two lines
-pub Finishes-cut : (script : ScriptText) (heap : Heap) (waiting : List ℕ) (how : How) (line n need : ℕ)
+pub Finishes-cut : (script : ScriptText) (stage : Stage) (waiting : List ℕ) (how : How) (line n need : ℕ)
     (old new : List ℕ → Type 0) (faults_old faults_new : ℕ) → how ≡ SinkFault need
-    → Pauses script heap waiting (finished_by how line n) old new faults_old faults_new
-    → Finishes script heap (finished_by how line n) old new faults_old faults_new
-Finishes-cut script heap waiting End line n need old new faults_old faults_new is p = absurd (cc)
-Finishes-cut script heap waiting (Fault word) line n need old new faults_old faults_new is p = absurd (cc)
-Finishes-cut script heap waiting (HeapFull words) line n need old new faults_old faults_new is p = absurd (cc)
-Finishes-cut script heap waiting (SinkFault none) line n need old new faults_old faults_new is p =
+    → Pauses script stage waiting (finished_by how line n) old new faults_old faults_new
+    → Finishes script stage.heap (finished_by how line n) old new faults_old faults_new
+Finishes-cut script stage waiting End line n need old new faults_old faults_new is p = absurd (cc)
+Finishes-cut script stage waiting (Fault word) line n need old new faults_old faults_new is p = absurd (cc)
+Finishes-cut script stage waiting (HeapFull words) line n need old new faults_old faults_new is p = absurd (cc)
+Finishes-cut script stage waiting (SinkFault none) line n need old new faults_old faults_new is p =
     let (between, some, rose) = p.halts in
-    record { reached = p.reached; spent = spent_all p.reached p.spends; writes = (inl between, some, rose) }
-Finishes-cut script heap waiting LineLimit line n need old new faults_old faults_new is p = absurd (cc)
+    record { reached = p.reached; spent = spent_all p.reached p.spends p.free; writes = (inl between, some, rose) }
+Finishes-cut script stage waiting LineLimit line n need old new faults_old faults_new is p = absurd (cc)
 
 -- a run that paused at an end: what it came to, what was handed on, and that no write failed
-record PausedAt (script : ScriptText) (heap : Heap) (waiting : List ℕ) (how : How) (line n : ℕ)
+record PausedAt (script : ScriptText) (stage : Stage) (waiting : List ℕ) (how : How) (line n : ℕ)
     (old mid : List ℕ → Type 0) (faults_old faults_mid : ℕ)
-    (paused : Pauses script heap waiting (finished_by how line n) old mid faults_old faults_mid) : Type 0 where
-  comes : EndsRun script heap n paused.reached.so_far how line
+    (paused : Pauses script stage waiting (finished_by how line n) old mid faults_old faults_mid) : Type 0 where
+  comes : EndsRun script stage.heap stage.rows n paused.reached.so_far how line
   handed : Handed old mid waiting paused.reached.so_far.bytes
   steady : faults_mid ≡ faults_old
 
 -- each pause but at a failed sink is at an end
-paused_at : (script : ScriptText) (heap : Heap) (waiting : List ℕ) (how : How) (line n : ℕ)
+paused_at : (script : ScriptText) (stage : Stage) (waiting : List ℕ) (how : How) (line n : ℕ)
     (old mid : List ℕ → Type 0) (faults_old faults_mid : ℕ) → ((need : ℕ) → how ≡ SinkFault need → ⊥)
-    → (p : Pauses script heap waiting (finished_by how line n) old mid faults_old faults_mid)
-    → PausedAt script heap waiting how line n old mid faults_old faults_mid p
-paused_at script heap waiting End line n old mid faults_old faults_mid other p =
+    → (p : Pauses script stage waiting (finished_by how line n) old mid faults_old faults_mid)
+    → PausedAt script stage waiting how line n old mid faults_old faults_mid p
+paused_at script stage waiting End line n old mid faults_old faults_mid other p =
     record { comes = p.halts.0; handed = p.halts.1; steady = p.halts.2 }
-paused_at script heap waiting (Fault word) line n old mid faults_old faults_mid other p =
+paused_at script stage waiting (Fault word) line n old mid faults_old faults_mid other p =
     record { comes = p.halts.0; handed = p.halts.1; steady = p.halts.2 }
-paused_at script heap waiting (HeapFull need) line n old mid faults_old faults_mid other p =
+paused_at script stage waiting (HeapFull need) line n old mid faults_old faults_mid other p =
     record { comes = p.halts.0; handed = p.halts.1; steady = p.halts.2 }
-paused_at script heap waiting (SinkFault need) line n old mid faults_old faults_mid other p = absurd (other need refl)
-paused_at script heap waiting LineLimit line n old mid faults_old faults_mid other p =
+paused_at script stage waiting (SinkFault need) line n old mid faults_old faults_mid other p = absurd (other need refl)
+paused_at script stage waiting LineLimit line n old mid faults_old faults_mid other p =
     record { comes = p.halts.0; handed = p.halts.1; steady = p.halts.2 }
 
 -- what waited was written
-pub Finishes-written : (script : ScriptText) (heap : Heap) (waiting : List ℕ) (how : How) (line n : ℕ)
+pub Finishes-written : (script : ScriptText) (stage : Stage) (waiting : List ℕ) (how : How) (line n : ℕ)
     (old mid new : List ℕ → Type 0) (faults_old faults_mid faults_new : ℕ)
     → ((need : ℕ) → how ≡ SinkFault need → ⊥)
-    → Pauses script heap waiting (finished_by how line n) old mid faults_old faults_mid
+    → Pauses script stage waiting (finished_by how line n) old mid faults_old faults_mid
     → Appends mid new waiting → faults_new ≡ faults_mid
-    → Finishes script heap (finished_by how line n) old new faults_old faults_new
-Finishes-written script heap waiting End line n old mid new faults_old faults_mid faults_new other p wrote same =
+    → Finishes script stage.heap (finished_by how line n) old new faults_old faults_new
+Finishes-written script stage waiting End line n old mid new faults_old faults_mid faults_new other p wrote same =
     record {
       reached = p.reached;
-      spent = spent_all p.reached p.spends;
+      spent = spent_all p.reached p.spends p.free;
       writes = (p.halts.0, Appends-handed p.halts.1 wrote, same ∙ p.halts.2);
     }
-Finishes-written script heap waiting (Fault word) line n old mid new faults_old faults_mid faults_new other p
+Finishes-written script stage waiting (Fault word) line n old mid new faults_old faults_mid faults_new other p
     wrote same =
     record {
       reached = p.reached;
-      spent = spent_all p.reached p.spends;
+      spent = spent_all p.reached p.spends p.free;
       writes = (p.halts.0, Appends-handed p.halts.1 wrote, same ∙ p.halts.2);
     }
-Finishes-written script heap waiting (HeapFull need) line n old mid new faults_old faults_mid faults_new other p
+Finishes-written script stage waiting (HeapFull need) line n old mid new faults_old faults_mid faults_new other p
     wrote same =
     record {
       reached = p.reached;
-      spent = spent_all p.reached p.spends;
+      spent = spent_all p.reached p.spends p.free;
       writes = (p.halts.0, Appends-handed p.halts.1 wrote, same ∙ p.halts.2);
     }
-Finishes-written script heap waiting (SinkFault need) line n old mid new faults_old faults_mid faults_new other p
+Finishes-written script stage waiting (SinkFault need) line n old mid new faults_old faults_mid faults_new other p
     wrote same =
     absurd (other need refl)
-Finishes-written script heap waiting LineLimit line n old mid new faults_old faults_mid faults_new other p wrote same =
+Finishes-written script stage waiting LineLimit line n old mid new faults_old faults_mid faults_new other p wrote same =
     record {
       reached = p.reached;
-      spent = spent_all p.reached p.spends;
+      spent = spent_all p.reached p.spends p.free;
       writes = (p.halts.0, Appends-handed p.halts.1 wrote, same ∙ p.halts.2);
     }
 
 -- writing what waited failed
-pub Finishes-failed : (script : ScriptText) (heap : Heap) (waiting : List ℕ) (how : How) (line n : ℕ)
+pub Finishes-failed : (script : ScriptText) (stage : Stage) (waiting : List ℕ) (how : How) (line n : ℕ)
     (old mid new : List ℕ → Type 0) (faults_old faults_mid faults_new : ℕ)
     → ((need : ℕ) → how ≡ SinkFault need → ⊥)
-    → Pauses script heap waiting (finished_by how line n) old mid faults_old faults_mid
+    → Pauses script stage waiting (finished_by how line n) old mid faults_old faults_mid
     → CutsOff mid new waiting → Rose faults_mid faults_new
-    → Finishes script heap (finished_by (SinkFault (need_at how)) line n) old new faults_old faults_new
-Finishes-failed script heap waiting how line n old mid new faults_old faults_mid faults_new other p wrote rose =
-    let at = paused_at script heap waiting how line n old mid faults_old faults_mid other p in
+    → Finishes script stage.heap (finished_by (SinkFault (need_at how)) line n) old new faults_old faults_new
+Finishes-failed script stage waiting how line n old mid new faults_old faults_mid faults_new other p wrote rose =
+    let at = paused_at script stage waiting how line n old mid faults_old faults_mid other p in
     record {
       reached = p.reached;
-      spent = spent_all p.reached p.spends;
+      spent = spent_all p.reached p.spends p.free;
       writes = (
         inr (how, at.comes, refl),
         CutsOff-handed at.handed wrote,

@@ -4,10 +4,12 @@ mod Lacking
 mod Carrying
 mod Trying
 mod Retrying
+mod Serving
 pub mod Handing
 mod Ways
 mod Running
 mod GoingOn
+mod Collected
 mod LineCarried
 mod Ending
 mod Finishing

@@ -1,4 +1,4 @@
--- A heap on which a command is tried: it is as it was, or a scavenge made room for the command.
+-- A heap on which a command is tried: it is as it was, or room was made for the command.
 use Rattle.std.proofs.Common.{◌≡◌, ◌≢◌, ◌∙◌, ℕ, ◌<◌, List, [], Bool, true, false, length}
 use Rattle.std.proofs.Common.{Result, Err, if◌then◌else◌, ap, arith, sym, subst, refl}
 use Rattle.heap_model.specs.Types.{Command, FaultWord}
@@ -12,7 +12,7 @@ use Rattle.heap_model.proofs.ShownRooms.{shown_objects_have_rooms}
 use Rattle.nursery.specs.Young.{HasRoom}
 use Rattle.write_barrier.specs.MutatorState.{Mutator, heap_of}
 use Rattle.scavenger.specs.Laws.{KeepsGraphs}
-use Rattle.collector.specs.Making.{ScavengesFor}
+use Rattle.collector.specs.Making.{IsOutOfRoom, ScavengesFor}
 use Rattle.collector.specs.States.{HeapState, HeapShows}
 use Rattle.collector.proofs.Keeping.{same_heap}
 use Rattle.collector.proofs.MadeRoom.{scavenged_space}
@@ -167,9 +167,9 @@ fewer_tries none = rw none (omega arith)
 pub gives_up : {names : List (List ℕ)} {old new : HeapState} {start mid : Mutator} {need : ℕ} {command : Command}
     {graph : Graph} {text : List ℕ} {stop : Stop} → IsScavenged old new need → HeapShows old graph
     → IsRefused names old.main mid graph command need → Tries names start mid graph command text (Err stop)
-    → stop ≡ NoRoom need → (HasRoom new.main.young need → ⊥)
+    → stop ≡ NoRoom need → IsOutOfRoom new.main need
     → CarriesAtLast names old.main new.main graph command text (Err (NoRoom need))
-gives_up {names} {old} {new} {start} {mid} {need} {command} {graph} {text} scavenged shown told tries is lacks =
+gives_up {names} {old} {new} {start} {mid} {need} {command} {graph} {text} scavenged shown told tries is out =
     let (after, written, does-is, needs, lacked, same) =
     subst (λ (stop : Stop). Carries names tries.mid mid graph command text (Err stop)) is tries.carries in
     record {
@@ -182,12 +182,16 @@ gives_up {names} {old} {new} {start} {mid} {need} {command} {graph} {text} scave
         written,
         does-is,
         λ rooms has. told.needs rooms ((scavenged.keeps.rooms graph rooms shown.main).1 has),
-        lacks,
+        out.lacks,
         refl,
       );
       asked = λ is. absurd (told.apart is);
       faulted = λ word is. absurd (cc);
-      gave_up = λ other is. let same : need ≡ other = cc in subst (ScavengesFor old.main new.main) same scavenged.scavenges;
+      gave_up = λ other is.
+          let same : need ≡ other = cc in (
+            subst (ScavengesFor old.main new.main) same scavenged.scavenges,
+            subst (IsOutOfRoom new.main) same out,
+          );
     }
 
 -- what a command finds at its first try

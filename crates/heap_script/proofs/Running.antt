@@ -1,5 +1,5 @@
 -- What holds of a run between two of its lines, and how a line carries it on.
-use Rattle.std.proofs.Common.{◌≡◌, ℕ, suc, zero, ◌+◌, ◌<◌, List, [], ◌∷◌, ◌++◌, length, take, drop}
+use Rattle.std.proofs.Common.{◌≡◌, ℕ, suc, zero, ◌+◌, ◌<◌, true, List, [], ◌∷◌, ◌++◌, length, take, drop}
 use Rattle.std.proofs.Common.{Some, ◌≤◌}
 use Rattle.std.proofs.Common.{None, refl, sym, ap, subst, ◌∙◌, add-one, arith}
 use Rattle.std.specs.Prelude.{option_and_then, slice_get}
@@ -16,25 +16,24 @@ use Rattle.script_text.specs.Left.{IsLeft, Goes}
 use Rattle.script_text.proofs.Left.{begins}
 use Rattle.object_graph.specs.Limits.{ideal_limits}
 use Rattle.page_space.specs.Extents.{Space}
-use Rattle.heap_model.specs.Rooms.{Room, HasRooms, need_of}
-use Rattle.heap_model.proofs.ShownRooms.{shown_objects_have_rooms}
-use Rattle.nursery.specs.Young.{Young}
-use Rattle.write_barrier.specs.MutatorState.{Mutator, heap_of, MainShows, IsOpened}
+use Rattle.nursery.specs.Young.{Young, in_eden}
+use Rattle.write_barrier.specs.MutatorState.{heap_of, MainShows, IsOpened}
 use Rattle.collector.specs.States.{HeapState, HeapShows}
 use Rattle.collector.proofs.Keeping.{still_shows}
-use Rattle.mutator.specs.CarriesOut.{TakesRoom}
-use Rattle.heap_script.specs.Runs.{left_after, RanTo, Spends, Allocates, LineAllocates}
+use Rattle.heap_script.specs.Stages.{stage_of}
+use Rattle.heap_script.specs.Runs.{left_after, RanTo, Spends, LineAllocates}
 use Rattle.heap_script.specs.Progress.{objects_made, Handed}
 use Rattle.heap_script.proofs.Counts.{length-does, makes_one}
-use Rattle.heap_script.proofs.Lacking.{not_lacking}
 use Rattle.heap_script.proofs.Handing.{Handed-none, Handed-more, Handed-told}
 
 -- Between two lines: the lines that are left are those from this place on with these turns left, what was told was
--- handed on or waits, the objects are counted, and the words that are used are those that the lines need.
+-- handed on or waits, the objects are counted, the words that were spent are those that the lines need, and no word of
+-- a page is granted.
 pub record Running (script : ScriptText) (heap : HeapState) (objects : ℕ) (waiting : List ℕ)
     (old new : List ℕ → Type 0) (at : ℕ) (ts : List ℕ) (executed : ℕ) : Type 0 where
   pub reached : RanTo script (heap_of heap.main) executed
-  pub spends : Spends script (heap_of heap.main) executed
+  pub spends : Spends script (stage_of heap.main) executed
+  pub ungranted : in_eden heap.main.young ≡ true
   pub shown : HeapShows heap reached.so_far.graph
   pub left : IsLeft script.lines at ts (left_after script executed)
   pub handed : Handed old new waiting reached.so_far.bytes
@@ -76,31 +75,6 @@ next_at [] n x rest e = absurd (nil_cons n x rest e)
 next_at (first ∷ xs) zero x rest e = cc
 next_at (first ∷ xs) (suc n) x rest e = next_at xs n x rest e
 
--- a command that has used its words allocates them
-pub allocates : {old new : Mutator} {graph after : Graph} (command : Command) → MainShows old graph
-    → ((rooms : ℕ → Room) → HasRooms (heap_of old) graph rooms → TakesRoom old new graph after command rooms)
-    → Allocates (heap_of old) (heap_of new) graph after command
-allocates {old} {new} {graph} command shows takes =
-    let (rooms, has) = shown_objects_have_rooms (heap_of old) graph shows.shows in
-    let one = takes rooms has in
-    record {
-      space = one.uses.beside.space;
-      survivors = ap (λ (young : Young). young.survivors) one.uses.young;
-      uses = λ rooms has.
-          let taken = takes rooms has in
-          record {
-            room = not_lacking old (need_of graph rooms command) shows.tied taken.room;
-            used = ap (λ (young : Young). young.used) taken.uses.young;
-            stores = taken.stores;
-          };
-    }
-
--- and keeps the regions
-pub takes_space : {old new : Mutator} {graph after : Graph} (command : Command) → MainShows old graph
-    → ((rooms : ℕ → Room) → HasRooms (heap_of old) graph rooms → TakesRoom old new graph after command rooms)
-    → new.seat.space ≡ old.seat.space
-takes_space command shows takes = (allocates command shows takes).space
-
 -- a script begins
 pub Running-start : (script : ScriptText) (heap : HeapState) (old : List ℕ → Type 0) → IsPlaced 0 script.lines
     → HeapShows heap start → IsOpened heap.main → heap.main.seat.space.variables ≡ length script.variables
@@ -116,8 +90,9 @@ Running-start script heap old placed shown opened variables =
     } in
     record {
       reached = reached;
-      spends = Spends.none (heap_of heap.main) (ap (λ (young : Young). young.used) opened.young)
-          (ap (λ (young : Young). young.survivors) opened.young) reached;
+      spends = Spends.none (stage_of heap.main) (ap (λ (young : Young). young.used) opened.young)
+          (ap (λ (young : Young). young.survivors) opened.young) opened.free reached;
+      ungranted = ap in_eden opened.young;
       shown = shown;
       left = begins script.lines placed;
       handed = Handed-none old;
@@ -133,6 +108,7 @@ pub Running-handed : (script : ScriptText) (heap : HeapState) (objects : ℕ) (w
 Running-handed script heap objects waiting rest old mid new at ts n r h = record {
   reached = r.reached;
   spends = r.spends;
+  ungranted = r.ungranted;
   shown = r.shown;
   left = r.left;
   handed = Handed-more r.handed h;
@@ -179,9 +155,10 @@ Running-passed script heap objects waiting old new at at' ts ts' n number r belo
     } in
     record {
       reached = reached;
-      spends = Spends.one_more (heap_of heap.main) (heap_of heap.main) n line r.spends
+      spends = Spends.one_more (stage_of heap.main) (stage_of heap.main) n line r.spends
           (next_at (executed_lines script.lines) n line goes.rest goes.is) r.reached reached
           (LineAllocates.passes refl);
+      ungranted = r.ungranted;
       shown = r.shown;
       left = subst (IsLeft script.lines at' ts') (sym (dropped-next script n next)) goes.left;
       handed = r.handed;
@@ -189,17 +166,18 @@ Running-passed script heap objects waiting old new at at' ts ts' n number r belo
       few = omega (arith, r.few);
     }
 
--- a command was carried out, and did this with the heap
+-- a command was carried out, did this with the heap, and left nothing granted
 pub Running-carried : (script : ScriptText) (heap after : HeapState) (objects : ℕ) (waiting : List ℕ)
     (old new : List ℕ → Type 0) (at at' : ℕ) (ts ts' : List ℕ) (n number : ℕ) (command : Command) (text : List ℕ)
     (graph : Graph) → (r : Running script heap objects waiting old new at ts n) → n < lines_most
     → Goes script.lines at' ts' (left_after script n) (executed number (Some command))
     → after.spare ≡ heap.spare → after.main.seat.space ≡ heap.main.seat.space
     → does ideal_limits script.fields r.reached.so_far.graph command ≡ done graph text → MainShows after.main graph
-    → LineAllocates (heap_of heap.main) (heap_of after.main) r.reached.so_far.graph graph (Some command)
+    → LineAllocates (stage_of heap.main) (stage_of after.main) r.reached.so_far.graph graph (Some command)
+    → in_eden after.main.young ≡ true
     → Running script after (objects + objects_made command) (waiting ++ text) old new at' ts' (n + 1)
 Running-carried script heap after objects waiting old new at at' ts ts' n number command text graph r below goes spare
-    space does-is shown uses =
+    space does-is shown uses ungranted =
     let so_far = r.reached.so_far in
     let later : Told = record { graph = graph; bytes = so_far.bytes ++ text } in
     let line = executed number (Some command) in
@@ -214,8 +192,9 @@ Running-carried script heap after objects waiting old new at at' ts ts' n number
     } in
     record {
       reached = reached;
-      spends = Spends.one_more (heap_of heap.main) (heap_of after.main) n line r.spends
+      spends = Spends.one_more (stage_of heap.main) (stage_of after.main) n line r.spends
           (next_at (executed_lines script.lines) n line goes.rest goes.is) r.reached reached uses;
+      ungranted = ungranted;
       shown = still_shows heap after graph r.shown spare space shown;
       left = subst (IsLeft script.lines at' ts') (sym (dropped-next script n next)) goes.left;
       handed = Handed-told text r.handed;

@@ -1,3 +1,4 @@
+pub mod Stages
 pub mod Runs
 pub mod LoopCounters
 pub mod Collecting

@@ -11,13 +11,14 @@ use Rattle.script_text.specs.Scripts.{ScriptText}
 use Rattle.mutator.specs.declared.stop.Stop.{Stop}
 use Rattle.mutator.specs.declared.stop.Stop.TheVariants as stop
 use Rattle.write_barrier.specs.MutatorState.{Mutator}
-use Rattle.heap_model.specs.Heaps.{Heap}
+use Rattle.heap_model.specs.Collectable.{AreFreeRuns}
 use Rattle.byte_ends.specs.Faults.{Rose}
 use Rattle.byte_ends.specs.Sink.{Appends}
 use Rattle.heap_script.specs.declared.finished.How.{How}
 use Rattle.heap_script.specs.declared.finished.How.TheVariants.{Fault, HeapFull, SinkFault}
 use Rattle.heap_script.specs.declared.finished.Finished.{Finished}
 use Rattle.heap_script.specs.Collecting.{CarriesAtLast}
+use Rattle.heap_script.specs.Stages.{Stage}
 use Rattle.heap_script.specs.Runs.{RanTo, Spends, EndsRun, IsDue, CutsOff}
 
 -- how many objects a command makes
@@ -64,18 +65,19 @@ pub record Handed (old new : List ℕ → Type 0) (waiting all : List ℕ) : Typ
 
 -- The run came to this, and what it told was handed on or waits. Or the sink failed between two lines, where an output
 -- was due, and a front of what was told was written.
-abbrev pub Halts : ScriptText → Heap → List ℕ → Finished → Told → (List ℕ → Type 0) → (List ℕ → Type 0)
+abbrev pub Halts : ScriptText → Stage → List ℕ → Finished → Told → (List ℕ → Type 0) → (List ℕ → Type 0)
     → ℕ → ℕ → How → Type 0
-Halts script heap waiting finished so_far old new faults_old faults_new (SinkFault need) =
+Halts script stage waiting finished so_far old new faults_old faults_new (SinkFault need) =
     ((finished.line ≡ 0) × (need ≡ 0) × IsDue script finished.executed)
     × CutsOff old new so_far.bytes × Rose faults_old faults_new
-Halts script heap waiting finished so_far old new faults_old faults_new came =
-    EndsRun script heap finished.executed so_far came finished.line
+Halts script stage waiting finished so_far old new faults_old faults_new came =
+    EndsRun script stage.heap stage.rows finished.executed so_far came finished.line
     × Handed old new waiting so_far.bytes × (faults_new ≡ faults_old)
 
 -- the run before its last bytes are handed on: how far it came, what it spent, and how it halted
-pub record Pauses (script : ScriptText) (heap : Heap) (waiting : List ℕ) (finished : Finished)
+pub record Pauses (script : ScriptText) (stage : Stage) (waiting : List ℕ) (finished : Finished)
     (old new : List ℕ → Type 0) (faults_old faults_new : ℕ) : Type 0 where
-  pub reached : RanTo script heap finished.executed
-  pub spends : Spends script heap finished.executed
-  pub halts : Halts script heap waiting finished reached.so_far old new faults_old faults_new finished.how
+  pub reached : RanTo script stage.heap finished.executed
+  pub spends : Spends script stage finished.executed
+  pub free : AreFreeRuns stage.heap stage.rows
+  pub halts : Halts script stage waiting finished reached.so_far old new faults_old faults_new finished.how

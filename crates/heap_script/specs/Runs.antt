@@ -1,8 +1,8 @@
 -- How far a script was run on a heap, and how the run ended.
 use Rattle.std.specs.Prelude.{◌≡◌, ◌≢◌, ◌⊎◌, ◌↔◌, ℕ, ◌+◌, ◌<◌, ◌≤◌, List, ◌∷◌}
 use Rattle.std.specs.Prelude.{[], ◌++◌, length, take, drop, All, Option, Some, None, IsTrue}
-use Rattle.std.specs.Prelude.{false, slice_get, nat_lt, if◌then◌else◌}
-use Rattle.heap_model.specs.Types.{Command}
+use Rattle.std.specs.Prelude.{Bool, slice_get, nat_lt, if◌then◌else◌}
+use Rattle.heap_model.specs.Types.{Command, Run}
 use Rattle.heap_command.specs.Executed.{Executed}
 use Rattle.heap_command.specs.declared.command.Command.TheVariants.{Scavenge}
 use Rattle.object_graph.specs.Graphs.{Graph}
@@ -16,9 +16,12 @@ use Rattle.script_text.specs.Unrolled.{executed_lines}
 use Rattle.heap_model.specs.Heaps.{Heap}
 use Rattle.heap_model.specs.Slots.{IsPlace}
 use Rattle.heap_model.specs.Needs.{capacity_at, lacks_room}
+use Rattle.heap_model.specs.Collectable.{AreFreeRuns}
 use Rattle.heap_model.specs.Reaching.{IsTight, FillsPages}
 use Rattle.heap_model.specs.Rooms.{Room, HasRooms, need_of}
 use Rattle.heap_model.specs.Showing.{Shows}
+use Rattle.free_runs.specs.FreeRuns.{AreFree, FitsNowhere, whole_rows}
+use Rattle.scavenger.specs.Laws.{TakesWords}
 use Rattle.mutator.specs.Capacities.{KeepsStores}
 use Rattle.mutator.specs.declared.output.TheConstants.{OUTPUT_BYTES, ROOM}
 use Rattle.byte_ends.specs.Faults.{Rose}
@@ -26,6 +29,7 @@ use Rattle.byte_ends.specs.Sink.{Appends, AppendsSome}
 use Rattle.heap_script.specs.declared.finished.How.{How}
 use Rattle.heap_script.specs.declared.finished.How.TheVariants as how
 use Rattle.heap_script.specs.declared.finished.Finished.{Finished}
+use Rattle.heap_script.specs.Stages.{Stage, SpendsWords}
 
 -- each line is one that is built
 abbrev pub AreBuilt : List Line → Type 0
@@ -35,13 +39,14 @@ AreBuilt lines = All (λ line. IsBuilt unbuilt_keywords line.what) lines
 abbrev pub left_after : ScriptText → ℕ → List Executed
 left_after script executed = drop executed (executed_lines script.lines)
 
--- The heap is full for so many words: eden is empty, each young cell is reached from a variable or a slot of a page,
--- where pairs of weak tables count as slots, and the survivors and these words are more than the words of the young
--- generation.
-pub record IsFull (heap : Heap) (need : ℕ) : Type 0 where
+-- The heap, whose pages have these free runs, is full for so many words: eden is empty, each young cell is reached from
+-- a variable or a slot of a page, where pairs of weak tables count as slots, the survivors and these words are more
+-- than the words of the young generation, and no free run has so many.
+pub record IsFull (heap : Heap) (rows : List (List Run)) (need : ℕ) : Type 0 where
   pub empty : heap.used ≡ 0
   pub tight : IsTight heap
   pub lacks : IsTrue (lacks_room heap need)
+  pub runs : FitsNowhere rows need
 
 -- The script was run for so many lines, of which none faulted, and the heap, which has a root for each variable of the
 -- script, shows the graph after them.
@@ -53,34 +58,39 @@ pub record RanTo (script : ScriptText) (heap : Heap) (executed : ℕ) : Type 0 w
   pub said : told ideal_limits script.fields (take executed (executed_lines script.lines)) ≡ Some so_far
   pub shown : Shows heap so_far.graph
 
--- Where objects have these rooms, there was room for the words that the command needs, and exactly so many more of eden
--- are used; objects come to have the rooms that it gives them.
-pub record UsesNeed (old new : Heap) (graph after : Graph) (command : Command) (rooms : ℕ → Room) : Type 0 where
-  pub room : lacks_room old (need_of graph rooms command) ≡ false
-  pub used : new.used ≡ old.used + need_of graph rooms command
-  pub stores : KeepsStores old new graph after command rooms
+-- Where objects have these rooms, exactly the words that the command needs are spent, and objects come to have the
+-- rooms that it gives them.
+pub record UsesNeed (old new : Stage) (graph after : Graph) (command : Command) (rooms : ℕ → Room) : Type 0 where
+  pub spends : SpendsWords old new (need_of graph rooms command)
+  pub stores : KeepsStores old.heap new.heap graph after command rooms
 
 -- A command that leads from one graph to another allocates on the heap. The regions stay, and no survivor comes or
 -- goes.
-pub record Allocates (old new : Heap) (graph after : Graph) (command : Command) : Type 0 where
-  pub space : new.space ≡ old.space
-  pub survivors : new.survivors ≡ old.survivors
-  pub uses : (rooms : ℕ → Room) → HasRooms old graph rooms → UsesNeed old new graph after command rooms
+pub record Allocates (old new : Stage) (graph after : Graph) (command : Command) : Type 0 where
+  pub space : new.heap.space ≡ old.heap.space
+  pub survivors : new.heap.survivors ≡ old.heap.survivors
+  pub uses : (rooms : ℕ → Room) → HasRooms old.heap graph rooms → UsesNeed old new graph after command rooms
 
--- What is told of a collection: the regions stay, objects have the rooms that they had, eden is empty, the survivors
--- are no more than survivors and used words before, of young cells only what is reached is kept, and what came to pages
--- is free or reached.
-pub record IsCollected (old new : Heap) (graph : Graph) : Type 0 where
-  pub space : new.space ≡ old.space
-  pub rooms : (rooms : ℕ → Room) → HasRooms old graph rooms ↔ HasRooms new graph rooms
-  pub emptied : new.used ≡ 0
-  pub few : new.survivors ≤ old.survivors + old.used
-  pub tight : IsTight new
-  pub pages : FillsPages old new
+-- What is told of a collection, which promotes survivors, or all that lives: the regions stay, objects have the rooms
+-- that they had, eden is empty, the survivors are no more than survivors and used words before, of young cells only
+-- what is reached is kept, what came to pages is free, or is reached from variables and from cells of pages that stood
+-- there before, words of free runs went to cells that were promoted alone, and the runs that are left neither overlap
+-- nor touch.
+pub record IsCollected (old new : Stage) (graph : Graph) : Type 0 where
+  pub space : new.heap.space ≡ old.heap.space
+  pub rooms : (rooms : ℕ → Room) → HasRooms old.heap graph rooms ↔ HasRooms new.heap graph rooms
+  pub emptied : new.heap.used ≡ 0
+  pub few : new.heap.survivors ≤ old.heap.survivors + old.heap.used
+  pub tight : IsTight new.heap
+  pub pages : FillsPages old.heap new.heap
+  pub all : Bool
+  pub words : TakesWords old.heap new.heap all old.rows new.rows
+  pub free : AreFreeRuns new.heap new.rows
+  pub apart : AreFree new.rows
 
 -- what a line does with the heap: one that runs no command leaves it as it is, `scavenge` collects, and any other
 -- command allocates
-pub data LineAllocates (old new : Heap) (graph after : Graph) : Option Command → Type 0 where
+pub data LineAllocates (old new : Stage) (graph after : Graph) : Option Command → Type 0 where
   passes : new ≡ old → LineAllocates old new graph after None
   collects : IsCollected old new graph → LineAllocates old new graph after (Some Scavenge)
   allocates : (command : Command) → command ≢ Scavenge → Allocates old new graph after command
@@ -92,71 +102,77 @@ LacksWordsFor heap graph None = ⊥
 LacksWordsFor heap graph (Some command) =
     (rooms : ℕ → Room) → HasRooms heap graph rooms → IsTrue (lacks_room heap (need_of graph rooms command))
 
--- The run does not end after so many lines, but the heap lacks room for the words that the next line needs.
+-- The run does not end after so many lines, but eden lacks room for the words that the next line needs.
 pub record WantsRoom (script : ScriptText) (heap : Heap) (executed : ℕ) (so_far : Told) : Type 0 where
   pub goes_on : ending ideal_limits script.fields so_far.graph executed (left_after script executed) ≡ None
   pub line : Executed
   pub next : slice_get (executed_lines script.lines) executed ≡ Some line
   pub lacks : LacksWordsFor heap so_far.graph line.command
 
--- The words that the executed lines of a script spend, one line after another, up to this heap. No word is used before
--- the first line, and each line uses what its command needs, by the graph and the rooms that the lines before it led
--- to. Between two lines the heap is scavenged only where it lacks room for the words that the next line needs; where it
--- still lacks room then, it may be again.
-pub data Spends (script : ScriptText) : Heap → ℕ → Type 0 where
-  none : (heap : Heap) → heap.used ≡ 0 → heap.survivors ≡ 0 → RanTo script heap 0 → Spends script heap 0
-  one_more : (old new : Heap) (executed : ℕ) (line : Executed) → Spends script old executed
+-- The words that the executed lines of a script spend, one line after another, up to this stage. Before the first line
+-- no word is used, and each page is one free run. Each line spends what its command needs, by the graph and the rooms
+-- that the lines before it led to. Between two lines the heap is scavenged only where its eden lacks room for the words
+-- that the next line needs; where eden still lacks room then, it may be again.
+pub data Spends (script : ScriptText) : Stage → ℕ → Type 0 where
+  none : (stage : Stage) → stage.heap.used ≡ 0 → stage.heap.survivors ≡ 0
+      → stage.rows ≡ whole_rows stage.heap.space.sizes.pages → RanTo script stage.heap 0 → Spends script stage 0
+  one_more : (old new : Stage) (executed : ℕ) (line : Executed) → Spends script old executed
       → slice_get (executed_lines script.lines) executed ≡ Some line
-      → (before : RanTo script old executed) (after : RanTo script new (executed + 1))
+      → (before : RanTo script old.heap executed) (after : RanTo script new.heap (executed + 1))
       → LineAllocates old new before.so_far.graph after.so_far.graph line.command → Spends script new (executed + 1)
-  collected : (old new : Heap) (executed : ℕ) → Spends script old executed → (before : RanTo script old executed)
-      → WantsRoom script old executed before.so_far → RanTo script new executed
-      → IsCollected old new before.so_far.graph → Spends script new executed
+  collected : (old new : Stage) (executed : ℕ) → Spends script old executed
+      → (before : RanTo script old.heap executed) → WantsRoom script old.heap executed before.so_far
+      → RanTo script new.heap executed → IsCollected old new before.so_far.graph → Spends script new executed
 
 -- The heap has the regions of the one to which the lines led that spent words, and as many words are used and have
 -- survived. Each object stands where it stands there, with a store of as many slots. The rooms that the objects
--- of the graph after the lines have there are their rooms in the heap too.
+-- of the graph after the lines have there are their rooms in the heap too. Its pages have the free runs of that one.
 pub record HasSpent (script : ScriptText) (heap : Heap) (executed : ℕ) : Type 0 where
-  pub last : Heap
-  pub space : heap.space ≡ last.space
+  pub last : Stage
+  pub space : heap.space ≡ last.heap.space
   pub spends : Spends script last executed
-  pub reached : RanTo script last executed
-  pub used : heap.used ≡ last.used
-  pub survivors : heap.survivors ≡ last.survivors
-  pub stores : (number at : ℕ) → IsPlace last number at
-      → IsPlace heap number at × (capacity_at heap at ≡ capacity_at last at)
-  pub rooms : (rooms : ℕ → Room) → HasRooms last reached.so_far.graph rooms → HasRooms heap reached.so_far.graph rooms
+  pub reached : RanTo script last.heap executed
+  pub used : heap.used ≡ last.heap.used
+  pub survivors : heap.survivors ≡ last.heap.survivors
+  pub stores : (number at : ℕ) → IsPlace last.heap number at
+      → IsPlace heap number at × (capacity_at heap at ≡ capacity_at last.heap at)
+  pub rooms : (rooms : ℕ → Room) → HasRooms last.heap reached.so_far.graph rooms
+      → HasRooms heap reached.so_far.graph rooms
+  pub free : AreFreeRuns heap last.rows
 
 -- the run of the script ends after so many lines, with this told, in this way
 abbrev pub EndsAs : ScriptText → ℕ → Told → Ending → Type 0
 EndsAs script executed so_far ended =
     EndsAfter ideal_limits script.fields (executed_lines script.lines) executed so_far ended
 
--- the line runs a command that needs so many words, by the rooms of objects, and the heap, which shows this graph, is
--- full for them
-abbrev pub LacksRoomFor : Heap → Graph → ℕ → Option Command → Type 0
-LacksRoomFor heap graph need None = ⊥
-LacksRoomFor heap graph need (Some command) =
-    ((rooms : ℕ → Room) → HasRooms heap graph rooms → need ≡ need_of graph rooms command) × IsFull heap need
+-- the line runs a command that needs so many words, by the rooms of objects, and the heap, which shows this graph and
+-- whose pages have these free runs, is full for them
+abbrev pub LacksRoomFor : Heap → List (List Run) → Graph → ℕ → Option Command → Type 0
+LacksRoomFor heap rows graph need None = ⊥
+LacksRoomFor heap rows graph need (Some command) =
+    ((rooms : ℕ → Room) → HasRooms heap graph rooms → need ≡ need_of graph rooms command) × IsFull heap rows need
 
 -- of these lines the next one has this number, and the heap is full for its command
-abbrev pub IsFullAt : Heap → Graph → ℕ → ℕ → List Executed → Type 0
-IsFullAt heap graph line need (next ∷ more) = (next.number ≡ line) × LacksRoomFor heap graph need next.command
-IsFullAt heap graph line need _ = ⊥
+abbrev pub IsFullAt : Heap → List (List Run) → Graph → ℕ → ℕ → List Executed → Type 0
+IsFullAt heap rows graph line need (next ∷ more) =
+    (next.number ≡ line) × LacksRoomFor heap rows graph need next.command
+IsFullAt heap rows graph line need _ = ⊥
 
 -- The run does not end after so many lines: one is next, and it neither faults nor stands at the limit. But the heap is
 -- full for its command.
-pub record FullAt (script : ScriptText) (heap : Heap) (executed : ℕ) (so_far : Told) (line need : ℕ) : Type 0 where
+pub record FullAt (script : ScriptText) (heap : Heap) (rows : List (List Run)) (executed : ℕ) (so_far : Told)
+    (line need : ℕ) : Type 0 where
   pub goes_on : ending ideal_limits script.fields so_far.graph executed (left_after script executed) ≡ None
-  pub full : IsFullAt heap so_far.graph line need (left_after script executed)
+  pub full : IsFullAt heap rows so_far.graph line need (left_after script executed)
 
--- After so many lines the run comes to an end, in this way and at this line; a sink that fails is no end of a script.
-abbrev pub EndsRun : ScriptText → Heap → ℕ → Told → How → ℕ → Type 0
-EndsRun script heap executed so_far how.End line = (line ≡ 0) × EndsAs script executed so_far end
-EndsRun script heap executed so_far (how.Fault word) line = EndsAs script executed so_far (fault_at line word)
-EndsRun script heap executed so_far (how.HeapFull need) line = FullAt script heap executed so_far line need
-EndsRun script heap executed so_far (how.SinkFault need) line = ⊥
-EndsRun script heap executed so_far how.LineLimit line = EndsAs script executed so_far (limit_at line)
+-- After so many lines the run comes to an end, in this way and at this line, on a heap whose pages have these free
+-- runs; a sink that fails is no end of a script.
+abbrev pub EndsRun : ScriptText → Heap → List (List Run) → ℕ → Told → How → ℕ → Type 0
+EndsRun script heap rows executed so_far how.End line = (line ≡ 0) × EndsAs script executed so_far end
+EndsRun script heap rows executed so_far (how.Fault word) line = EndsAs script executed so_far (fault_at line word)
+EndsRun script heap rows executed so_far (how.HeapFull need) line = FullAt script heap rows executed so_far line need
+EndsRun script heap rows executed so_far (how.SinkFault need) line = ⊥
+EndsRun script heap rows executed so_far how.LineLimit line = EndsAs script executed so_far (limit_at line)
 
 -- the words that were wanted where the run came to this, or 0
 abbrev pub need_at : How → ℕ
@@ -209,19 +225,19 @@ IsCut _ = ⊥
 
 -- Where the sink failed: between two lines, which is the line 0 and the need 0, where an output is due just there. Or
 -- at an end with this line and this need.
-abbrev pub FailedAt : ScriptText → Heap → ℕ → Told → ℕ → ℕ → Type 0
-FailedAt script heap executed so_far line need =
+abbrev pub FailedAt : ScriptText → Heap → List (List Run) → ℕ → Told → ℕ → ℕ → Type 0
+FailedAt script heap rows executed so_far line need =
     ((line ≡ 0) × (need ≡ 0) × IsDue script executed)
-    ⊎ ((came : How) × EndsRun script heap executed so_far came line × (need ≡ need_at came))
+    ⊎ ((came : How) × EndsRun script heap rows executed so_far came line × (need ≡ need_at came))
 
 -- What was told was written, and the run came to this. Or the sink failed, and a front of what was told was written.
-abbrev pub Writes : ScriptText → Heap → Finished → Told → (List ℕ → Type 0) → (List ℕ → Type 0)
+abbrev pub Writes : ScriptText → Heap → List (List Run) → Finished → Told → (List ℕ → Type 0) → (List ℕ → Type 0)
     → ℕ → ℕ → How → Type 0
-Writes script heap finished so_far old new faults_old faults_new (how.SinkFault need) =
-    FailedAt script heap finished.executed so_far finished.line need
+Writes script heap rows finished so_far old new faults_old faults_new (how.SinkFault need) =
+    FailedAt script heap rows finished.executed so_far finished.line need
     × CutsOff old new so_far.bytes × Rose faults_old faults_new
-Writes script heap finished so_far old new faults_old faults_new came =
-    EndsRun script heap finished.executed so_far came finished.line
+Writes script heap rows finished so_far old new faults_old faults_new came =
+    EndsRun script heap rows finished.executed so_far came finished.line
     × Appends old new so_far.bytes × (faults_new ≡ faults_old)
 
 -- The run of a script: how far it came, what it spent, how it ended, and what the sink took, which may have taken these
@@ -230,4 +246,4 @@ pub record Finishes (script : ScriptText) (heap : Heap) (finished : Finished)
     (old new : List ℕ → Type 0) (faults_old faults_new : ℕ) : Type 0 where
   pub reached : RanTo script heap finished.executed
   pub spent : HasSpent script heap finished.executed
-  pub writes : Writes script heap finished reached.so_far old new faults_old faults_new finished.how
+  pub writes : Writes script heap spent.last.rows finished reached.so_far old new faults_old faults_new finished.how

@@ -15,7 +15,7 @@ ghost use Rattle.nursery.specs.Young.{HasRoom};
 ghost use Rattle.scavenger.specs.Scavenged.{Scavenges};
 ghost use Rattle.scavenger.specs.Laws.{KeepsGraphs};
 ghost use Rattle.mutator.specs.CarriesOut.{field_numbers};
-ghost use Rattle.collector.specs.Making.{ScavengesFor};
+ghost use Rattle.collector.specs.Making.{IsOutOfRoom, ScavengesFor};
 ghost use Rattle.collector.specs.States.{HeapShows};
 ghost use Rattle.heap_script.specs.Collecting.{Tries, CarriesAtLast};
 ghost use Rattle.heap_script.specs.Progress.{objects_made, made_by, command_in};
@@ -67,8 +67,8 @@ pub(crate) fn execute_line(
     }
 }
 
-/// Carries a command out. Where there is no room for it, the heap makes some by scavenges, and then it
-/// is tried again.
+/// Carries a command out. Where there is no room for it, the heap makes some by scavenges, behind which it
+/// may grant words of a page, and then it is tried again.
 #[inline(always)]
 fn carry_out(
     heap: &mut Heap,
@@ -116,7 +116,8 @@ fn ensure_room(heap: &mut Heap, need: u32) -> bool
     requires some { 1 ≤ need }
     requires few { need ≤ cell_words_most }
     requires shown { (graph : Graph) × HeapShows heap.old graph }
-    ensures room { IsTrue result ↔ HasRoom heap.new.main.young need }
+    ensures room { IsTrue result → HasRoom heap.new.main.young need }
+    ensures full { result ≡ false → IsOutOfRoom heap.new.main need }
     ensures scavenged { ¬ HasRoom heap.old.main.young need →
         ScavengesFor heap.old.main heap.new.main need }
     ensures shows { (graph : Graph) → HeapShows heap.old graph → HeapShows heap.new graph }

@@ -8,6 +8,7 @@ ghost use Rattle.byte_ends.specs.Faults.{Rose};
 ghost use Rattle.script_text.specs.Sound.{AreShort};
 ghost use Rattle.heap_script.specs.Runs.{AreBuilt, Finishes, CutsOff, FillsOutput, waiting_of, IsCut};
 ghost use Rattle.heap_script.specs.Progress.{Handed, Pauses, how_of};
+ghost use Rattle.heap_script.specs.Stages.{stage_of};
 
 use crate::execute::execute_line;
 use crate::finished::{Finished, How};
@@ -80,7 +81,7 @@ fn run_lines<K: Sink>(
     requires short { AreShort script.now.fields }
     requires built { AreBuilt script.now.lines }
     requires empty { out.old ≡ [] }
-    ensures pauses { Pauses script.now (heap_of heap.new.main) out.new result
+    ensures pauses { Pauses script.now (stage_of heap.new.main) out.new result
         (K.HasTaken sink.old) (K.HasTaken sink.new) (K.faults sink.old) (K.faults sink.new) }
     ensures shows { (graph : Graph) × HeapShows heap.new graph }
     ensures space { heap.new.main.seat.space ≡ heap.old.main.seat.space }

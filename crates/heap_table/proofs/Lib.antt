@@ -2,3 +2,4 @@ mod MarksStart
 pub mod HeapWords
 mod HeapStretches
 mod SeatKeeps
+mod Paints

@@ -1,3 +1,4 @@
 pub mod Seats
 pub mod Seated
 pub mod Staying
+pub mod Colours

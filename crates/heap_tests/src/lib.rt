@@ -9,6 +9,8 @@ mod forged_heaps;
 #[cfg(test)]
 mod images;
 #[cfg(test)]
+mod old_cells;
+#[cfg(test)]
 mod opened_heaps;
 #[cfg(test)]
 mod opened_words;

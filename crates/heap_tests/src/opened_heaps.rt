@@ -172,14 +172,16 @@ fn reserves(rt: &impl Abort, heap: &mut Heap, need: u32, at: Option<u32>) {
 }
 
 #[test]
-fn an_opened_heap_has_room_for_the_words_of_the_young_generation(
-    rt: HostRuntime,
-) -> Result<(), Fail> {
+fn an_opened_heap_has_room_in_eden_and_in_its_page(rt: HostRuntime) -> Result<(), Fail> {
     let mut heap = opened(&rt, rt.alloc(), SMALL)?;
     assert_eq!(rt; heap.ensure(64), Ok(()));
+    // The first 65 words of the page are granted, and the 1,983 that are left of it.
+    assert_eq!(rt; heap.ensure(65), Ok(()));
+    assert_eq!(rt; heap.ensure(1_984), Err(Full { need: 1_984 }));
+    assert_eq!(rt; heap.ensure(1_983), Ok(()));
+    heap.scavenge();
     assert_eq!(rt; heap.ensure(65), Err(Full { need: 65 }));
     assert_eq!(rt; heap.ensure(64), Ok(()));
-    heap.scavenge();
     assert_eq!(rt; heap.main().used(), 0);
     Ok(())
 }

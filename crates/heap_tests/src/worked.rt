@@ -227,3 +227,42 @@ pub(crate) const MIXED: Worked = Worked {
         (2_265, &[273]),
     ],
 };
+
+/// A heap with old cells in its one page, and two young ones. In the page:
+///
+/// | At | What stands there |
+/// |---|---|
+/// | 0 | the list, number 0, with the store at 3 |
+/// | 3 | a store for 3, with number 3, which is young, 1 and a hole from 5 on |
+/// | 8 | a filler, which is one free word |
+/// | 9 | an empty list, number 1 |
+/// | 12 | a gap of 4 words |
+/// | 16 | a list, number 2, with the store at 2,051, which is young |
+/// | 19 | a gap of 2,029 words |
+///
+/// In eden:
+///
+/// | At | What stands there |
+/// |---|---|
+/// | 2,048 | an empty list, number 3 |
+/// | 2,051 | a store for 1, with number 1, which is old |
+///
+/// The root refers to number 0.
+pub(crate) const OLD: Worked = Worked {
+    sizes: SMALL_SIZES,
+    variables: 1,
+    words: 10_442,
+    layouts: 2_242,
+    used: 6,
+    survivors: 0,
+    steps: &[],
+    stretches: &[
+        (0, &[6, 13, 2, 14, 3, 8_193, 2, 7]),
+        (8, &[26, 4_294_967_302, 3, 0]),
+        (12, &[30, 4, 0, 0]),
+        (16, &[8_589_934_598, 8_205, 1, 30, 2_029]),
+        (2_048, &[12_884_901_894, 3, 0]),
+        (2_051, &[14, 1, 37]),
+        (2_240, &[1, 0]),
+    ],
+};

@@ -9,7 +9,7 @@ use std::alloc::Global;
 use std::test::Fail;
 use std::thread::Threads;
 
-const SCRIPTS: [&[u8]; 21] = [
+const SCRIPTS: [&[u8]; 24] = [
     b"let x 1",
     b"new x 2\nset x a 1\nset x b 5000000000\nset x c x\ndel x b\nset x c 5000000000",
     b"new x 0\nset x a 5000000000\nset x b 5000000000\nset x a x\ndel x a\ndel x b",
@@ -46,6 +46,15 @@ const SCRIPTS: [&[u8]; 21] = [
       new a 8\npush l a\nnew a 8\npush l a\nnew a 8\npush l a\nnew a 8\npush l a\n\
       new a 8\npush l a\nnew a 8\npush l a\nnew a 8\npush l a\nnew a 8\npush l a\n\
       new a 8\npush l a\nnew a 8\npush l a\nnew a 8\npush l a\nnew a 8\npush l a\nprint l",
+    b"list l\nnew a 8\nnew b 8\nnew c 8\nnew d 8\nnew e 8\nnew f 8\nnew g 8\nnew h 8\nnew i 8\nnew j 8\n\
+      new k 8\nnew n 8\nnew p 2\npush l 5000000000\nnew x 0\npush l x\nset x f l\nput l 0 x\n\
+      push l 6000000000\ndrop x\nscavenge\nshift l 1\npush l 7000000000\nscavenge\ntrunc l 1\npush l l",
+    b"new x 1\nset x a x\nnew a 8\nnew b 8\nnew c 8\nnew d 8\nnew e 8\nnew f 8\nnew g 8\nnew h 8\n\
+      new i 8\nnew j 8\nnew k 8\nnew n 8\nnew p 3\nset x a 5000000000\nset x b a\nnew y 0\nset a f y\n\
+      drop y\nscavenge\nset x a 6000000000\nset x c x\nscavenge\ndel x a",
+    b"weak m\nnew a 8\nnew b 8\nnew c 8\nnew d 8\nnew e 8\nnew f 8\nnew g 8\nnew h 8\nnew i 8\nnew j 8\n\
+      new k 8\nnew n 8\nnew p 2\nwput m a b\nwput m b 5000000000\nnew q 0\nwput m q q\ndrop q\n\
+      scavenge\nwdel m a\nnew q 0\nwput m q 6000000000\nscavenge",
 ];
 
 /// The graph of a script without `repeat` up to its end or its first fault.

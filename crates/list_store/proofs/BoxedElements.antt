@@ -25,14 +25,15 @@ use Rattle.object_cells.proofs.IntegerTouches.{integer_remembers}
 use Rattle.object_cells.proofs.ListSlots.{element_of_number}
 use Rattle.object_cells.proofs.MadeBoxes.{boxed_integer}
 use Rattle.object_cells.proofs.NumberedSlots.{SlotOfNumber}
+use Rattle.object_cells.proofs.NothingUsed.{room_for_none}
 use Rattle.object_cells.proofs.OneElement.{PutsElement, element_refills}
 use Rattle.object_cells.proofs.OwnIntegers as integer
 use Rattle.object_cells.proofs.OwnIntegers.{PutsInteger}
 use Rattle.object_cells.proofs.OwnPlaces.{slot_names_box, no_other_slot_names}
 use Rattle.object_cells.proofs.OwnerWrites.{list_owns}
 use Rattle.object_cells.proofs.RefilledLists.{written_elements_show}
-use Rattle.object_cells.proofs.RestOfWords.{keeps_regions}
 use Rattle.object_cells.proofs.SlotBoxes.{IsBoxOf}
+use Rattle.object_cells.proofs.TakenRuns.{takes_none}
 use Rattle.object_cells.proofs.ListChanging.{Changing, Elements}
 
 module _ {old new : Mutator} {graph : Graph} {at slot count : ℕ} {list : ListObject} {value : Held} {what : Value}
@@ -123,8 +124,9 @@ module _ {old new : Mutator} {graph : Graph} {at slot count : ℕ} {list : ListO
   box_shown =
       written_elements_show old new graph list cell (box_of.cell ∷ []) [] becomes.after known.shows known.is.object
       known.shown.carries known.shown.shows becomes.are_new
-      (keeps_regions (integer.rest_stays put_it) (integer.same_young put_it)) (ap (λ (m : Mutator). m.paths) puts_it)
-      (integer.writes put_it) (element_refills puts_element) (integer_remembers put_it)
+      (takes_none (integer.rest_stays put_it) (room_for_none old known.shows.tied known.shows.shows.whole)
+      (integer.same_young put_it)) (ap (λ (m : Mutator). m.paths) puts_it) (integer.writes put_it)
+      (element_refills puts_element) (integer_remembers put_it)
 
   -- each store has as many slots as before
   pub box_keeps : ChangesObject (heap_of old) (heap_of new) cell.at (capacity_at (heap_of old) cell.at)

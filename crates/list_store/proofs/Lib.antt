@@ -1,7 +1,9 @@
 mod TouchedLists
 mod PushNeeds
 mod WrittenSlots
+mod TouchedSlots
 mod PushedToNewStore
+mod TouchedStores
 mod PushOutcomes
 mod BoxedElements
 mod PutOutcomes

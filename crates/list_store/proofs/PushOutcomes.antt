@@ -22,7 +22,9 @@ use Rattle.list_store.specs.ListChanges.{HasPushed}
 use Rattle.list_store.specs.Pushes.{PushesAt}
 use Rattle.list_store.proofs.PushNeeds.{need_to_store, need_to_new_store, push_need_is}
 use Rattle.object_cells.proofs.ListChanging.{Changing, Elements}
-use Rattle.list_store.proofs.WrittenSlots.{slot_shown, slot_keeps, push_remembers}
+use Rattle.list_store.proofs.TouchedSlots.{push_remembers}
+use Rattle.list_store.proofs.TouchedStores.{new_store_remembers}
+use Rattle.list_store.proofs.WrittenSlots.{slot_shown, slot_keeps}
 use Rattle.list_store.proofs.PushedToNewStore.{to_new_store_shown, to_new_store_becomes}
 
 -- one element more
@@ -88,7 +90,7 @@ has_pushed {old} {new} {at = at} {count} {list} {value} {what} known is few size
       changes = subst (ChangesObject heap (heap_of new) at) grows
           (subst (λ a. ChangesObject heap (heap_of new) a (grown_list count)) known.shown.stands
           (to_new_store_becomes known can is few full pushes sizes));
-      shows = to_new_store_shown known can is few full pushes;
+      shows = to_new_store_shown known can is few full pushes (new_store_remembers known can is few full pushes);
       held = value;
       holds = known.held.shows;
       puts = subst (λ n. PushesAt old new at n value) is (PushesAt.to_new_store store can full pushes);

@@ -2,10 +2,9 @@
 use Rattle.std.proofs.Common.{◌≡◌, ◌≢◌, ℕ, ◌+◌, ◌≤◌, ◌<◌, ◌⊎◌, inl, inr, List, [], ◌∷◌, ◌++◌, length, drop, Some}
 use Rattle.std.proofs.Common.{slice_get}
 use Rattle.std.proofs.Common.{false, refl, sym, ◌∙◌, ap, subst, arith, length-append, length-drop}
-use Rattle.tagged_word.specs.Cells.{store_head, store_slot}
+use Rattle.tagged_word.specs.Cells.{store_head}
 use Rattle.tagged_word.specs.declared.layout.Kind.TheVariants as kind
 use Rattle.tagged_word.proofs.Members.{first_in}
-use Rattle.page_space.specs.Extents.{eden_start}
 use Rattle.page_space.specs.Sizes.{AreWithin}
 use Rattle.page_space.proofs.Starts.{marks_start_is}
 use Rattle.object_graph.specs.Graphs.{Graph, ListObject}
@@ -15,22 +14,21 @@ use Rattle.heap_table.specs.Seats.{heap_words}
 use Rattle.heap_model.specs.Heaps.{HasCell, words_of_cell}
 use Rattle.heap_model.specs.Kinds.{HasWord, count_offset}
 use Rattle.heap_model.specs.Needs.{grown_list}
-use Rattle.heap_model.specs.Remembered.{Touch}
 use Rattle.heap_model.specs.Showing.{ShowsValue}
-use Rattle.heap_model.specs.Slots.{reference_word, HoldsStore, hole_word}
+use Rattle.heap_model.specs.Slots.{reference_word, HoldsStore, hole_word, is_object_kind}
 use Rattle.heap_model.proofs.BoundHeaps.{none_in}
+use Rattle.heap_model.proofs.CellOutcomes.{object_is_no_filler}
 use Rattle.heap_model.proofs.CellWords.{words_by_kind}
 use Rattle.write_barrier.specs.MutatorState.{Mutator, heap_of, MainShows}
-use Rattle.write_barrier.specs.Recording.{Remembers, touched_one, touched_then}
+use Rattle.write_barrier.specs.Recording.{Remembers}
 use Rattle.object_cells.specs.Capacities.{ChangesObject}
 use Rattle.object_cells.specs.Contents.{next_at}
 use Rattle.object_cells.specs.FilledRuns.{FillsRun}
 use Rattle.object_cells.specs.OwnSlots.{ComesFrom}
-use Rattle.object_cells.specs.Made.{store_content, content_touch, content_word, store_touch}
+use Rattle.object_cells.specs.Made.{store_content, content_need, content_word}
 use Rattle.object_cells.specs.declared.stores.Store.{Store}
 use Rattle.object_cells.proofs.CopiedSlots.{NewSlotIs, new_slot_is}
-use Rattle.object_cells.proofs.FittingCells.{content_fits}
-use Rattle.object_cells.proofs.FilledRuns.{FillsOwn, next_run, makes_store, own_run, filled_named}
+use Rattle.object_cells.proofs.FilledRuns.{FillsOwn, makes_store, own_row, own_run, filled_named}
 use Rattle.object_cells.proofs.HeldNeeds.{new_value_held}
 use Rattle.object_cells.proofs.ListChanging.{Changing, list_word}
 use Rattle.object_cells.proofs.MadeBoxes.{made_boxes}
@@ -40,55 +38,63 @@ use Rattle.object_cells.proofs.OneElement.{PutsElement, element_refills, pushed_
 use Rattle.object_cells.proofs.OwnCapacities.{object_grows}
 use Rattle.object_cells.proofs.OwnerWrites.{list_owns}
 use Rattle.object_cells.proofs.RefilledLists.{written_elements_show}
-use Rattle.object_cells.proofs.RestOfWords.{keeps_regions}
 use Rattle.object_cells.proofs.SlotsNow.{word_at_offset}
 use Rattle.object_cells.proofs.StoreRuns.{CopiesSlots, fills_run, own_put, copies_slots}
 use Rattle.object_cells.proofs.StoreWords.{MakesStore}
+use Rattle.object_cells.proofs.TakenRuns.{takes_run}
 use Rattle.object_cells.proofs.TakenValues as taken
 use Rattle.object_cells.proofs.TakenValues.{TakesValue, filled_takes}
-use Rattle.object_cells.proofs.TouchedCells.{fits_then, fits_young, remembers, same_cells_touched}
-use Rattle.object_cells.proofs.UnusedWords.{marks_fit}
+use Rattle.object_cells.proofs.UnusedWords.{marks_fit, next_run}
 use Rattle.list_store.specs.Pushes.{CanChange, PushesToNewStore}
-use Rattle.list_store.proofs.TouchedLists.{count_fits, store_fits}
 
 module _ {old new : Mutator} {graph : Graph} {at count : ℕ} {list : ListObject} {value : Held} {what : Value}
     {store : Store} (known : Changing old graph at list value what) (can : CanChange old at count store)
     (is : count ≡ length list.elements) (least : length list.elements < list_most) (full : count ≡ store.capacity)
     (pushes : PushesToNewStore old new at count value store) where
   -- the list's cell, and the store that is made, with more slots than the list has elements
-  abbrev cell : Cell
+  abbrev pub cell : Cell
   cell = known.shown.cell
 
-  abbrev capacity : ℕ
+  abbrev pub capacity : ℕ
   capacity = grown_list count
 
-  abbrev other : Cell
+  abbrev pub other : Cell
   other = store_cell (next_at old) capacity
 
-  more : count < capacity
+  pub more : count < capacity
   more = omega (arith, is, least)
 
-  -- the address of the box, and the word of the slot
-  abbrev box : ℕ
+  -- the address of the box, how many words are taken, and the word of the slot
+  abbrev pub box : ℕ
   box = next_at old + (store_head + capacity)
+
+  abbrev pub need : ℕ
+  need = store_head + capacity + content_need (store_content value)
 
   abbrev word : ℕ
   word = content_word (store_content value) box
 
+  -- the list's cell is no filler
+  pub list_no_filler : cell.layout.kind ≢ kind.Filler
+  list_no_filler =
+      object_is_no_filler cell.layout.kind (ap is_object_kind known.shown.shows.of_kind ∙ list_owns.object)
+
   -- the store is made of words that were not used
   makes : MakesStore (heap_words old.seat) at (at + count_offset) store capacity (next_at old) (store_content value)
   makes =
-      makes_store at (at + count_offset) (next_run old _ known.shows.tied pushes.room) known.shows.shows.whole
-      known.shown.has known.shows.shows.whole.sized.words can.is (omega (arith, full, more))
+      makes_store at (at + count_offset) (next_run old _ known.shows.tied known.shows.shows.whole.rows pushes.room)
+      known.shows.shows.whole known.shown.has known.shows.shows.whole.sized.words can.is list_no_filler
+      (omega (arith, full, more))
       (list_word 1 known.shown (omega arith)) (list_word 2 known.shown (omega arith)) (λ same. omega (arith, same))
 
   -- they are filled with it, and a box
-  filled : FillsOwn kind.List kind.Store old new cell other at (at + count_offset) (store_content value)
+  pub filled : FillsOwn kind.List kind.Store old new cell other at (at + count_offset) (store_content value)
   filled = record {
     tied = known.shows.tied;
     whole = known.shows.shows.whole;
     has = known.shown.has;
     of_kind = known.shown.shows.of_kind;
+    of_object = list_owns.object;
     stands = known.shown.stands;
     room = pushes.room;
     at = refl;
@@ -104,9 +110,8 @@ module _ {old new : Mutator} {graph : Graph} {at count : ℕ} {list : ListObject
   }
 
   -- so the list takes the value
-  takes : TakesValue kind.List kind.Store (heap_of old) (heap_of new) cell cell [] (other ∷ []) (store_content value)
-      box
-      what (reference_word (next_at old))
+  pub takes : TakesValue kind.List kind.Store (heap_of old) (heap_of new) cell cell [] (other ∷ [])
+      (store_content value) box what (reference_word (next_at old))
   takes =
       filled_takes (length graph.objects) list_owns refl filled known.fits (new_value_held false value what
       known.held.shows)
@@ -199,39 +204,16 @@ module _ {old new : Mutator} {graph : Graph} {at count : ℕ} {list : ListObject
         boxes = taken.boxes_told takes;
       }
 
-  -- what is made is in eden, so of pages only words of the list's cell are touched: it is remembered
-  new_store_remembers : Remembers old new (cell ∷ []) (cell ∷ [])
-  new_store_remembers =
-      let cells : List Cell = cell ∷ [] in
-      let eden : ℕ = eden_start old.seat.space in
-      let next : ℕ = next_at old in
-      let slot : ℕ = next + (store_head + count) in
-      let made : ℕ → Touch = touched_then (store_touch capacity next) (content_touch (store_content value) box) in
-      let put : ℕ → Touch = touched_then made (touched_one Touch.Stored slot) in
-      let linked : ℕ → Touch = touched_then put (touched_one Touch.Stored (at + store_slot)) in
-      let counted : ℕ → Touch = touched_one Touch.Wiped (at + count_offset) in
-      let whole = known.shows.shows.whole in
-      remembers (touched_then linked counted) pushes.touches
-      (same_cells_touched eden cells (touched_then linked counted) (λ a of_page.
-      fits_then cells cells linked counted a
-      (fits_then cells cells put (touched_one Touch.Stored (at + store_slot)) a
-      (fits_then cells cells made (touched_one Touch.Stored slot) a
-      (fits_then cells cells (store_touch capacity next) (content_touch (store_content value) box) a
-      (fits_young cells cells Touch.Wiped eden next (next + (store_head + capacity)) a (omega arith) of_page)
-      (content_fits cells cells (store_content value) eden box a (omega arith) of_page))
-      (fits_young cells cells Touch.Stored eden slot (slot + 1) a (omega arith) of_page))
-      (store_fits [] whole known.shown (λ one among. absurd (none_in one among)) a))
-      (count_fits [] whole known.shown (λ one among. absurd (none_in one among)) a)))
-
   -- and the graph is shown in which it is the last
-  pub to_new_store_shown : MainShows new (relist graph list (list.elements ++ what ∷ []))
-  to_new_store_shown =
+  pub to_new_store_shown : Remembers old new (cell ∷ []) (cell ∷ []) (other ∷ made_boxes (store_content value) box)
+      → MainShows new (relist graph list (list.elements ++ what ∷ []))
+  to_new_store_shown remembered =
       written_elements_show old new graph list cell [] (other ∷ made_boxes (store_content value) box)
       (list.elements ++ what ∷ []) known.shows known.is.object known.shown.carries known.shown.shows
       (pushed_elements_are_new graph list what known.shows.is_graph known.is.object known.is.reached least known.fits
       known.held.reached)
-      (keeps_regions pushes.words.beside pushes.words.young) pushes.words.paths takes.writes
-      (element_refills puts_element) new_store_remembers
+      (takes_run need pushes.words.beside pushes.room pushes.words.young (own_row filled).row) pushes.words.paths
+      takes.writes (element_refills puts_element) remembered
 
   -- the list has as many slots as the store that was made, and each other object as many as before
   pub to_new_store_becomes : AreWithin old.seat.space.sizes old.seat.space.variables

@@ -14,17 +14,18 @@ use Rattle.nursery.specs.Young.{HasRoom}
 use Rattle.heap_table.specs.Seats.{heap_words}
 use Rattle.heap_model.specs.Kinds.{count_offset}
 use Rattle.heap_model.specs.Needs.{capacity_at, word_at, box_need, is_box_word}
+use Rattle.heap_model.proofs.CellOutcomes.{object_is_no_filler}
 use Rattle.heap_model.proofs.CellsApart.{IsOfCell, cells_apart}
 use Rattle.heap_model.proofs.CellWords.{words_by_kind, words_are_size}
 use Rattle.write_barrier.specs.MutatorState.{Mutator, heap_of, reserved}
-use Rattle.write_barrier.specs.Recording.{Touches, touched_one}
+use Rattle.write_barrier.specs.Recording.{Touches, touched_one, touched_then}
 use Rattle.heap_model.specs.Remembered.{Touch}
-use Rattle.heap_model.specs.Slots.{IsSlotWord}
+use Rattle.heap_model.specs.Slots.{is_object_kind, IsSlotWord}
 use Rattle.object_cells.specs.declared.stores.Store.{Store}
 use Rattle.object_cells.specs.Capacities.{ChangesObject}
 use Rattle.object_cells.specs.Contents.{next_at, box_in, filling_at, filling_of, filling_need, FillsSlot}
 use Rattle.object_cells.specs.Made.{IsStoreAt, PutsWords, with_content, content_need, content_word, slot_touch}
-use Rattle.object_cells.specs.Made.{store_content, is_wide_held}
+use Rattle.object_cells.specs.Made.{content_touch, store_content, is_wide_held}
 use Rattle.object_cells.specs.declared.content.SlotContent.{SlotContent}
 use Rattle.object_cells.specs.declared.content.SlotContent.TheVariants as content
 use Rattle.object_cells.specs.Uses.{UsesMore}
@@ -35,7 +36,7 @@ use Rattle.object_cells.proofs.NewElements.{put_elements_are_new}
 use Rattle.object_cells.proofs.OneElement.{set_differs}
 use Rattle.object_cells.proofs.SlotBoxes.{box_of_word}
 use Rattle.object_cells.proofs.StoresRead.{stored_at}
-use Rattle.object_cells.proofs.UnusedWords.{cell_is_used, next_before_segments}
+use Rattle.object_cells.proofs.UnusedWords.{next_apart}
 use Rattle.heap_model.specs.Rooms.{on_found, is_wide, put_need}
 use Rattle.heap_model.proofs.ShownBoxes.{value_boxed}
 use Rattle.object_graph.specs.declared.value.Value.TheVariants.{Undefined}
@@ -46,10 +47,12 @@ use Rattle.object_cells.proofs.NothingUsed.{room_for_none}
 use Rattle.list_store.specs.ListChanges.{HasPut}
 use Rattle.list_store.specs.Pushes.{with_count, with_element}
 use Rattle.list_store.proofs.BoxedElements.{box_shown, box_keeps, put_it}
+use Rattle.object_cells.proofs.OwnerWrites.{list_owns}
 use Rattle.object_cells.proofs.OwnIntegers.{same_young}
 use Rattle.object_cells.proofs.ElementsRead.{SlotRead, slot_read}
 use Rattle.object_cells.proofs.ListChanging.{Changing, Elements, list_is_no_store}
-use Rattle.list_store.proofs.WrittenSlots.{slot_shown, slot_keeps, put_remembers}
+use Rattle.list_store.proofs.TouchedSlots.{put_remembers}
+use Rattle.list_store.proofs.WrittenSlots.{slot_shown, slot_keeps}
 
 -- one element in the place of another
 abbrev pub put_elements : {old : Mutator} {graph : Graph} {at : ℕ} {list : ListObject} {value : Held} {what : Value}
@@ -97,7 +100,8 @@ module _ {old : Mutator} {graph : Graph} {at : ℕ} {list : ListObject} {value :
   need_to_put sizes there =
       let heap = heap_of old in
       let element : Value = get_or list.elements place Undefined in
-      let stands : slice_get list.elements place ≡ Some element = slice_get-get_or list.elements place Undefined there in
+      let stands : slice_get list.elements place ≡ Some element =
+      slice_get-get_or list.elements place Undefined there in
       let word : ℕ = get_or known.shown.shows.slots place 0 in
       let boxed = value_boxed word element sizes known.shows.shows.whole.sized
       (known.shown.shows.each place element word stands slot.holds) in
@@ -134,8 +138,9 @@ module _ {old : Mutator} {graph : Graph} {at : ℕ} {list : ListObject} {value :
       (subst (IsOfCell shown.cell) same of_list) of_store in
       list_is_no_store shown.shows.of_kind (ap (λ (c : Cell). c.layout.kind) cells ∙ found.found.of_kind))
       ∙ with_content_stays (heap_words old.seat) (store_content value) (next_at old) (at + count_offset)
-      (λ from high. cell_is_used rows shown.has of_list from
-      (omega (arith, high, next_before_segments old (content_need (store_content value)) known.shows.tied room)))
+      (λ from high. next_apart (content_need (store_content value)) (at + count_offset) known.shows.tied rows room
+      (object_is_no_filler shown.cell.layout.kind (ap is_object_kind shown.shows.of_kind ∙ list_owns.object)) shown.has
+      of_list from high)
       ∙ ap (λ n. slice_get (heap_words old.seat) (n + count_offset)) (sym shown.stands)
       ∙ word_stands count_offset (length list.elements) shown.has shown.shows.counted
 
@@ -155,18 +160,20 @@ module _ {old : Mutator} {graph : Graph} {at : ℕ} {list : ListObject} {value :
         (at + count_offset) (length list.elements) (count_stays room));
   }
 
-  -- of pages only the slot is touched, where a box that it needs is made
+  -- of pages only a box is touched that is made, and the slot
   element_touch : {new : Mutator} → FillsSlot old new (place_at store place) (store_content value)
       → filling_need (filling_at old (place_at store place) (store_content value)) ≡ content_need (store_content value)
-      → Touches old new (touched_one Touch.Stored (place_at store place))
+      → Touches old new (touched_then (content_touch (store_content value) (next_at old))
+      (touched_one Touch.Stored (place_at store place)))
   element_touch {new} fills needs =
       let heap = heap_of old in
-      subst (λ how. Touches old new (touched_one how (place_at store place)))
+      subst (λ how. Touches old new (touched_then (content_touch (store_content value) (next_at old))
+      (touched_one how (place_at store place))))
       (stored_content (store_content value) (λ w. no_raw w (new_value_held false value what known.held.shows)))
       (fills_slot_touch fills known.shows.tied known.shows.shows.whole
       (omega (arith, is_store.within, below))
       (held_before heap (word_at heap (place_at store place)) (store_content value)
-      (subst (IsSlotWord heap) (sym word_is) slot.is)) known.shows.bounded needs)
+      (subst (IsSlotWord heap) (sym word_is) slot.is)) needs)
 
 -- so the element is the value
 pub has_put : {old new : Mutator} {graph : Graph} {at : ℕ} {list : ListObject} {value : Held} {what : Value}

@@ -1,36 +1,35 @@
 -- A value that comes to a slot that the store of a list has is shown as the element of this number.
 use Rattle.std.specs.Prelude.{slice_set}
 use Rattle.std.proofs.Common.{◌≡◌, ◌≢◌, ℕ, ◌+◌, ◌≤◌, ◌<◌, inl, List, [], ◌∷◌, length, slice_get, sym, ◌∙◌, ap, subst}
-use Rattle.std.proofs.Common.{arith, length-set, drop, Some, false, length-drop, Contains}
+use Rattle.std.proofs.Common.{arith, length-set, drop, Some, false, length-drop}
 use Rattle.std.proofs.lemmas.Option.{same_Some}
 use Rattle.tagged_word.specs.declared.layout.Kind.TheVariants as kind
 use Rattle.tagged_word.specs.Cells.{store_head, store_slot}
 use Rattle.tagged_word.proofs.Members.{first_in, one_in}
-use Rattle.page_space.specs.Extents.{eden_start}
 use Rattle.page_space.proofs.Starts.{marks_start_is}
 use Rattle.nursery.specs.Young.{HasRoom}
 use Rattle.object_graph.specs.Graphs.{Graph, ListObject}
 use Rattle.object_graph.specs.Meaning.{relist}
 use Rattle.object_graph.proofs.Lists.{slice_get-set_other, slice_get-set_same}
+use Rattle.cell_layout.specs.Cells.{IsRow}
 use Rattle.heap_table.specs.Seats.{heap_words}
 use Rattle.heap_model.specs.Types.{Value, Cell, Held}
 use Rattle.heap_model.specs.Heaps.{HasCell, words_of_cell}
 use Rattle.heap_model.specs.Kinds.{count_offset, HasWord, IsSoundOf}
 use Rattle.heap_model.specs.Needs.{capacity_at}
-use Rattle.heap_model.specs.Remembered.{Touch}
 use Rattle.heap_model.specs.Showing.{ShowsValue}
 use Rattle.heap_model.specs.Slots.{HoldsStore}
 use Rattle.heap_model.proofs.CellsApart.{IsOfCell}
 use Rattle.heap_model.proofs.CellWords.{words_by_kind}
 use Rattle.write_barrier.specs.MutatorState.{Mutator, heap_of, MainShows, reserved}
-use Rattle.write_barrier.specs.Recording.{Touches, Remembers, touched_one, touched_then}
+use Rattle.write_barrier.specs.Recording.{Remembers}
 use Rattle.object_cells.specs.Contents.{next_at}
-use Rattle.object_cells.specs.Made.{IsStoreAt, PutsWords, with_content, content_need, content_touch, content_word}
+use Rattle.object_cells.specs.Made.{IsStoreAt, PutsWords, with_content, content_need, content_word}
 use Rattle.object_cells.specs.Made.{store_content}
 use Rattle.object_cells.specs.declared.stores.Store.{Store}
 use Rattle.object_cells.specs.Capacities.{ChangesObject}
 use Rattle.object_cells.specs.OwnSlots.{ComesFrom}
-use Rattle.object_cells.proofs.MadeBoxes.{made_boxes, length-with_content, with_content_stays}
+use Rattle.object_cells.proofs.MadeBoxes.{made_boxes, made_row, length-with_content, with_content_stays}
 use Rattle.object_cells.proofs.OwnPlaces.{has_own_words}
 use Rattle.object_cells.proofs.StoresRead.{StoredAt}
 use Rattle.object_cells.proofs.ListChanging.{Changing, changing_store, list_word, Elements, slot_stands, slot_few}
@@ -41,17 +40,14 @@ use Rattle.object_cells.proofs.OwnCells.{cell_below_layouts, list_size}
 use Rattle.object_cells.proofs.RefilledLists.{written_elements_show}
 use Rattle.object_cells.proofs.SlotsNow.{word_at_offset}
 use Rattle.object_cells.proofs.OwnerWrites.{list_owns}
-use Rattle.object_cells.proofs.RestOfWords.{keeps_regions}
+use Rattle.object_cells.proofs.TakenRuns.{takes_run}
 use Rattle.object_cells.proofs.TakenValues as taken
 use Rattle.object_cells.proofs.TakenValues.{TakesValue}
 use Rattle.object_cells.proofs.OwnCapacities.{object_keeps}
 use Rattle.object_cells.proofs.CellsRead.{word_stands}
 use Rattle.object_cells.proofs.OwnContents as beside
 use Rattle.object_cells.proofs.OwnContents.{PutsBeside, not_made, apart}
-use Rattle.object_cells.proofs.FittingCells.{content_fits}
-use Rattle.object_cells.proofs.TouchedCells.{FitsTouch, fits_then, remembers, same_cells_touched}
 use Rattle.list_store.specs.Pushes.{with_count, with_element}
-use Rattle.list_store.proofs.TouchedLists.{count_fits, element_fits}
 
 module _ {old new : Mutator} {graph : Graph} {at slot count : ℕ} {list : ListObject} {value : Held} {what : Value}
     {store : Store} (known : Changing old graph at list value what) (becomes : Elements graph list what slot count)
@@ -60,28 +56,28 @@ module _ {old new : Mutator} {graph : Graph} {at slot count : ℕ} {list : ListO
     (puts : let put = with_element (heap_words old.seat) (store.at + (store_head + slot)) value (next_at old) in
     PutsWords (reserved old (content_need (store_content value))) new (with_count put at count)) where
   -- the list's cell
-  abbrev cell : Cell
+  abbrev pub cell : Cell
   cell = known.shown.cell
 
   -- the store's
   pub there : StoredAt (heap_of old) known.shown.shows.store known.shown.shows.slots store
   there = changing_store slot known is_store below
 
-  abbrev other : Cell
+  abbrev pub other : Cell
   other = there.found.cell
 
   -- it stands there with its words
-  other_has : HasCell (heap_of old) other (words_of_cell (heap_of old) other)
+  pub other_has : HasCell (heap_of old) other (words_of_cell (heap_of old) other)
   other_has = has_own_words there.found.refers.has
 
   -- the address of the slot, its word, and the words before and after the two were put
-  abbrev place : ℕ
+  abbrev pub place : ℕ
   place = store.at + (store_head + slot)
 
   abbrev word : ℕ
   word = content_word (store_content value) (next_at old)
 
-  abbrev need : ℕ
+  abbrev pub need : ℕ
   need = content_need (store_content value)
 
   abbrev boxed : List ℕ
@@ -91,7 +87,7 @@ module _ {old new : Mutator} {graph : Graph} {at slot count : ℕ} {list : ListO
   put = slice_set boxed place word
 
   -- the slot is one of the store
-  of_store : IsOfCell other place
+  pub of_store : IsOfCell other place
   of_store = record {
     from = omega (arith, there.found.stands);
     below = omega (arith, there.found.stands, there.found.size, there.capacity, below);
@@ -104,7 +100,7 @@ module _ {old new : Mutator} {graph : Graph} {at slot count : ℕ} {list : ListO
       slice_get-set_other put (at + count_offset) a count not_count ∙ slice_get-set_other boxed place a word not_place
 
   -- so words of the list's cell and of its store were put
-  putting : PutsBeside kind.List kind.Store old new cell other known.shown.shows.store (store_content value)
+  pub putting : PutsBeside kind.List kind.Store old new cell other known.shown.shows.store (store_content value)
       (with_count put at count)
   putting =
       let store_is = there.found in
@@ -139,10 +135,15 @@ module _ {old new : Mutator} {graph : Graph} {at slot count : ℕ} {list : ListO
       apart putting (at + count_offset) a (list_word 2 known.shown (omega arith)) of_other (sym same)
 
   -- and the list takes the value
-  takes : TakesValue kind.List kind.Store (heap_of old) (heap_of new) cell cell (other ∷ []) [] (store_content value)
-      (next_at old) what known.shown.shows.store
+  pub takes : TakesValue kind.List kind.Store (heap_of old) (heap_of new) cell cell (other ∷ []) []
+      (store_content value) (next_at old) what known.shown.shows.store
   takes =
       beside.takes putting (length graph.objects) known.fits (new_value_held false value what known.held.shows)
+
+  -- the box is the row of the words that were taken
+  pub row : IsRow new.seat.space (heap_words new.seat) (next_at old) (next_at old + need)
+      (made_boxes (store_content value) (next_at old))
+  row = made_row (heap_of new) (store_content value) (next_at old) takes.writes.sized takes.stands
 
   -- its store stands in the new heap
   store_has : HasCell (heap_of new) other (words_of_cell (heap_of new) other)
@@ -163,7 +164,7 @@ module _ {old new : Mutator} {graph : Graph} {at slot count : ℕ} {list : ListO
       ∙ sym (ap (λ all. slice_get all a) puts.heap
       ∙ word_stays a (not_count a of_other) (λ same. not_one (omega (arith, same, there.found.stands)))
       ∙ with_content_stays (heap_words old.seat) (store_content value) (next_at old) a
-      (not_made putting a other_has of_other))
+      (not_made putting a (beside.other_no_filler putting) other_has of_other))
       ∙ sym (slot_stands k store_has there.found.of_kind inside) ∙ holds
 
   -- that holds the word
@@ -245,54 +246,13 @@ module _ {old new : Mutator} {graph : Graph} {at slot count : ℕ} {list : ListO
         boxes = taken.boxes_told takes;
       }
 
-  -- the cells that are written
-  abbrev cells : List Cell
-  cells = cell ∷ other ∷ []
-
-  -- the store is one of those that stand
-  others_stand : (one : Cell) → Contains (other ∷ []) one → HasCell (heap_of old) one (words_of_cell (heap_of old) one)
-  others_stand one among =
-      subst (λ (c : Cell). HasCell (heap_of old) c (words_of_cell (heap_of old) c)) (one_in other one among) other_has
-
-  -- the slot fits where it is stored
-  place_fits : (a : ℕ) → FitsTouch cells cells a (touched_one Touch.Stored place a)
-  place_fits a =
-      subst (λ n. FitsTouch cells cells a (touched_one Touch.Stored (n + (store_head + slot)) a)) there.found.stands
-      (element_fits (other ∷ []) known.shows.shows.whole known.shown others_stand slot a (first_in other [])
-      there.found.of_kind (omega (arith, there.capacity, below)))
-
-  -- so an element that is put is remembered
-  pub put_remembers : Touches old new (touched_one Touch.Stored place) → Remembers old new cells cells
-  put_remembers touches =
-      remembers (touched_one Touch.Stored place) touches
-      (same_cells_touched (eden_start old.seat.space) cells (touched_one Touch.Stored place)
-      (λ a of_page. place_fits a))
-
-  -- a box is made for it in eden
-  abbrev slot_touch : ℕ → Touch
-  slot_touch = touched_then (content_touch (store_content value) (next_at old)) (touched_one Touch.Stored place)
-
-  -- and so is one that is pushed, where the list's length is another
-  pub push_remembers : Touches old new (touched_then slot_touch (touched_one Touch.Wiped (at + count_offset)))
-      → Remembers old new cells cells
-  push_remembers touches =
-      let eden : ℕ = eden_start old.seat.space in
-      let made : ℕ → Touch = content_touch (store_content value) (next_at old) in
-      let counted : ℕ → Touch = touched_one Touch.Wiped (at + count_offset) in
-      remembers (touched_then slot_touch counted) touches
-      (same_cells_touched eden cells (touched_then slot_touch counted) (λ a of_page.
-      fits_then cells cells slot_touch counted a
-      (fits_then cells cells made (touched_one Touch.Stored place) a
-      (content_fits cells cells (store_content value) eden (next_at old) a (omega arith) of_page) (place_fits a))
-      (count_fits (other ∷ []) known.shows.shows.whole known.shown others_stand a)))
-
   -- and the graph is shown in which it is the last
-  pub slot_shown : Remembers old new cells cells → MainShows new (relist graph list becomes.after)
+  pub slot_shown : Remembers old new (cell ∷ other ∷ []) (cell ∷ other ∷ [])
+      (made_boxes (store_content value) (next_at old)) → MainShows new (relist graph list becomes.after)
   slot_shown remembered =
       written_elements_show old new graph list cell (other ∷ []) (made_boxes (store_content value) (next_at old))
       becomes.after known.shows known.is.object known.shown.carries known.shown.shows becomes.are_new
-      (keeps_regions puts.beside puts.young) puts.paths takes.writes
-      (element_refills puts_element) remembered
+      (takes_run need puts.beside room puts.young row) puts.paths takes.writes (element_refills puts_element) remembered
 
   -- each store has as many slots as before
   pub slot_keeps : ChangesObject (heap_of old) (heap_of new) cell.at (capacity_at (heap_of old) cell.at)

@@ -42,7 +42,8 @@ pub record HasPushed (old new : Mutator) (graph : Graph) (at : ℕ) (list : List
   pub few : length list.elements < list_most
   pub room : HasRoom old.young (push_need (capacity_at (heap_of old) at) list value)
   pub uses : UsesMore old new (push_need (capacity_at (heap_of old) at) list value)
-  pub changes : ChangesObject (heap_of old) (heap_of new) at (push_capacity (capacity_at (heap_of old) at) (length list.elements))
+  pub changes : ChangesObject (heap_of old) (heap_of new) at
+      (push_capacity (capacity_at (heap_of old) at) (length list.elements))
   pub shows : MainShows new (relist graph list (list.elements ++ value ∷ []))
   pub held : Held
   pub holds : ShowsHeld (heap_of old) held (Some value)

@@ -7,7 +7,7 @@ use write_barrier::NoRoom;
 pub enum PushStop {
     /// The list has 1,000 elements.
     ListFull,
-    /// Eden has not the words for a store or a box that the element needs.
+    /// There is no room for a store or a box that the element needs.
     Full(NoRoom),
 }
 
@@ -16,6 +16,6 @@ pub enum PushStop {
 pub enum PutStop {
     /// The index is below 0, or not below the length.
     Range,
-    /// Eden has not the words for a box that the element needs.
+    /// There is no room for a box that the element needs.
     Full(NoRoom),
 }

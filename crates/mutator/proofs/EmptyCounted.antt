@@ -14,7 +14,7 @@ use Rattle.heap_model.specs.Slots.{undefined_word, HoldsStore}
 use Rattle.heap_model.specs.Kinds.{HasTable, IsSoundOf}
 use Rattle.heap_model.specs.Showing.{ShowsObject}
 use Rattle.heap_model.proofs.CountsStay.{HasCountOf}
-use Rattle.object_cells.proofs.EdenCells.{bare_layout}
+use Rattle.object_cells.proofs.RunCells.{bare_layout}
 use Rattle.mutator.specs.Making.{empty_counted}
 use Rattle.mutator.proofs.NewCells.{NewCell, cell_of, RefersNowhere}
 

@@ -12,9 +12,10 @@ pub mod NewCells
 pub mod EmptyCells
 pub mod EmptyCounted
 pub mod PutCells
-mod YoungWords
+mod PutRows
 mod MadeRecords
-pub mod MadeObjects
+pub mod MadeHeaps
+mod MadeObjects
 pub mod MadeCells
 pub mod FieldMeanings
 pub mod FieldsSet

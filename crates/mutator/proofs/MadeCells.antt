@@ -1,5 +1,5 @@
 -- The commands that make objects, and the cells of the objects that they make.
-use Rattle.std.proofs.Common.{◌≡◌, ℕ, ◌+◌, ◌≤◌, ◌<◌, ◌^◌, [], length, refl, sym, ap, subst, arith}
+use Rattle.std.proofs.Common.{◌≡◌, ℕ, ◌+◌, ◌≤◌, ◌<◌, ◌^◌, [], length, refl, sym, subst, arith}
 use Rattle.heap_model.specs.Types.{Header, Kind, Object, Cell}
 use Rattle.tagged_word.specs.Headers.{IsHeader}
 use Rattle.object_graph.specs.declared.object.Object.TheVariants.{Plain, Weak, List as ListOf}
@@ -13,16 +13,16 @@ use Rattle.heap_model.specs.Kinds.{IsSoundOf}
 use Rattle.heap_model.specs.Showing.{ShowsObject}
 use Rattle.heap_model.proofs.CountsStay.{HasCountOf}
 use Rattle.nursery.specs.Young.{HasRoom}
-use Rattle.page_space.specs.Extents.{Space}
-use Rattle.write_barrier.specs.MutatorState.{Mutator, heap_of, MainShows}
-use Rattle.heap_model.specs.Wholeness.{HasSizes}
+use Rattle.write_barrier.specs.MutatorState.{Mutator, MainShows}
 use Rattle.mutator.proofs.EmptyCells.{no_fields, plain_cell, plain_fresh, plain_laid, IsEmptyCell, empty_is_sound}
 use Rattle.mutator.proofs.EmptyCells.{empty_shows}
 use Rattle.mutator.proofs.EmptyCounted.{IsCountedKind, counted_cell, counted_fresh}
 use Rattle.mutator.proofs.NewCells.{cell_of}
-use Rattle.mutator.proofs.PutCells.{next_at, with_cell, with_cell_words, HasRoomFor}
+use Rattle.object_cells.specs.Contents.{next_at}
+use Rattle.mutator.proofs.PutCells.{with_cell_words}
 use Rattle.heap_command.specs.declared.command.Command.TheVariants as command
-use Rattle.mutator.proofs.MadeObjects.{IsMaking, IsSoundNewCell}
+use Rattle.mutator.proofs.MadeHeaps.{IsSoundNewCell, made_heap, room_for}
+use Rattle.mutator.proofs.MadeObjects.{IsMaking}
 
 -- what `new` makes
 pub plain_making : (graph : Graph) (x cap : ℕ) → FitsCommand (command.New x cap)
@@ -46,19 +46,15 @@ weak_making graph x =
     record { fits = tt; done = λ names. refl; need = λ rooms. refl; gives = λ rooms number. refl; none = refl }
 
 -- the layout word of a shape of paths is that of plain cells, so the cell of a plain object without fields is made
-pub plain_made : {heap : Heap} {graph : Graph} {header : Header} {cap : ℕ} (x : ℕ) → HasSizes heap → IsHeader header
-    → cap ≤ cap_most → IsShapeOf heap.paths (no_fields cap) header.shape
-    → heap.survivors + heap.used + (2 + cap) ≤ heap.space.sizes.young → header.object ≡ length graph.objects
-    → IsSoundNewCell heap graph x (plain_cell header cap) (Plain cap [])
-plain_made {heap} {header = header} {cap} x sized is_header few shaped room carries =
-    let fits : HasRoomFor heap (plain_cell header cap) = record {
-      sized = sized;
-      fresh = plain_fresh header cap is_header few;
-      known = omega (arith, shaped.is_shape.below, sized.shapes.few);
-      laid = plain_laid cap shaped;
-      room = room;
-    } in
-    let is : IsEmptyCell (with_cell heap (plain_cell header cap)) (next_at heap) header cap =
+pub plain_made : {main : Mutator} {graph : Graph} {header : Header} {cap : ℕ} (x : ℕ) → MainShows main graph
+    → IsHeader header → cap ≤ cap_most → IsShapeOf main.paths (no_fields cap) header.shape
+    → HasRoom main.young (2 + cap) → header.object ≡ length graph.objects
+    → IsSoundNewCell main graph x (plain_cell header cap) (Plain cap [])
+plain_made {main} {header = header} {cap} x shows is_header few shaped room carries =
+    let sized = shows.shows.whole.sized in
+    let fits = room_for (plain_cell header cap) shows (plain_fresh header cap is_header few)
+    (omega (arith, shaped.is_shape.below, sized.shapes.few)) (plain_laid cap shaped) room in
+    let is : IsEmptyCell (made_heap main (plain_cell header cap)) (next_at main) header cap =
     record { shaped = shaped; words = with_cell_words fits } in
     record { fits = fits; sound = empty_is_sound is; shows = empty_shows is; counts = tt; carries = carries }
 
@@ -66,18 +62,14 @@ plain_made {heap} {header = header} {cap} x sized is_header few shaped room carr
 pub counted_made : {main : Mutator} {graph : Graph} {k : Kind} {shape object : ℕ} {what : Object} (x : ℕ)
     → IsCountedKind k shape what → MainShows main graph → HasRoom main.young 3 → object < 2 ^ 32
     → object ≡ length graph.objects
-    → IsSoundNewCell (heap_of main) graph x (counted_cell k (record { shape = shape; object = object })) what
+    → IsSoundNewCell main graph x (counted_cell k (record { shape = shape; object = object })) what
 counted_made {main} {graph} {k} {shape} {object} {what} x is shows room small carries =
     let header : Header = record { shape = shape; object = object } in
-    let fits : HasRoomFor (heap_of main) (counted_cell k header) = record {
-      sized = shows.shows.whole.sized;
-      fresh = counted_fresh header is (record { shape = omega (arith, is.known); object = small });
-      known = is.known;
-      laid = is.laid main.paths;
-      room = omega (arith, room, ap (λ (space : Space). space.sizes.young) shows.tied);
-    } in
-    let heap : Heap = with_cell (heap_of main) (counted_cell k header) in
-    let at : ℕ = next_at (heap_of main) in
+    let fits = room_for (counted_cell k header) shows
+    (counted_fresh header is (record { shape = omega (arith, is.known); object = small })) is.known
+    (is.laid main.paths) room in
+    let heap : Heap = made_heap main (counted_cell k header) in
+    let at : ℕ = next_at main in
     let cell : Cell = cell_of at (counted_cell k header) in
     let words = sym (with_cell_words fits) in
     record {

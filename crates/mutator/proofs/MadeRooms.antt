@@ -25,27 +25,27 @@ use Rattle.object_cells.proofs.CellsRead.{word_stands}
 use Rattle.object_cells.proofs.KeptCapacities.{kept_where_none_went, capacity_of_none}
 use Rattle.mutator.specs.Capacities.{KeepsStores}
 use Rattle.mutator.proofs.NewCells.{NewCell, cell_of, RefersNowhere}
-use Rattle.mutator.proofs.PutCells.{next_at, IsPutCell}
+use Rattle.mutator.proofs.PutCells.{IsPutCell}
 use Rattle.mutator.proofs.KeptStores.{IsAfter, InBoth, PlacesStay, stood, room_stays, with_room-same}
 use Rattle.mutator.proofs.KeptStores.{with_room-other, none_went, stood_before}
 
 -- a cell that was put has no store
-put_has_none : {heap now : Heap} {one : NewCell} → RefersNowhere one → IsPutCell heap now one
-    → capacity_at now (next_at heap) ≡ 0
-put_has_none {heap} {now} {one} fresh put =
-    let cell : Cell = cell_of (next_at heap) one in
+put_has_none : {heap now : Heap} {at : ℕ} {one : NewCell} → RefersNowhere one → IsPutCell heap now at one
+    → capacity_at now at ≡ 0
+put_has_none {now = now} {at} {one} fresh put =
+    let cell : Cell = cell_of at one in
     let has = put.cells.comes cell (first_in cell []) in
     let slot : HasWord (words_of_cell now cell) store_slot undefined_word =
     subst (λ (words : List ℕ). HasWord words store_slot undefined_word) (sym put.words) fresh.slot in
-    capacity_of_none now (next_at heap) (word_stands store_slot undefined_word has slot)
+    capacity_of_none now at (word_stands store_slot undefined_word has slot)
 
 -- an object of the new heap stood, or it is the one that was put
-put_or_stood : {heap now : Heap} {one : NewCell} {number at : ℕ} → IsPutCell heap now one
-    → IsPlace now number at → (IsPlace heap number at → ⊥) → next_at heap ≡ at
-put_or_stood {heap} {one = one} put place apart =
+put_or_stood : {heap now : Heap} {one : NewCell} {number place_at at : ℕ} → IsPutCell heap now at one
+    → IsPlace now number place_at → (IsPlace heap number place_at → ⊥) → at ≡ place_at
+put_or_stood {one = one} {at = at} put place apart =
     elim (put.cells.back place.cell place.words place.has) [
       | inl made ↦
-          ap (λ (cell : Cell). cell.at) (one_in (cell_of (next_at heap) one) place.cell made) ∙ place.stands
+          ap (λ (cell : Cell). cell.at) (one_in (cell_of at one) place.cell made) ∙ place.stands
       | inr stays ↦ absurd (apart (record {
         cell = place.cell;
         words = place.words;
@@ -64,8 +64,8 @@ pub record MakesOne (old new : Heap) : Type 0 where
   pub made : (number at : ℕ) → IsPlace new number at → (IsPlace old number at → ⊥) → capacity_at new at ≡ 0
 
 -- so it is
-pub makes_one : {heap now : Heap} {one : NewCell} (x : ℕ) (held : Held) → Whole heap → RefersNowhere one
-    → IsPutCell heap now one → x < now.space.variables → MakesOne heap (bound now x held)
+pub makes_one : {heap now : Heap} {at : ℕ} {one : NewCell} (x : ℕ) (held : Held) → Whole heap → RefersNowhere one
+    → IsPutCell heap now at one → x < now.space.variables → MakesOne heap (bound now x held)
 makes_one {heap} {now} x held whole fresh put below =
     let moves = bound_moves now x held below put.whole in
     record {

@@ -1,4 +1,4 @@
--- A cell that is to be made in eden: what it is made of.
+-- A cell that is to be made: what it is made of.
 use Rattle.std.proofs.Common.{◌≡◌, ℕ, false, List, [], ◌∷◌, length, Some, slice_get, sym, ◌∙◌, ap, subst}
 use Rattle.std.specs.Prelude.{Contains}
 use Rattle.std.proofs.lemmas.Option.{same_Some}

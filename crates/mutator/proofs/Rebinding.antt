@@ -1,5 +1,5 @@
 -- A heap in which a variable was bound anew shows the graph after the command.
-use Rattle.std.proofs.Common.{◌≡◌, ℕ, ◌<◌, List, [], Some, None, Ok, inl, inr, sym, ◌∙◌, ap, subst, arith, add-zero}
+use Rattle.std.proofs.Common.{◌≡◌, ℕ, ◌+◌, ◌<◌, List, [], Some, None, Ok, inl, inr, sym, ◌∙◌, ap, subst}
 use Rattle.std.specs.Prelude.{Option, IsTrue, is_some}
 use Rattle.std.specs.FinMap.{get}
 use Rattle.std.proofs.lemmas.Bool.{false≢true}
@@ -12,12 +12,14 @@ use Rattle.graph_laws.specs.ReachAfter.{made_for}
 use Rattle.graph_laws.proofs.FieldLimits.{ideal_field_limit}
 use Rattle.graph_laws.proofs.GraphsStay.{graphs_stay}
 use Rattle.graph_laws.proofs.NothingNew.{only_made_is_new}
-use Rattle.page_space.specs.Extents.{Space, eden_start}
+use Rattle.page_space.specs.Extents.{eden_start}
 use Rattle.nursery.specs.Young.{HasRoom, other_half}
 use Rattle.handle_roots.specs.Roots.{FitsHeld, with_root}
 use Rattle.heap_table.specs.declared.phase.Phase.TheVariants.{Quiet}
 use Rattle.heap_table.specs.Seats.{heap_words, RestStays}
 use Rattle.heap_model.specs.Heaps.{Heap, HasCell}
+use Rattle.heap_model.specs.Slots.{is_object_kind}
+use Rattle.heap_model.specs.Changes.{AreFillers}
 use Rattle.heap_model.specs.Counting.{CountsEntries}
 use Rattle.heap_model.specs.Collectable.{IsCollectable, AreFreeRuns}
 use Rattle.heap_model.specs.Remembered.{AreRemembered}
@@ -25,15 +27,18 @@ use Rattle.heap_model.specs.Rooms.{Room, need_of, rooms_after}
 use Rattle.heap_model.specs.Showing.{ShowsHeld, Shows}
 use Rattle.heap_model.specs.Laws.{ReachesNoMore, BindsAnew, bound}
 use Rattle.heap_model.proofs.AnewBindings.{get-insert_same, binds_anew}
-use Rattle.heap_model.proofs.BoundHeaps.{none_in, bound_moves}
+use Rattle.heap_model.proofs.BoundHeaps.{bound_keeps}
 use Rattle.heap_model.proofs.BoundGraphs.{bindings_show}
 use Rattle.heap_model.proofs.CountsStay.{counts_stay}
 use Rattle.heap_model.proofs.StaysCollectable.{bound_stays_collectable}
-use Rattle.heap_model.proofs.FreeStays.{bound_keeps_free}
+use Rattle.heap_model.proofs.FreeStays.{bound_keeps_free, bound_keeps_fillers}
 use Rattle.heap_model.proofs.RememberedAlike.{bound_stays_remembered}
-use Rattle.write_barrier.specs.MutatorState.{Mutator, heap_of, IsTied, MainShows, with_variable}
+use Rattle.write_barrier.specs.MutatorState.{Mutator, heap_of, AreGranted, AvoidsFree, IsTied, MainShows}
+use Rattle.write_barrier.specs.MutatorState.{with_variable}
 use Rattle.object_cells.specs.Uses.{UsesMore}
+use Rattle.object_cells.proofs.NothingUsed as nothing
 use Rattle.object_cells.proofs.RestOfWords.{variable_beside}
+use Rattle.object_cells.proofs.TakenRuns.{bumped_none}
 use Rattle.mutator.specs.Binding.{Binds}
 use Rattle.mutator.specs.CarriesOut.{Carries}
 use Rattle.mutator.proofs.KeptStores.{keeps_bound}
@@ -76,8 +81,7 @@ reaches_no_more {graph} {after} names command text shows carried none number mar
 
 -- there is room for no word
 pub room_for_none : {main : Mutator} {graph : Graph} → MainShows main graph → HasRoom main.young 0
-room_for_none shows =
-    omega (arith, shows.shows.whole.rows.few, ap (λ (space : Space). space.sizes.young) shows.tied)
+room_for_none {main} shows = nothing.room_for_none main shows.tied shows.shows.whole
 
 -- a heap in which a variable was bound anew uses no word more
 pub uses_none : {old new : Mutator} (x : ℕ) (one : Held) → HoldsAnew old new x one → x < old.seat.space.variables
@@ -85,9 +89,21 @@ pub uses_none : {old new : Mutator} (x : ℕ) (one : Held) → HoldsAnew old new
 uses_none {old} {new} x one holds below = record {
   beside = subst (λ (main : Mutator). RestStays old.seat main.seat) (sym holds.held)
       (variable_beside old x one below);
-  young = ap (λ (main : Mutator). main.young) holds.held
-      ∙ ap (λ (used : ℕ). record old.young { used = used }) (sym (add-zero old.young.used));
+  young = ap (λ (main : Mutator). main.young) holds.held ∙ sym (bumped_none old.young);
   free = ap (λ (main : Mutator). main.free) holds.held;
+}
+
+-- the parts stay tied
+bound_tied : {old new : Mutator} {graph : Graph} (x : ℕ) (one : Held) → x < old.seat.space.variables
+    → MainShows old graph → HoldsAnew old new x one → IsTied new
+bound_tied {old} {new} x one below shows holds = record {
+  space = ap (λ (main : Mutator). main.young.space) holds.held ∙ shows.tied.space
+      ∙ sym (ap (λ (main : Mutator). main.seat.space) holds.held);
+  granted = subst (AreGranted (heap_of new)) (sym (ap (λ (main : Mutator). main.young.granted) holds.held)) (λ some.
+      subst (λ h. AreFillers h old.young.granted.at (old.young.granted.at + old.young.granted.words))
+      (sym (heap_bound x one holds))
+      (bound_keeps_fillers (heap_of old) x one old.young.granted.at (old.young.granted.at + old.young.granted.words)
+      below shows.shows.whole (shows.tied.granted some)));
 }
 
 -- it shows the graph after the command
@@ -102,10 +118,11 @@ rebound_shows {old} {new} {graph} {after} names command text x one shows carried
     let fewer : ReachesNoMore graph after = reaches_no_more names command text shows carried none in
     let bound_shows : Shows (bound heap x one) after =
     bindings_show heap graph after x one below shows.shows anew held_fits shown fewer in
-    let kept : (cell : Cell) (words : List ℕ) → HasCell heap cell words → HasCell (bound heap x one) cell words =
-    λ cell words has. (bound_moves heap x one below shows.shows.whole).cells.kept cell words has (none_in cell) in
+    let kept : (cell : Cell) (words : List ℕ) → HasCell heap cell words → IsTrue (is_object_kind cell.layout.kind)
+    → HasCell (bound heap x one) cell words =
+    λ cell words has object. bound_keeps heap x one below shows.shows.whole has in
     record {
-      tied = subst IsTied (sym holds.held) shows.tied;
+      tied = bound_tied x one below shows holds;
       is_graph = graphs_stay ideal_limits names graph command after text ideal_field_limit fits carried shows.is_graph;
       quiet = subst (λ (main : Mutator). main.seat.phase ≡ Quiet) (sym holds.held) shows.quiet;
       shows = subst (λ heap. Shows heap after) (sym (heap_bound x one holds)) bound_shows;
@@ -119,6 +136,7 @@ rebound_shows {old} {new} {graph} {after} names command text x one shows carried
           (subst (λ (rows : List (List Run)). AreFreeRuns (bound heap x one) rows)
           (sym (ap (λ (main : Mutator). main.free) holds.held))
           (bound_keeps_free heap x one old.free below shows.shows.whole shows.free));
+      apart = subst (λ (main : Mutator). AvoidsFree main.young.granted main.free) (sym holds.held) shows.apart;
       bounded = ap (λ (main : Mutator). main.recorded.bound) holds.held ∙ shows.bounded
           ∙ ap eden_start (sym (ap (λ (main : Mutator). main.seat.space) holds.held));
       remembered = subst (λ heap. AreRemembered heap new.recorded.slots) (sym (heap_bound x one holds))

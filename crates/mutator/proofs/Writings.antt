@@ -1,5 +1,5 @@
 -- A command that writes a text and leaves the heap as it is.
-use Rattle.std.proofs.Common.{◌≡◌, refl, ℕ, List, Ok, sym, ◌∙◌, ap, subst, add-zero}
+use Rattle.std.proofs.Common.{◌≡◌, refl, ℕ, List, Ok, sym, ◌∙◌, ap, subst}
 use Rattle.heap_model.specs.Types.{Command}
 use Rattle.object_graph.specs.Graphs.{Graph}
 use Rattle.object_graph.specs.Meaning.{done, does}
@@ -7,6 +7,7 @@ use Rattle.object_graph.specs.Limits.{ideal_limits}
 use Rattle.nursery.specs.Young.{HasRoom}
 use Rattle.write_barrier.specs.MutatorState.{Mutator, MainShows}
 use Rattle.object_cells.specs.Uses.{UsesMore}
+use Rattle.object_cells.proofs.TakenRuns.{bumped_none}
 use Rattle.object_cells.proofs.RestOfWords.{same_rest}
 use Rattle.mutator.specs.CarriesOut.{Carries}
 use Rattle.mutator.proofs.KeptStores.{keeps_still}
@@ -18,7 +19,7 @@ pub uses_none_still : {old new : Mutator} → new ≡ old → UsesMore old new 0
 uses_none_still {old} same = record {
   beside = same_rest same;
   young = ap (λ (main : Mutator). main.young) same
-      ∙ ap (λ (used : ℕ). record old.young { used = used }) (sym (add-zero old.young.used));
+      ∙ sym (bumped_none old.young);
   free = ap (λ (main : Mutator). main.free) same;
 }
 

@@ -24,8 +24,8 @@ pub record TakesRoom (old new : Mutator) (graph after : Graph) (command : Comman
   pub stores : KeepsStores (heap_of old) (heap_of new) graph after command rooms
 
 -- The call carried the command out, and wrote the text: the heap then shows what the command means, and the words
--- that it needs were taken. It stops exactly where the meaning is a fault, or where there is none and eden has not the
--- words; both change nothing. `NoClear` never comes: no entry waits to be cleared.
+-- that it needs were taken. It stops exactly where the meaning is a fault, or where there is none and the words are not
+-- there where cells are made; both change nothing. `NoClear` never comes: no entry waits to be cleared.
 abbrev pub Carries : List (List ℕ) → Mutator → Mutator → Graph → Command → List ℕ → Result Unit Stop → Type 0
 Carries names old new graph command text (Ok _) =
     (after : Graph) × (does ideal_limits names graph command ≡ done after text) × MainShows new after

@@ -1,8 +1,11 @@
--- The cells of objects that were just made.
-use Rattle.std.specs.Prelude.{ℕ, List, [], ◌∷◌, replicate}
+-- The cells of objects that were just made, and what making them touches.
+use Rattle.std.specs.Prelude.{ℕ, ◌+◌, List, [], ◌∷◌, replicate}
+use Rattle.tagged_word.specs.Cells.{store_slot}
 use Rattle.heap_model.specs.Types.{Header}
 use Rattle.tagged_word.specs.Headers.{header_bits}
+use Rattle.heap_model.specs.Remembered.{Touch}
 use Rattle.heap_model.specs.Slots.{undefined_word, hole_word}
+use Rattle.write_barrier.specs.Recording.{touched, touched_one, touched_then}
 
 -- the words of a plain cell with so many slots of its own: it has no property store, and its slots hold nothing
 abbrev pub empty_plain : Header → ℕ → List ℕ
@@ -12,3 +15,10 @@ empty_plain header cap = header_bits header ∷ undefined_word ∷ replicate cap
 -- length or count is 0
 abbrev pub empty_counted : Header → List ℕ
 empty_counted header = header_bits header ∷ undefined_word ∷ 0 ∷ []
+
+-- which addresses making a cell of so many words touches, which has a slot for a store or a table and no other slot:
+-- that slot, and its other words
+abbrev pub new_touch : ℕ → ℕ → ℕ → Touch
+new_touch size at =
+    touched_then (touched_then (touched_one Touch.Wiped at) (touched_one Touch.Stored (at + store_slot)))
+    (touched Touch.Wiped (at + 2) (at + size))

@@ -18,7 +18,7 @@ use write_barrier::Main;
 /// Binds `x` to a new list without elements. `object` is the number of objects that were made, and
 /// becomes the new one's number.
 ///
-/// Stops with `NoRoom` where eden has not the cell's three words.
+/// Stops with `NoRoom` where there is no room for the cell's three words.
 #[inline(always)]
 pub fn new_list(main: &mut Main, x: u32, object: u32) -> Result<(), Stop>
     requires shown { (graph : Graph) × MainShows main.old graph × (object ≡ length graph.objects) }

@@ -1,4 +1,4 @@
-//! The command `new`: a new cell in eden. And the own cells of new lists and weak maps.
+//! The command `new`: a new cell. And the own cells of new lists and weak maps.
 ghost use Rattle.std.specs.Prelude.{◌≡◌, ℕ, ◌+◌, ◌≤◌, List, [], length, OnOk};
 ghost use Rattle.tagged_word.specs.Headers.{IsHeader};
 ghost use Rattle.page_space.specs.Extents.{marks_start};
@@ -10,7 +10,8 @@ ghost use Rattle.write_barrier.specs.MutatorState.{MainShows, with_table};
 ghost use Rattle.write_barrier.specs.Values.{with_range};
 ghost use Rattle.mutator.specs.Binding.{BindsMade};
 ghost use Rattle.mutator.specs.CarriesOut.{Carries, field_numbers};
-ghost use Rattle.mutator.specs.Making.{empty_counted, empty_plain};
+ghost use Rattle.write_barrier.specs.Recording.{Touches};
+ghost use Rattle.mutator.specs.Making.{empty_counted, empty_plain, new_touch};
 
 use crate::stop::Stop;
 use handle_roots::Held;
@@ -27,7 +28,7 @@ pub(crate) const COUNTED_WORDS: u32 = 3;
 /// Binds `x` to a new plain object with `cap` slots of its own and no field. `object` is the number
 /// of objects that were made, and becomes the new one's number.
 ///
-/// Stops with `NoRoom` where eden has not the cell's words: two and one for each slot.
+/// Stops with `NoRoom` where there is no room for the cell's words: two and one for each slot.
 #[inline(always)]
 pub fn new_plain(main: &mut Main, x: u32, object: u32, cap: u32) -> Result<(), Stop>
     requires shown { (graph : Graph) × MainShows main.old graph × (object ≡ length graph.objects) }
@@ -44,40 +45,42 @@ pub fn new_plain(main: &mut Main, x: u32, object: u32, cap: u32) -> Result<(), S
     Ok(())
 }
 
-/// Makes the words at an address the cell of a plain object without fields. Of young words nothing is
-/// recorded, so nothing else changes then.
+/// Makes the words at an address the cell of a plain object without fields.
 fn fill_plain(main: &mut Main, at: u32, header: Header, cap: u32)
     requires quiet { main.old.seat.phase ≡ Quiet }
     requires is { IsHeader header }
     requires within { at + (PLAIN_HEAD + cap) ≤ marks_start main.old.seat.space }
     ensures filled { let words = empty_plain header cap in
-        main.old.recorded.bound ≤ at →
-        main.new ≡ with_table main.old (with_range main.old.seat.table at words) }
+        main.new.seat ≡ (with_table main.old (with_range main.old.seat.table at words)).seat }
     ensures heap { let words = empty_plain header cap in
         heap_words main.new.seat ≡ with_range (heap_words main.old.seat) at words }
+    ensures paths { main.new.paths ≡ main.old.paths }
+    ensures young { main.new.young ≡ main.old.young }
+    ensures touches { Touches main.old main.new (new_touch (2 + cap) at) }
 {
     main.addresses_fit();
     main.set_header(at, header);
-    main.write_slot(at, STORE_SLOT, Word::odd(odd::UNDEFINED).0);
+    main.store(at, STORE_SLOT, Word::odd(odd::UNDEFINED));
     main.fill_holes(at + PLAIN_HEAD, cap);
     main.made(at);
 }
 
 /// Makes the words at an address the cell of a list without elements, or of a weak map without entries.
-/// Of young words nothing is recorded, so nothing else changes then.
 pub(crate) fn fill_counted(main: &mut Main, at: u32, header: Header)
     requires quiet { main.old.seat.phase ≡ Quiet }
     requires is { IsHeader header }
     requires within { at + COUNTED_WORDS ≤ marks_start main.old.seat.space }
     ensures filled { let words = empty_counted header in
-        main.old.recorded.bound ≤ at →
-        main.new ≡ with_table main.old (with_range main.old.seat.table at words) }
+        main.new.seat ≡ (with_table main.old (with_range main.old.seat.table at words)).seat }
     ensures heap { let words = empty_counted header in
         heap_words main.new.seat ≡ with_range (heap_words main.old.seat) at words }
+    ensures paths { main.new.paths ≡ main.old.paths }
+    ensures young { main.new.young ≡ main.old.young }
+    ensures touches { Touches main.old main.new (new_touch 3 at) }
 {
     main.addresses_fit();
     main.set_header(at, header);
-    main.write_slot(at, STORE_SLOT, Word::odd(odd::UNDEFINED).0);
+    main.store(at, STORE_SLOT, Word::odd(odd::UNDEFINED));
     main.write_slot(at, COUNT, 0);
     main.made(at);
 }

@@ -14,7 +14,8 @@ use write_barrier::NoRoom;
 pub enum Stop {
     /// The command's meaning is this fault.
     Fault(FaultWord),
-    /// Eden has no room for the words that the command allocates, which are so many.
+    /// Where cells are made, in eden or in words that were granted of a page, there is no room for the
+    /// words that the command allocates, which are so many.
     NoRoom { need: u32 },
     /// An entry was refused: its map is full, with so many, and the heap may still hold entries that a
     /// full collection would clear.

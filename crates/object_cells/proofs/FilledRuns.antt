@@ -1,17 +1,19 @@
--- A run of eden that is filled with a cell for an object, and a box behind it: these stand in it.
+-- A run of words that is filled with a cell for an object, and a box behind it: these stand in it.
 use Rattle.std.proofs.Common.{◌≡◌, ◌≢◌, ℕ, ◌+◌, ◌≤◌, ◌<◌, inl, inr, List, [], ◌∷◌, length, Some, slice_get, refl, sym}
-use Rattle.std.proofs.Common.{◌∙◌, ap, subst, arith}
+use Rattle.std.proofs.Common.{◌∙◌, ap, subst, arith, IsTrue}
+use Rattle.tagged_word.specs.declared.layout.Kind.TheVariants as kind
 use Rattle.tagged_word.specs.Cells.{store_slot}
-use Rattle.page_space.specs.Extents.{Space, eden_start, segments_start, layouts_start, marks_start}
-use Rattle.page_space.proofs.Starts.{roots_start_is, layouts_start_is, marks_start_is}
-use Rattle.nursery.specs.Young.{HasRoom}
+use Rattle.page_space.specs.Extents.{Space, marks_start}
+use Rattle.page_space.proofs.Starts.{marks_start_is}
+use Rattle.nursery.specs.Young.{HasRoom, bumped}
 use Rattle.cell_layout.specs.Cells.{IsRow}
 use Rattle.heap_table.specs.Seats.{heap_words, RestStays}
 use Rattle.heap_model.specs.Types.{Kind, Cell}
-use Rattle.heap_model.specs.Slots.{reference_word}
+use Rattle.heap_model.specs.Slots.{reference_word, is_object_kind}
 use Rattle.heap_model.specs.Heaps.{Heap, HasCell, words_of_cell}
-use Rattle.heap_model.specs.Wholeness.{Whole, HasRows, HasSizes}
+use Rattle.heap_model.specs.Wholeness.{Whole, HasSizes}
 use Rattle.heap_model.proofs.BoundHeaps.{none_in}
+use Rattle.heap_model.proofs.CellOutcomes.{object_is_no_filler}
 use Rattle.heap_model.proofs.CellsApart.{IsOfCell, first_of_cell}
 use Rattle.write_barrier.specs.MutatorState.{Mutator, heap_of, IsTied}
 use Rattle.object_cells.specs.CellWrites.{WritesOwnCells}
@@ -25,52 +27,30 @@ use Rattle.object_cells.proofs.NewStores.{IsLongCell, long_cell, store_cell}
 use Rattle.object_cells.proofs.OwnCells.{cell_below_layouts}
 use Rattle.object_cells.proofs.OwnPuts.{PutsOwn, own_sized, own_writes}
 use Rattle.object_cells.proofs.StoreWords.{MakesStore}
-use Rattle.object_cells.proofs.UnusedWords.{next_before_segments, cell_is_used}
+use Rattle.object_cells.proofs.RunCells.{AreOfRegion, between}
+use Rattle.object_cells.proofs.UnusedWords.{IsUnusedRun, next_run, run_beside, store_around}
 
--- a run of words of eden that are not used
-pub record IsUnusedRun (heap : Heap) (at need : ℕ) : Type 0 where
-  pub from : eden_start heap.space + heap.used ≤ at
-  pub ends : at + need ≤ segments_start heap.space
-  pub within : at + need ≤ layouts_start heap.space
-
--- the next ones are one, where there is room
-pub next_run : (main : Mutator) (need : ℕ) → IsTied main → HasRoom main.young need
-    → IsUnusedRun (heap_of main) (next_at main) need
-next_run main need tied room =
-    let ends = next_before_segments main need tied room in
-    let space = main.seat.space in
-    record {
-      from = omega arith;
-      ends = ends;
-      within = omega (arith, ends, roots_start_is space, layouts_start_is space);
-    }
-
--- no cell has a word of it
-pub run_beside : {heap : Heap} {cell : Cell} {words : List ℕ} {at need : ℕ} (a : ℕ) → IsUnusedRun heap at need
-    → HasRows heap → HasCell heap cell words → IsOfCell cell a → at ≤ a → a < at + need → ⊥
-run_beside a run rows has of_cell from below =
-    cell_is_used rows has of_cell (omega (arith, run.from, from)) (omega (arith, run.ends, below))
-
--- so a store is made of it in the place of an object's
+-- a store is made of a run in the place of an object's
 pub makes_store : {heap : Heap} {cell : Cell} {words before : List ℕ} {capacity at : ℕ} {store : Store}
     {holds : SlotContent} (object own : ℕ) → IsUnusedRun heap at (run_words (store_cell at capacity) holds) → Whole heap
     → HasCell heap cell words → length before ≡ marks_start heap.space → IsStoreAt heap object store
-    → store.capacity < capacity → IsOfCell cell (object + store_slot) → IsOfCell cell own → own ≢ object + store_slot
+    → cell.layout.kind ≢ kind.Filler → store.capacity < capacity → IsOfCell cell (object + store_slot)
+    → IsOfCell cell own → own ≢ object + store_slot
     → MakesStore before object own store capacity at holds
-makes_store {heap} object own run whole has long is more of_slot of_own apart =
+makes_store {heap} {at = at} {store} object own run whole has long is no_filler more of_slot of_own apart =
     let marks = marks_start_is heap.space in
     record {
       more = more;
       within = omega (arith, run.within, long, marks);
       other = omega (arith, is.within, long);
-      apart = elim is.used [
-        | inl before ↦ inl (omega (arith, before, run.from))
-        | inr behind ↦ inr (omega (arith, behind, run.ends))
+      apart = λ some. elim (store_around run is (omega arith) some) [
+        | inl before ↦ inl before
+        | inr behind ↦ inr (omega (arith, behind))
       ];
       slot = omega (arith, cell_below_layouts whole has of_slot, long, marks);
       own_in = omega (arith, cell_below_layouts whole has of_own, long, marks);
-      named = run_beside (object + store_slot) run whole.rows has of_slot;
-      beside = run_beside own run whole.rows has of_own;
+      named = run_beside (object + store_slot) run no_filler has of_slot;
+      beside = run_beside own run no_filler has of_own;
       not_slot = apart;
     }
 
@@ -82,15 +62,16 @@ pub record FilledRow (heap : Heap) (first : Cell) (holds : SlotContent) : Type 0
 
 -- both stand there where the run was filled
 pub filled_row : (heap : Heap) {before : List ℕ} {object own : ℕ} {first : Cell} {holds : SlotContent} → HasSizes heap
-    → IsLongCell first → FillsRun before heap.words object own first holds → eden_start heap.space ≤ first.at
-    → first.at + run_words first holds ≤ segments_start heap.space → FilledRow heap first holds
-filled_row heap {first = first} {holds} sized long fills from ends =
-    let cell = long_cell heap first sized long fills.header fills.counted from (omega (arith, ends)) in
+    → IsLongCell first → FillsRun before heap.words object own first holds
+    → AreOfRegion heap.space first.at (first.at + run_words first holds) → FilledRow heap first holds
+filled_row heap {first = first} {holds} sized long fills region =
+    let end : ℕ = first.at + first.size in
+    let cell = long_cell heap first sized long fills.header fills.counted
+    (between first.at end region (omega arith) (omega arith)) in
     let box : BoxStands heap holds (first.at + first.size) = record {
       header = λ v is. (fills.box v is).header;
       raw = λ v is. (fills.box v is).raw;
-      from = λ v is. omega (arith, from);
-      below = λ v is. omega (arith, ends, ap content_need is);
+      region = λ v is. between end (end + 2) region (omega arith) (omega (arith, ap content_need is));
     } in
     record {
       row = row_with_box heap first holds (first.at + run_words first holds) cell sized box (omega arith);
@@ -104,13 +85,14 @@ pub record FillsOwn (owner owned : Kind) (old new : Mutator) (cell first : Cell)
   pub whole : Whole (heap_of old)
   pub has : HasCell (heap_of old) cell (words_of_cell (heap_of old) cell)
   pub of_kind : cell.layout.kind ≡ owner
+  pub of_object : IsTrue (is_object_kind owner)
   pub stands : cell.at ≡ object
   pub room : HasRoom old.young (run_words first holds)
   pub at : first.at ≡ next_at old
   pub long : IsLongCell first
   pub beside : RestStays old.seat new.seat
   pub paths : new.paths ≡ old.paths
-  pub young : new.young ≡ record old.young { used = old.young.used + run_words first holds }
+  pub young : new.young ≡ bumped old.young (run_words first holds)
   pub fills : FillsRun (heap_words old.seat) (heap_words new.seat) object own first holds
   pub of_slot : IsOfCell cell (object + store_slot)
   pub of_own : IsOfCell cell own
@@ -121,7 +103,7 @@ module _ {owner owned : Kind} {old new : Mutator} {cell first : Cell} {object ow
     (is : FillsOwn owner owned old new cell first object own holds) where
   -- the run
   pub own_run : IsUnusedRun (heap_of old) (next_at old) (run_words first holds)
-  own_run = next_run old (run_words first holds) is.tied is.room
+  own_run = next_run old (run_words first holds) is.tied is.whole.rows is.room
 
   -- a word stays that is none of these, nor one of the run
   word_stays : (a : ℕ) → a ≢ object + store_slot → a ≢ own
@@ -158,17 +140,20 @@ module _ {owner owned : Kind} {old new : Mutator} {cell first : Cell} {object ow
   own_row =
       let space = is.beside.space in
       filled_row (heap_of new) (own_sized own_puts) is.long is.fills
-      (omega (arith, is.at, ap (λ (s : Space). eden_start s) space))
-      (omega (arith, is.at, own_run.ends, ap (λ (s : Space). segments_start s) space))
+      (subst (λ at. AreOfRegion new.seat.space at (at + run_words first holds)) (sym is.at)
+      (subst (λ (s : Space). AreOfRegion s (next_at old) (next_at old + run_words first holds)) (sym space)
+      own_run.region))
 
   -- and cells of the object were written
   pub filled_writes : WritesOwnCells owner owned (heap_of old) (heap_of new) cell cell []
       (first ∷ made_boxes holds (first.at + first.size))
   filled_writes =
       let none = first_of_cell is.has in
+      let no_filler =
+      object_is_no_filler cell.layout.kind (ap is_object_kind is.of_kind ∙ is.of_object) in
       own_writes (first ∷ made_boxes holds (first.at + first.size)) own_puts
       (word_stays cell.at (λ same. omega (arith, same, is.stands)) (λ same. is.not_header (sym same ∙ is.stands))
-      (run_beside cell.at own_run is.whole.rows is.has none)) (λ one among. absurd (none_in one among))
+      (run_beside cell.at own_run no_filler is.has none)) (λ one among. absurd (none_in one among))
       (subst (λ at. IsRow new.seat.space (heap_words new.seat) at (at + run_words first holds)
       (first ∷ made_boxes holds (first.at + first.size))) is.at own_row.row)
 

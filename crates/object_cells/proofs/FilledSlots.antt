@@ -1,7 +1,7 @@
 -- Which words are written where a slot is filled: those of the slot and of a box that is made, or the integer of the
 -- box that stands there.
 use Rattle.std.proofs.Common.{◌≡◌, ℕ, ◌+◌, ◌<◌, List, Option, Some, None, Bool, true, false, not, ◌&&◌, ℤ}
-use Rattle.std.proofs.Common.{slice_get, set, refl, sym, ◌∙◌, ap, arith, add-zero}
+use Rattle.std.proofs.Common.{slice_get, set, refl, sym, ◌∙◌, ap, arith}
 use Rattle.std.specs.Prelude.{slice_set}
 use Rattle.std.proofs.lemmas.Bool.{false≢true}
 use Rattle.std.proofs.lemmas.List.{set-get_or}
@@ -27,6 +27,7 @@ use Rattle.object_cells.specs.Made.{PutsWords, with_content, content_need, conte
 use Rattle.object_cells.proofs.HeldContents.{HoldsValue}
 use Rattle.object_cells.proofs.SlotBoxes.{boxed_need}
 use Rattle.object_cells.proofs.WordsPut.{heap_with_word}
+use Rattle.object_cells.proofs.TakenRuns.{bumped_none}
 use Rattle.object_cells.proofs.UnusedWords.{next_before_marks}
 
 -- a list with one put that stood there is the same
@@ -46,10 +47,7 @@ pub data FilledBy (old new : Mutator) (at word : ℕ) (holds : SlotContent) : Ty
 
 -- where nothing is reserved, nothing has changed
 pub reserved_none : (old : Mutator) → old ≡ reserved old 0
-reserved_none old =
-    let none : old.young ≡ record old.young { used = old.young.used + 0 } =
-    ap (λ n. record old.young { used = n }) (sym (add-zero old.young.used)) in
-    ap (λ (y : Young). record old { young = y }) none
+reserved_none old = ap (λ (y : Young). record old { young = y }) (sym (bumped_none old.young))
 
 -- so it is by what it holds, and by the box that stood there
 filled_by : (old between new : Mutator) (at word : ℕ) (holds : SlotContent) (found : Option ℕ) → IsTied old

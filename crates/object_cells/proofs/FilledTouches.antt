@@ -3,14 +3,14 @@ use Rattle.std.proofs.Common.{◌≡◌, ℕ, ◌+◌, ◌<◌, ◌≤◌, Optio
 use Rattle.std.proofs.Common.{length-set}
 use Rattle.std.specs.Prelude.{ℤ, slice_set}
 use Rattle.tagged_word.specs.Headers.{header_bits}
-use Rattle.page_space.specs.Extents.{eden_start, marks_start}
+use Rattle.page_space.specs.Extents.{marks_start}
 use Rattle.heap_table.specs.Seats.{Seat, heap_words}
 use Rattle.heap_model.specs.Remembered.{Touch}
 use Rattle.heap_model.specs.Needs.{box_words, word_at}
 use Rattle.heap_model.specs.Slots.{raw_word, reference_word, IsSlotWord}
 use Rattle.heap_model.specs.Wholeness.{Whole}
 use Rattle.write_barrier.specs.MutatorState.{Mutator, heap_of, reserved, with_word, IsTied}
-use Rattle.write_barrier.specs.Recording.{Touches, touched, touched_one}
+use Rattle.write_barrier.specs.Recording.{Touches, untouched, touched, touched_one, touched_then}
 use Rattle.write_barrier.proofs.Recording.{then_touch, touch_alike, word_touch, slot_touch}
 use Rattle.object_cells.specs.declared.content.SlotContent.{SlotContent}
 use Rattle.object_cells.specs.declared.content.SlotContent.TheVariants as content
@@ -19,11 +19,11 @@ use Rattle.object_cells.specs.declared.content.SlotWrite.TheVariants as filling
 use Rattle.object_cells.specs.Contents.{next_at, filling_of, filling_at, filled, filled_touch, box_in, with_box}
 use Rattle.object_cells.specs.Contents.{filling_need, AllocatesBox, FillsSlot, HoldsSlotWord, IsBeforeMarks}
 use Rattle.object_cells.specs.Formats.{box_header}
-use Rattle.object_cells.specs.Made.{content_need, slot_touch as touch_of}
+use Rattle.object_cells.specs.Made.{content_need, content_touch, slot_touch as touch_of}
 use Rattle.object_cells.proofs.RestOfWords.{allocates_seat}
 use Rattle.object_cells.proofs.SlotBoxes.{box_of_word}
 use Rattle.object_cells.proofs.SlotTargets.{target_before_marks}
-use Rattle.object_cells.proofs.TouchedCells.{young_touched, young_then}
+use Rattle.object_cells.proofs.TouchedCells.{then_next}
 use Rattle.object_cells.proofs.UnusedWords.{next_before_marks}
 use Rattle.object_cells.proofs.WipedRanges.{two_wiped}
 use Rattle.object_cells.proofs.WordsPut.{heap_with_word}
@@ -60,17 +60,12 @@ filled_touches main at (filling.NewBox box v) counted below room =
 filled_touches main at (filling.OldBox box v) counted below room =
     word_touch main (box + 1) (raw_word v) (omega (arith, room))
 
--- that words of eden were reserved touches nothing
+-- that words were reserved touches nothing
 pub reserved_touch : {old new : Mutator} {touch : ℕ → Touch} (n : ℕ) → Touches (reserved old n) new touch
     → Touches old new touch
 reserved_touch n touches = record { free = touches.free; bound = touches.bound; records = touches.records }
 
--- neither before
-pub touch_reserved : {old new : Mutator} {touch : ℕ → Touch} (n : ℕ) → Touches old new touch
-    → Touches (reserved old n) new touch
-touch_reserved n touches = record { free = touches.free; bound = touches.bound; records = touches.records }
-
--- nor that the words of a box were
+-- nor does it that the words of a box were
 pub allocates_touch : {old between new : Mutator} {touch : ℕ → Touch} (filling : SlotWrite)
     → AllocatesBox old between filling → Touches between new touch → Touches old new touch
 allocates_touch {new = new} {touch} (filling.Tagged word) same touches =
@@ -126,27 +121,22 @@ fills_touch {old} {new} {at} {holds} fills tied whole below slot =
     (subst (λ (main : Mutator). Touches fills.between main (filled_touch write at)) (sym fills.fills)
     (fills_between old fills.between at write fills.allocates whole below room))
 
--- A box that is made is in eden: so of pages only the slot is touched, where none was written before.
+-- Where no box was written, the words of the one that is made were touched, and then the slot.
 made_touch : (old : Mutator) (at : ℕ) (holds : SlotContent) (found : Option ℕ) (a : ℕ)
-    → old.recorded.bound ≡ eden_start old.seat.space
-    → filling_need (filling_of found (next_at old) holds) ≡ content_need holds → a < old.recorded.bound
-    → filled_touch (filling_of found (next_at old) holds) at a ≡ touched_one (touch_of holds) at a
-made_touch old at (content.Tagged word) found a bounded need below = refl
-made_touch old at (content.Raw word) found a bounded need below = refl
-made_touch old at (content.Boxed v) None a bounded need below =
-    let eden = old.recorded.bound in
-    let next = next_at old in
-    young_then eden (touched Touch.Wiped next (next + box_words)) (touched_one Touch.Stored at)
-    (λ b of_page. young_touched Touch.Wiped eden next (next + box_words) b (omega (arith, bounded)) of_page) a below
-made_touch old at (content.Boxed v) (Some box) a bounded need below = absurd (omega (arith, need))
+    → filling_need (filling_of found (next_at old) holds) ≡ content_need holds
+    → filled_touch (filling_of found (next_at old) holds) at a
+    ≡ touched_then (content_touch holds (next_at old)) (touched_one (touch_of holds) at) a
+made_touch old at (content.Tagged word) found a need = sym (then_next untouched (touched_one Touch.Stored at) a refl)
+made_touch old at (content.Raw word) found a need = sym (then_next untouched (touched_one Touch.Wiped at) a refl)
+made_touch old at (content.Boxed v) None a need = refl
+made_touch old at (content.Boxed v) (Some box) a need = absurd (omega (arith, need))
 
 -- so it is where a slot came to hold something, but in a box that stood there
 pub fills_slot_touch : {old new : Mutator} {at : ℕ} {holds : SlotContent} → FillsSlot old new at holds → IsTied old
     → Whole (heap_of old) → at < marks_start old.seat.space
     → HoldsSlotWord (heap_of old) (word_at (heap_of old) at) holds
-    → old.recorded.bound ≡ eden_start old.seat.space → filling_need (filling_at old at holds) ≡ content_need holds
-    → Touches old new (touched_one (touch_of holds) at)
-fills_slot_touch {old} {at = at} {holds} fills tied whole below slot bounded need =
-    touch_alike (λ a of_page. made_touch old at holds (box_in (heap_of old) (word_at (heap_of old) at)) a bounded need
-    of_page)
+    → filling_need (filling_at old at holds) ≡ content_need holds
+    → Touches old new (touched_then (content_touch holds (next_at old)) (touched_one (touch_of holds) at))
+fills_slot_touch {old} {at = at} {holds} fills tied whole below slot need =
+    touch_alike (λ a of_page. made_touch old at holds (box_in (heap_of old) (word_at (heap_of old) at)) a need)
     (fills_touch fills tied whole below slot)

@@ -1,4 +1,4 @@
--- A header, a length and holes behind them are put, as where a store or a table is made: no word of them is a slot's.
+-- A header, a length and holes behind them are put, as where a store or a table is made.
 use Rattle.std.proofs.Common.{◌≡◌, ℕ, ◌+◌, ◌≤◌, List, length, replicate, sym, ◌∙◌, ap, subst, arith, length-set}
 use Rattle.std.specs.Prelude.{slice_set}
 use Rattle.std.proofs.lemmas.List.{length-replicate}
@@ -9,12 +9,13 @@ use Rattle.heap_table.specs.Staying.{rest_stays_itself, rest_stays_again}
 use Rattle.heap_model.specs.Remembered.{Touch}
 use Rattle.heap_model.specs.Slots.{hole_word}
 use Rattle.write_barrier.specs.MutatorState.{Mutator, forgets, with_word, with_table}
-use Rattle.write_barrier.specs.Recording.{Touches, touched}
+use Rattle.write_barrier.specs.Recording.{Touches, touched, touched_then}
 use Rattle.write_barrier.specs.Values.{with_range}
-use Rattle.write_barrier.proofs.Recording.{word_touch}
+use Rattle.write_barrier.proofs.Recording.{then_touch, word_touch}
 use Rattle.object_cells.specs.Made.{PutsWords}
 use Rattle.object_cells.proofs.RestOfWords.{put_rest, range_beside}
-use Rattle.object_cells.proofs.WipedRanges.{wiped_on, stretch_touch}
+use Rattle.write_barrier.proofs.StretchTouches.{stretch_touch}
+use Rattle.object_cells.proofs.WipedRanges.{wiped_on}
 use Rattle.object_cells.proofs.WordsPut.{heap_with_word}
 
 -- A header was put, a length behind it, and then so many holes.
@@ -102,3 +103,11 @@ module _ {old headed sized new : Mutator} {at many header long : ℕ}
       (wiped_on at (at + 2) (at + 2 + many) (omega arith) (omega arith) head_wiped
       (stretch_touch (at + 2) many (with_range sized.seat.table (at + 2) holes) holes puts.third puts.heap
       (length-replicate many hole_word) (omega (arith, sized_counted, puts.within))))
+
+  -- or the head was, and holes were stored in the slots behind it
+  pub headed_touch : Touches sized new (touched Touch.Stored (at + store_head) (at + store_head + many))
+      → Touches old new (touched_then (touched Touch.Wiped at (at + store_head))
+      (touched Touch.Stored (at + store_head) (at + (store_head + many))))
+  headed_touch stored =
+      then_touch head_wiped
+      (subst (λ end. Touches sized new (touched Touch.Stored (at + store_head) end)) (omega arith) stored)

@@ -13,7 +13,7 @@ use Rattle.write_barrier.proofs.Recording.{word_touch}
 use Rattle.object_cells.proofs.FittingCells.{word_fits}
 use Rattle.object_cells.proofs.OwnIntegers.{PutsInteger, others, one_box, box_has, of_box, within}
 use Rattle.object_cells.proofs.SlotsOfCells.{all_stand, one_stands}
-use Rattle.object_cells.proofs.TouchedCells.{FitsTouch, same_cells_touched, fits_one, remembers}
+use Rattle.object_cells.proofs.TouchedCells.{FitsTouch, same_cells_touched, fits_one, none_made, remembers}
 use Rattle.object_cells.proofs.TouchedOffsets.{box_has_no_slots}
 
 module _ {owner owned : Kind} {old new : Mutator} {cell : Cell} {word box : ℕ} {v : ℤ}
@@ -40,8 +40,10 @@ module _ {owner owned : Kind} {old new : Mutator} {cell : Cell} {word box : ℕ}
       (box_has writing) (of_box writing) (λ slot. box_has_no_slots writing.box_of.box slot)
 
   -- so the change of the box is remembered
-  pub integer_remembers : Remembers old new (cell ∷ others writing) (cell ∷ others writing)
+  pub integer_remembers : Remembers old new (cell ∷ others writing) (cell ∷ others writing) []
   integer_remembers =
-      remembers (touched_one Touch.Wiped (box + 1)) integer_touches
-      (same_cells_touched (eden_start old.seat.space) cells (touched_one Touch.Wiped (box + 1))
-      (λ at below. fits_one cells cells Touch.Wiped (box + 1) at integer_fits))
+      let touch : ℕ → Touch = touched_one Touch.Wiped (box + 1) in
+      remembers touch integer_touches
+      (same_cells_touched (eden_start old.seat.space) 0 0 cells touch
+      (λ at below beside. fits_one cells cells Touch.Wiped (box + 1) at integer_fits))
+      (none_made (heap_of old) touch)

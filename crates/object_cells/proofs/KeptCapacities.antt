@@ -16,9 +16,9 @@ use Rattle.heap_model.specs.Wholeness.{Whole, NamesFrom}
 use Rattle.heap_model.specs.Needs.{word_at, capacity_at, capacity_by}
 use Rattle.heap_model.proofs.BoundHeaps.{none_in}
 use Rattle.heap_model.proofs.CellsApart.{has_is_cell}
-use Rattle.heap_model.proofs.CellOutcomes.{CellsMove}
+use Rattle.heap_model.proofs.CellOutcomes.{CellsMove, object_is_no_filler, owned_is_no_filler, stays_standing}
 use Rattle.heap_model.proofs.OneOwner.{names_store}
-use Rattle.heap_model.proofs.SlotWords.{IsStoreKind, IsStoreWord, store_word}
+use Rattle.heap_model.proofs.SlotWords.{IsStoreKind, IsStoreWord, store_is_owned, store_word}
 use Rattle.heap_model.proofs.WordClasses.{same_reference}
 use Rattle.object_cells.proofs.CellsRead.{word_stands}
 
@@ -121,5 +121,6 @@ stands_there {heap} {cell} has = subst (HasCell heap cell) (sym has.words_are) h
 pub kept_where_none_went : {old new : Heap} {number : ℕ} {made : List Cell} (at : ℕ) → Whole old
     → CellsMove old new [] [] made → IsPlace old number at → capacity_at new at ≡ capacity_at old at
 kept_where_none_went at whole cells place =
-    place_keeps at whole place (λ cell words names has store. stands_there (cells.kept cell words has (none_in cell)))
-    (cells.kept place.cell place.words place.has (none_in place.cell))
+    place_keeps at whole place (λ cell words names has store.
+    stands_there (stays_standing cells has (owned_is_no_filler cell.layout.kind (store_is_owned store)) (none_in cell)))
+    (stays_standing cells place.has (object_is_no_filler place.cell.layout.kind place.object) (none_in place.cell))

@@ -2,7 +2,8 @@ pub mod CellsRead
 pub mod WordsTold
 pub mod SlotTargets
 pub mod UnusedWords
-pub mod EdenCells
+pub mod TakenRuns
+pub mod RunCells
 pub mod NewBoxes
 pub mod RestOfWords
 pub mod WordsPut
@@ -16,6 +17,7 @@ pub mod PathOffsets
 pub mod SlotsOfCells
 pub mod TouchedCells
 pub mod FittingCells
+pub mod MadeTouches
 pub mod TouchedWords
 pub mod TouchedFields
 pub mod SlotsNow
@@ -25,6 +27,7 @@ pub mod HeldContents
 pub mod SlotPlaces
 pub mod FieldsFound
 pub mod PlainFields
+pub mod GrantedRests
 pub mod ReplacedObjects
 pub mod Refills
 pub mod NewFields
@@ -55,8 +58,8 @@ pub mod ListSlots
 pub mod RefilledElements
 pub mod RefilledLists
 pub mod OneElement
-pub mod PutRanges
 pub mod NewStores
+pub mod StoreTouches
 pub mod MadeBoxes
 pub mod StoreWords
 pub mod StoreRuns

@@ -8,7 +8,6 @@ use Rattle.heap_model.specs.Types.{Value, Rep, Cell}
 use Rattle.tagged_word.specs.declared.layout.Kind.TheVariants as kind
 use Rattle.tagged_word.specs.Headers.{header_bits}
 use Rattle.tagged_word.proofs.Members.{first_in, one_in}
-use Rattle.page_space.specs.Extents.{eden_start, segments_start}
 use Rattle.object_graph.specs.Invariants.{IsValue}
 use Rattle.object_graph.proofs.Lists.{slice_get-set_same, slice_get-set_other}
 use Rattle.cell_layout.specs.Cells.{IsCell, IsRow, none, next}
@@ -24,6 +23,7 @@ use Rattle.object_cells.specs.FilledRuns.{HasBoxWords}
 use Rattle.object_cells.specs.Made.{content_need, with_content}
 use Rattle.object_cells.proofs.HeldContents.{HoldsValue}
 use Rattle.object_cells.proofs.NewBoxes.{box_cell, box_is_cell, row_of_box}
+use Rattle.object_cells.proofs.RunCells.{AreOfRegion}
 use Rattle.object_cells.proofs.SlotsNow.{word_at_offset}
 
 -- the box that is made for it, at an address
@@ -32,12 +32,11 @@ made_boxes (content.Tagged word) at = []
 made_boxes (content.Raw word) at = []
 made_boxes (content.Boxed v) at = box_cell at ∷ []
 
--- both words of the box stand in eden, if it needs one
+-- both words of the box stand in words of one region, if it needs one
 pub record BoxStands (heap : Heap) (holds : SlotContent) (box : ℕ) : Type 0 where
   pub header : (v : ℤ) → holds ≡ content.Boxed v → slice_get heap.words box ≡ Some (header_bits box_header)
   pub raw : (v : ℤ) → holds ≡ content.Boxed v → slice_get heap.words (box + 1) ≡ Some (raw_word v)
-  pub from : (v : ℤ) → holds ≡ content.Boxed v → eden_start heap.space ≤ box
-  pub below : (v : ℤ) → holds ≡ content.Boxed v → box + 2 ≤ segments_start heap.space
+  pub region : (v : ℤ) → holds ≡ content.Boxed v → AreOfRegion heap.space box (box + 2)
 
 -- no cell is made in no words
 pub row_of_none : (heap : Heap) (at : ℕ) → IsRow heap.space heap.words at (at + 0) []
@@ -52,8 +51,7 @@ made_row heap (content.Tagged word) box sized stands = row_of_none heap box
 made_row heap (content.Raw word) box sized stands = row_of_none heap box
 made_row heap (content.Boxed v) box sized stands =
     row_of_box heap box (box + 2)
-    (box_is_cell heap box sized (stands.header v refl) (stands.from v refl) (stands.below v refl))
-    refl
+    (box_is_cell heap box sized (stands.header v refl) (stands.region v refl)) refl
 
 -- A slot comes to hold a box with this integer, and this cell is the box.
 pub record IsTheBox (holds : SlotContent) (box : ℕ) (other : Cell) : Type 0 where
@@ -181,19 +179,18 @@ with_content_box words (content.Boxed w) box v boxed within =
           ∙ ap (λ (n : ℤ). Some (raw_word n)) same;
     }
 
--- A box that a slot comes to hold stands at an address of eden, where the words from there on were put for it.
+-- A box that a slot comes to hold stands at an address in words of one region, where those from there on were put for
+-- it.
 pub put_box : (heap : Heap) (words : List ℕ) (holds : SlotContent) (box : ℕ) → box + content_need holds ≤ length words
-    → eden_start heap.space ≤ box → box + content_need holds ≤ segments_start heap.space
-    → ((b : ℕ) → box ≤ b → b < box + content_need holds
+    → AreOfRegion heap.space box (box + content_need holds) → ((b : ℕ) → box ≤ b → b < box + content_need holds
     → slice_get heap.words b ≡ slice_get (with_content words holds box) b) → BoxStands heap holds box
-put_box heap words holds box within from ends stands =
+put_box heap words holds box within region stands =
     let put = λ (v : ℤ) (is_box : holds ≡ content.Boxed v).
     with_content_box words holds box v is_box (omega (arith, within, ap content_need is_box)) in
     record {
       header = λ v is_box. stands box (omega arith) (omega (arith, ap content_need is_box)) ∙ (put v is_box).header;
       raw = λ v is_box. stands (box + 1) (omega arith) (omega (arith, ap content_need is_box)) ∙ (put v is_box).raw;
-      from = λ v is_box. from;
-      below = λ v is_box. omega (arith, ends, ap content_need is_box);
+      region = λ v is_box. subst (λ n. AreOfRegion heap.space box (box + n)) (ap content_need is_box) region;
     }
 
 -- where the box stands behind another cell that was made, both are the row of their words

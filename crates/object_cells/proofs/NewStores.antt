@@ -5,7 +5,6 @@ use Rattle.tagged_word.specs.Headers.{IsHeader, header_bits}
 use Rattle.tagged_word.specs.Layouts.{IsLayout, layout_bits}
 use Rattle.tagged_word.specs.Shapes.{shapes_most}
 use Rattle.tagged_word.specs.Cells.{store_head, cell_words_most, cell_size, has_length, length_by, length_offset}
-use Rattle.page_space.specs.Extents.{eden_start, segments_start}
 use Rattle.shape_tree.specs.ShapeLayouts.{layout_word}
 use Rattle.heap_model.specs.Types.{Path, Cell}
 use Rattle.cell_layout.specs.Cells.{IsCell}
@@ -13,7 +12,7 @@ use Rattle.heap_model.specs.Heaps.{Heap}
 use Rattle.heap_model.specs.Kinds.{HasNoNumber}
 use Rattle.heap_model.specs.Wholeness.{HasSizes}
 use Rattle.object_cells.specs.Formats.{store_header}
-use Rattle.object_cells.proofs.EdenCells.{bare_layout, size_is, eden_cell}
+use Rattle.object_cells.proofs.RunCells.{bare_layout, size_is, AreOfRegion, run_cell}
 
 -- the cell of a store of so many slots
 abbrev pub store_cell : ℕ → ℕ → Cell
@@ -49,14 +48,13 @@ store_is_long at capacity few = record {
   no_number = refl;
 }
 
--- it stands in eden where its header and its length do
+-- it stands where its header and its length do, in words of one region
 pub long_cell : (heap : Heap) (cell : Cell) → HasSizes heap → IsLongCell cell
     → slice_get heap.words cell.at ≡ Some (header_bits cell.header)
     → slice_get heap.words (cell.at + length_offset) ≡ Some cell.length
-    → eden_start heap.space ≤ cell.at → cell.at + cell.size ≤ segments_start heap.space
-    → IsCell heap.space heap.words cell
-long_cell heap cell sized is header counted from below =
-    eden_cell heap cell sized (record {
+    → AreOfRegion heap.space cell.at (cell.at + cell.size) → IsCell heap.space heap.words cell
+long_cell heap cell sized is header counted region =
+    run_cell heap cell sized (record {
       is_header = is.is_header;
       known = is.known;
       is_layout = is.is_layout;
@@ -65,6 +63,4 @@ long_cell heap cell sized is header counted from below =
       some = is.some;
       first = header;
       second = ap (λ t. length_by t (slice_get heap.words (cell.at + length_offset))) is.long ∙ counted;
-      from = from;
-      below = below;
-    })
+    }) region

@@ -1,5 +1,5 @@
 -- Where the cell of one object becomes another of it, and words of its own cells have changed, cells stand in rows.
-use Rattle.std.proofs.Common.{◌≡◌, ℕ, ◌+◌, ◌<◌, ◌≤◌, ◌⊎◌, inl, inr, List, [], ◌∷◌, ◌++◌}
+use Rattle.std.proofs.Common.{◌≡◌, ◌≢◌, ℕ, ◌+◌, ◌<◌, ◌≤◌, ◌⊎◌, inl, inr, List, [], ◌∷◌, ◌++◌}
 use Rattle.std.proofs.Common.{length, IsTrue, Contains, All, map, slice_get, sym, ◌∙◌, ap, subst, arith}
 use Rattle.std.specs.List.{flat_map}
 use Rattle.std.proofs.lemmas.Bool.{false≢true}
@@ -11,8 +11,8 @@ use Rattle.std.proofs.lemmas.Simd.{map-map}
 use Rattle.heap_model.specs.Types.{Kind, Path, Cell}
 use Rattle.tagged_word.specs.declared.layout.Kind.TheVariants as kind
 use Rattle.tagged_word.specs.Cells.{has_length, length_offset}
-use Rattle.tagged_word.proofs.Members.{in_map, first_in, rest_in}
-use Rattle.page_space.specs.Extents.{Space, eden_start, roots_start, layouts_start, marks_start}
+use Rattle.tagged_word.proofs.Members.{in_map, map_from, first_in, rest_in, in_cases}
+use Rattle.page_space.specs.Extents.{Space, roots_start, layouts_start, marks_start}
 use Rattle.page_space.proofs.Starts.{roots_start_is, layouts_start_is}
 use Rattle.cell_layout.specs.Cells.{IsCell, IsRow}
 use Rattle.cell_layout.specs.CellLaws.{ReadsAlike}
@@ -20,10 +20,13 @@ use Rattle.cell_layout.proofs.OneCell.{cells_stay}
 use Rattle.heap_model.specs.Heaps.{Heap, HasCell, words_of_cell}
 use Rattle.heap_model.specs.Slots.{is_object_kind}
 use Rattle.heap_model.specs.Wholeness.{Whole, HasSizes, HasRows, IsOwnedKind}
-use Rattle.heap_model.specs.Changes.{IsPatched, Rewrite, IsRewrite, patch_of, IsChange, CellsChange, IsNewlyUsed}
+use Rattle.heap_model.specs.Changes.{Patch, IsPatched, Rewrite, IsRewrite, patch_of, IsChange}
+use Rattle.heap_model.specs.Changes.{IsRunOf, CellsChange}
+use Rattle.heap_model.proofs.CellOutcomes.{object_is_no_filler, owned_is_no_filler}
 use Rattle.heap_model.proofs.CellsApart.{has_is_cell, used_few}
 use Rattle.heap_model.proofs.LayoutsStay.{SayLayouts, layout_stays}
 use Rattle.heap_model.proofs.WordsAlike.{cell_below_roots}
+use Rattle.heap_model.proofs.RunCells.{run_beside}
 use Rattle.heap_model.proofs.Rewrites.{rewrite_by_one, rewrite_slots, rewrites_are_patches, rewrites_keep_cells}
 use Rattle.object_cells.specs.CellWrites.{IsInCell, IsWrittenOfKind}
 
@@ -36,11 +39,10 @@ pub record IsWrittenOwned (old new : Heap) (other : Cell) : Type 0 where
       → slice_get new.words (other.at + length_offset) ≡ slice_get old.words (other.at + length_offset)
 
 -- A cell of the same object stands in the words of an object's cell. Otherwise only words of this cell and of these
--- others have changed, words that are newly used, in which cells were made, and layout words of shapes that are new.
+-- others have changed, words of the run in which cells were made, and layout words of shapes that are new.
 pub record WritesObject (old new : Heap) (cell came : Cell) (others made : List Cell) : Type 0 where
   pub same_space : new.space ≡ old.space
   pub same_survivors : new.survivors ≡ old.survivors
-  pub grown : old.used ≤ new.used
   pub room : new.survivors + new.used ≤ new.space.sizes.young
   pub more : List Path
   pub paths : new.paths ≡ old.paths ++ more
@@ -53,9 +55,12 @@ pub record WritesObject (old new : Heap) (cell came : Cell) (others made : List 
   pub number : came.header.object ≡ cell.header.object
   pub is_cell : IsCell new.space new.words came
   pub beside : (other : Cell) → Contains others other → IsWrittenOwned old new other
-  pub made_stand : IsRow new.space new.words (eden_start old.space + old.used) (eden_start old.space + new.used) made
+  pub from : ℕ
+  pub to : ℕ
+  pub run : IsRunOf old new from to
+  pub made_stand : IsRow new.space new.words from to made
   pub stay : (at : ℕ) → at < layouts_start old.space → (IsInCell at cell → ⊥)
-      → ((other : Cell) → Contains others other → IsInCell at other → ⊥) → (IsNewlyUsed old new at → ⊥)
+      → ((other : Cell) → Contains others other → IsInCell at other → ⊥) → (from ≤ at → at < to → ⊥)
       → slice_get new.words at ≡ slice_get old.words at
 
 -- there are as many words as before
@@ -124,18 +129,17 @@ by_other cell came = record { cell = cell; into = came ∷ [] }
 abbrev rewrites_of : Cell → Cell → List Cell → List Rewrite
 rewrites_of cell came others = by_other cell came ∷ map by_itself others
 
--- newly used words are before the roots
-new_below_roots : {old new : Heap} {cell came : Cell} {others made : List Cell} (at : ℕ)
-    → WritesObject old new cell came others made → IsNewlyUsed old new at → at < roots_start old.space
-new_below_roots {old} at writes is_new =
-    let young = ap (λ (space : Space). space.sizes.young) writes.same_space in
-    omega (arith, is_new.below, writes.room, young, roots_start_is old.space)
+-- a run in which cells are made ends before the roots
+run_below : {old new : Heap} {from to : ℕ} → IsRunOf old new from to → new.used ≤ old.space.sizes.young
+    → to ≤ roots_start old.space
+run_below {old} (IsRunOf.of_eden begins ends grown) few = omega (arith, ends, few, roots_start_is old.space)
+run_below {old} (IsRunOf.of_page forward same fillers) few = omega (arith, fillers.of_page, roots_start_is old.space)
 
--- a word of cells that no patch has stays, unless it is newly used
+-- a word of cells that no patch has stays, unless it is of the run
 free_stays : {old new : Heap} {cell came : Cell} {others made : List Cell} (at : ℕ)
-    → WritesObject old new cell came others made → at < roots_start old.space
+    → (writes : WritesObject old new cell came others made) → at < roots_start old.space
     → All (λ patch. IsPatched at patch → ⊥) (map patch_of (rewrites_of cell came others))
-    → (IsNewlyUsed old new at → ⊥) → slice_get new.words at ≡ slice_get old.words at
+    → (writes.from ≤ at → at < writes.to → ⊥) → slice_get new.words at ≡ slice_get old.words at
 free_stays {old} {cell = cell} {came} {others} at writes below free not_new =
     let first = by_other cell came in
     let rewrites = rewrites_of cell came others in
@@ -185,6 +189,39 @@ module _ {old new : Heap} {cell came : Cell} {others made : List Cell} (whole : 
       (All-map (IsRewrite old new) by_itself others
       (All-weaker (Contains others) Q each others (All-contains_itself others)))
 
+  -- as much of eden is used as there is of the young generation, or less
+  few_used : new.used ≤ old.space.sizes.young
+  few_used = omega (arith, writes.room, ap (λ (space : Space). space.sizes.young) writes.same_space)
+
+  -- a cell that is no filler has no word of the run
+  beside_run : {one : Cell} {words : List ℕ} (at : ℕ) → HasCell old one words → one.layout.kind ≢ kind.Filler
+      → IsPatched at (patch_of (by_itself one)) → writes.from ≤ at → at < writes.to → ⊥
+  beside_run at has no_filler is from below =
+      no_filler (run_beside writes.from writes.to at whole.rows few_used writes.run has
+      (record { from = is.from; below = is.below }) from below).0
+
+  -- so no patch has one
+  rewrite_beside : (rewrite : Rewrite) (at : ℕ) → Contains (rewrites_of cell came others) rewrite
+      → IsPatched at (patch_of rewrite) → writes.from ≤ at → at < writes.to → ⊥
+  rewrite_beside rewrite at among is from below =
+      elim (in_cases (by_other cell came) (map by_itself others) rewrite among) [
+        | inl same ↦
+            let is_own = subst (λ (one : Rewrite). IsPatched at (patch_of one)) (sym same) is in
+            beside_run at writes.stood (object_is_no_filler cell.layout.kind writes.object)
+            (record { from = is_own.from; below = is_own.below }) from below
+        | inr there ↦
+            let one = map_from by_itself others rewrite there in
+            let beside = writes.beside one.0 one.1 in
+            beside_run at beside.stood (owned_is_no_filler one.0.layout.kind beside.owned)
+            (subst (λ (rewrite : Rewrite). IsPatched at (patch_of rewrite)) (sym one.2) is) from below
+      ]
+
+  patch_beside : (patch : Patch) (at : ℕ) → Contains (map patch_of (rewrites_of cell came others)) patch
+      → IsPatched at patch → writes.from ≤ at → at < writes.to → ⊥
+  patch_beside patch at among is from below =
+      let one = map_from patch_of (rewrites_of cell came others) patch among in
+      rewrite_beside one.0 at one.1 (subst (IsPatched at) (sym one.2) is) from below
+
   -- a word of the roots stays
   root_stays : (at : ℕ) → roots_start old.space ≤ at → at < layouts_start old.space
       → slice_get new.words at ≡ slice_get old.words at
@@ -192,7 +229,7 @@ module _ {old new : Heap} {cell came : Cell} {others made : List Cell} (whole : 
       let few = used_few whole.rows in
       writes.stay at below (λ of_cell. omega (arith, of_cell.below, cell_below_roots few writes.stood))
       (λ other there of_other. omega (arith, of_other.below, cell_below_roots few (writes.beside other there).stood))
-      (λ is_new. omega (arith, new_below_roots at writes is_new))
+      (λ from high. omega (arith, behind, high, run_below writes.run few_used))
 
   -- nothing else changes
   is_change : IsChange old new (map patch_of (rewrites_of cell came others)) made
@@ -201,13 +238,16 @@ module _ {old new : Heap} {cell came : Cell} {others made : List Cell} (whole : 
       record {
         same_space = writes.same_space;
         same_survivors = writes.same_survivors;
-        grown = writes.grown;
         room = writes.room;
         more = writes.more;
         paths = writes.paths;
         sized = writes.sized;
         each = are.0;
         apart = are.1;
+        from = writes.from;
+        to = writes.to;
+        run = writes.run;
+        beside = patch_beside;
         made_stand = writes.made_stand;
         cells_stay = λ at below free not_new. free_stays at writes below free not_new;
         roots_stay = λ at behind below. root_stays at behind below;

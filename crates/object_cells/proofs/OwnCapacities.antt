@@ -11,18 +11,20 @@ use Rattle.tagged_word.specs.Cells.{store_slot, has_length}
 use Rattle.tagged_word.proofs.Members.{first_in, rest_in, in_cases}
 use Rattle.page_space.specs.Extents.{layouts_start}
 use Rattle.heap_model.specs.Heaps.{Heap, words_of_cell}
-use Rattle.heap_model.specs.Slots.{reference_word, IsPlace}
+use Rattle.heap_model.specs.Slots.{reference_word, is_object_kind, IsPlace}
 use Rattle.heap_model.specs.Wholeness.{NamesFrom, IsOwnedKind}
 use Rattle.heap_model.specs.Changes.{IsNewlyUsed}
 use Rattle.heap_model.specs.Needs.{capacity_at}
+use Rattle.heap_model.proofs.CellOutcomes.{cells_move, object_is_no_filler, owned_is_no_filler, stays_standing}
 use Rattle.heap_model.proofs.CellsApart.{IsOfCell}
 use Rattle.heap_model.proofs.OneOwner.{one_owner}
-use Rattle.heap_model.proofs.SlotWords.{IsStoreKind}
+use Rattle.heap_model.proofs.SlotWords.{IsStoreKind, store_is_owned}
 use Rattle.object_cells.specs.CellWrites.{IsInCell}
 use Rattle.object_cells.specs.OwnWords.{IsOwnWord}
 use Rattle.object_cells.specs.Capacities.{ChangesObject, WritesBeside, CapacitiesStay, CapacitiesGrow}
 use Rattle.object_cells.proofs.KeptCapacities.{capacity_of_store, slot_keeps, place_keeps, stands_there}
 use Rattle.object_cells.proofs.OwnerWrites.{plain_owns}
+use Rattle.object_cells.proofs.TakenRuns.{run_newly_used}
 use Rattle.object_cells.proofs.OwnSteps.{OwnWriting, own_writing, stood, went_object, came_object, own_places_stay}
 use Rattle.object_cells.proofs.OwnCells.{word_stays}
 use Rattle.object_cells.proofs.WrittenPlaces.{IsStoreOrBox}
@@ -98,11 +100,12 @@ module _ {old new : Heap} {cell came : Cell} {others beside made : List Cell}
     others = λ number at place apart.
         let not_own : cell ≡ place.cell → ⊥ =
         λ same. apart (sym place.stands ∙ sym (ap (λ (one : Cell). one.at) same)) in
-        let cells = writing.step.cells in
+        let cells = cells_move writing.step.cells in
         place_keeps at writing.step.whole place
         (λ store words names has is.
-        stands_there (cells.kept store words has (store_not_gone place.cell store not_own names is)))
-        (cells.kept place.cell place.words place.has
+        stands_there (stays_standing cells has (owned_is_no_filler store.layout.kind (store_is_owned is))
+        (store_not_gone place.cell store not_own names is)))
+        (stays_standing cells place.has (object_is_no_filler place.cell.layout.kind place.object)
         (λ there. not_own (went_object writing.step place.cell there place.object)));
     stays = own_places_stay writing.step;
     none_made = none_made;
@@ -118,7 +121,8 @@ module _ {owner owned : Kind} {old new : Heap} {cell came : Cell} {others made :
   others_keep : (capacity : ℕ) → capacity_at new cell.at ≡ capacity → ChangesObject old new cell.at capacity
   others_keep capacity holds = own_capacities own capacity holds (λ at below apart not_new.
       writing.writes.stay at below (λ inside. apart cell (first_in cell others) inside)
-      (λ other among inside. apart other (rest_in cell others other among) inside) not_new)
+      (λ other among inside. apart other (rest_in cell others other among) inside)
+      (λ from high. not_new (run_newly_used at writing.writes.run from high)))
 
   -- where the word of its slot for the store stays, the object keeps its capacity too
   pub object_keeps : slice_get new.words (cell.at + store_slot) ≡ slice_get old.words (cell.at + store_slot)
@@ -159,5 +163,6 @@ one_keeps {cell = cell} puts belong kinds =
     let of_cell : IsOfCell cell (cell.at + store_slot) = record { from = omega arith; below = omega (arith, within) } in
     object_keeps
     (record { owns = plain_owns; whole = puts.whole; writes = puts.writes; belong = belong; kinds = kinds })
-    (word_stays (cell.at + store_slot) puts.whole puts.one puts.has of_cell (λ same. omega (arith, same))
+    (word_stays (cell.at + store_slot) puts.whole puts.one puts.has
+    (object_is_no_filler cell.layout.kind (ap is_object_kind puts.plain)) of_cell (λ same. omega (arith, same))
     puts.not_store)

@@ -1,5 +1,5 @@
 -- One word that was put is one of an object's own cells, and the other one of its cell.
-use Rattle.std.proofs.Common.{◌≡◌, ◌≢◌, ℕ, ◌+◌, ◌<◌, ◌⊎◌, inl, inr, List, Contains, slice_get, IsTrue}
+use Rattle.std.proofs.Common.{◌≡◌, ◌≢◌, ℕ, ◌+◌, ◌<◌, ◌≤◌, ◌⊎◌, inl, inr, List, Contains, slice_get, IsTrue}
 use Rattle.std.proofs.Common.{refl, sym, ◌∙◌, ap, subst, arith}
 use Rattle.std.proofs.lemmas.Bool.{false≢true}
 use Rattle.tagged_word.specs.declared.layout.Kind.TheVariants as kind
@@ -10,15 +10,14 @@ use Rattle.shape_tree.specs.Shapes.{IsPathShape, shape_path}
 use Rattle.heap_model.specs.Types.{Cell}
 use Rattle.heap_model.specs.Heaps.{Heap, HasCell, words_of_cell}
 use Rattle.heap_model.specs.Slots.{is_object_kind}
+use Rattle.heap_model.proofs.RunCells.{run_beside}
 use Rattle.heap_model.specs.Wholeness.{Whole}
-use Rattle.heap_model.specs.Changes.{IsNewlyUsed}
 use Rattle.heap_model.proofs.CellsApart.{IsOfCell, first_of_cell, cells_apart, used_few}
 use Rattle.heap_model.proofs.CellWords.{words_by_kind, words_are_size}
 use Rattle.heap_model.proofs.WordsAlike.{cell_below_roots}
 use Rattle.object_cells.specs.CellWrites.{IsInCell, IsWrittenOfKind, Becomes}
 use Rattle.object_cells.specs.SlotChanges.{WritesFields}
-use Rattle.object_cells.proofs.WrittenPlaces.{IsStoreOrBox, beside_is_no_object}
-use Rattle.object_cells.proofs.UnusedWords.{cell_is_used}
+use Rattle.object_cells.proofs.WrittenPlaces.{IsStoreOrBox, beside_is_no_object, beside_is_no_filler}
 use Rattle.object_cells.proofs.OneWord.{WritesOne, WritesTwo}
 
 -- the words of a list
@@ -38,14 +37,14 @@ pub record IsOwnWord (heap : Heap) (cell : Cell) (others : List Cell) (at : ℕ)
   pub each : (other : Cell) → Contains others other → IsPutOwned heap at other
   pub inside : IsInCell at cell ⊎ ((other : Cell) × Contains others other × IsInCell at other)
 
--- a word of a cell is not among those that are newly used
+-- a word of a cell that is no filler is not of the run in which cells are made
 cell_not_new : {old new : Heap} {one : Cell} {words : List ℕ} {first head at word : ℕ} {made : List Cell} (a : ℕ)
-    → Whole old → WritesTwo old new first head at word made → HasCell old one words → IsOfCell one a
-    → IsNewlyUsed old new a
-    → ⊥
-cell_not_new {old} a whole writes has of_cell is_new =
+    → Whole old → (writes : WritesTwo old new first head at word made) → HasCell old one words
+    → one.layout.kind ≢ kind.Filler → IsOfCell one a → writes.from ≤ a → a < writes.to → ⊥
+cell_not_new {old} a whole writes has no_filler of_cell from below =
     let young = ap (λ (space : Space). space.sizes.young) writes.same_space in
-    cell_is_used whole.rows has of_cell is_new.from (omega (arith, is_new.below, writes.room, young))
+    no_filler (run_beside writes.from writes.to a whole.rows (omega (arith, writes.room, young)) writes.run has of_cell
+    from below).0
 
 -- a word of a cell is before the layout words
 pub cell_below_layouts : {heap : Heap} {cell : Cell} {words : List ℕ} {a : ℕ} → Whole heap → HasCell heap cell words
@@ -53,13 +52,13 @@ pub cell_below_layouts : {heap : Heap} {cell : Cell} {words : List ℕ} {a : ℕ
 cell_below_layouts {heap} whole has of_cell =
     omega (arith, of_cell.below, cell_below_roots (used_few whole.rows) has, layouts_start_is heap.space)
 
--- so a word of a cell stays, unless it is one of the two
+-- so a word of a cell that is no filler stays, unless it is one of the two
 pub word_stays : {old new : Heap} {one : Cell} {words : List ℕ} {first head at word : ℕ} {made : List Cell} (a : ℕ)
-    → Whole old → WritesTwo old new first head at word made → HasCell old one words → IsOfCell one a → a ≢ first
-    → a ≢ at
-    → slice_get new.words a ≡ slice_get old.words a
-word_stays a whole writes has of_cell not_first not_at =
-    writes.stay a (cell_below_layouts whole has of_cell) not_first not_at (cell_not_new a whole writes has of_cell)
+    → Whole old → WritesTwo old new first head at word made → HasCell old one words → one.layout.kind ≢ kind.Filler
+    → IsOfCell one a → a ≢ first → a ≢ at → slice_get new.words a ≡ slice_get old.words a
+word_stays a whole writes has no_filler of_cell not_first not_at =
+    writes.stay a (cell_below_layouts whole has of_cell) not_first not_at
+    (cell_not_new a whole writes has no_filler of_cell)
 
 -- no address of a store or box is one of an object's cell
 pub beside_not_own : {heap : Heap} {cell other : Cell} {words others : List ℕ} (a first : ℕ) → Whole heap
@@ -92,23 +91,25 @@ pub written_beside : {old new : Heap} {cell other : Cell} {words : List ℕ} {fi
     → IsWrittenOfKind kind.Store old new other
 written_beside {other = other} {first = first} whole has object of_own writes put =
     let start = first_of_cell put.stood in
+    let no_filler = beside_is_no_filler other.layout.kind put.of_kind in
     record {
       stood = put.stood;
       of_kind = put.of_kind;
-      header = word_stays other.at whole writes put.stood start
+      header = word_stays other.at whole writes put.stood no_filler start
           (beside_not_own other.at first whole has object of_own put.stood put.of_kind start) put.header;
       length = λ store.
           let second = store_second put.stood store in
-          word_stays (other.at + length_offset) whole writes put.stood second
+          word_stays (other.at + length_offset) whole writes put.stood no_filler second
           (beside_not_own (other.at + length_offset) first whole has object of_own put.stood put.of_kind second)
           (put.length store);
     }
 
 -- a word of no cell that is the object's own stays
 pub others_stay : {old new : Heap} {cell : Cell} {others made : List Cell} {first head at word : ℕ}
-    → IsOfCell cell first → WritesTwo old new first head at word made → IsOwnWord old cell others at → (a : ℕ)
+    → IsOfCell cell first → (writes : WritesTwo old new first head at word made) → IsOwnWord old cell others at
+    → (a : ℕ)
     → a < layouts_start old.space → (IsInCell a cell → ⊥)
-    → ((other : Cell) → Contains others other → IsInCell a other → ⊥) → (IsNewlyUsed old new a → ⊥)
+    → ((other : Cell) → Contains others other → IsInCell a other → ⊥) → (writes.from ≤ a → a < writes.to → ⊥)
     → slice_get new.words a ≡ slice_get old.words a
 others_stay {cell = cell} of_own writes own a below not_cell not_others not_new =
     writes.stay a below
@@ -128,7 +129,6 @@ writes_cells cell shape at word others made whole has plain is_shape cap own wri
     record {
       same_space = writes.same_space;
       same_survivors = writes.same_survivors;
-      grown = writes.grown;
       room = writes.room;
       more = writes.more;
       paths = writes.paths;
@@ -144,6 +144,9 @@ writes_cells cell shape at word others made whole has plain is_shape cap own wri
       });
       beside = λ other there.
           written_beside whole has (ap is_object_kind plain) (first_of_cell has) writes (own.each other there);
+      from = writes.from;
+      to = writes.to;
+      run = writes.run;
       made_stand = writes.made_stand;
       stay = λ a below not_cell not_others not_new.
           others_stay (first_of_cell has) writes own a below not_cell not_others not_new;

@@ -3,6 +3,7 @@
 use Rattle.std.proofs.Common.{◌≡◌, ◌≢◌, ℕ, ◌+◌, ◌≤◌, ◌<◌, List, [], ◌∷◌, Contains, false, length, slice_get, refl, ◌∙◌}
 use Rattle.std.proofs.Common.{sym, ap, subst, arith, add-zero}
 use Rattle.std.proofs.lemmas.Bool.{false≢true}
+use Rattle.tagged_word.specs.declared.layout.Kind.TheVariants as kind
 use Rattle.tagged_word.specs.Cells.{has_length, store_head, store_slot}
 use Rattle.tagged_word.proofs.Members.{first_in, one_in}
 use Rattle.nursery.specs.Young.{HasRoom}
@@ -14,7 +15,8 @@ use Rattle.heap_model.specs.Types.{Kind, Value, Cell}
 use Rattle.heap_model.specs.Heaps.{HasCell, words_of_cell}
 use Rattle.heap_model.specs.Kinds.{HasWord, count_offset}
 use Rattle.heap_model.specs.Slots.{is_object_kind}
-use Rattle.heap_model.specs.Wholeness.{Whole, NamesFrom}
+use Rattle.heap_model.specs.Wholeness.{Whole, NamesFrom, IsOwnedKind}
+use Rattle.heap_model.proofs.CellOutcomes.{object_is_no_filler, owned_is_no_filler}
 use Rattle.heap_model.proofs.CellsApart.{IsOfCell, cells_apart}
 use Rattle.heap_model.proofs.OneOwner.{names_store}
 use Rattle.heap_model.proofs.SlotWords.{IsStoreKind}
@@ -28,7 +30,7 @@ use Rattle.object_cells.proofs.MadeBoxes.{made_boxes, BoxStands, made_row, with_
 use Rattle.object_cells.proofs.OwnCapacities.{owned_is_store}
 use Rattle.object_cells.proofs.OwnPuts.{PutsOwn, own_sized, own_writes, one_owned, box_put}
 use Rattle.object_cells.proofs.TakenValues.{TakesValue, IsItsStore, only_store}
-use Rattle.object_cells.proofs.UnusedWords.{cell_is_used, next_before_segments}
+use Rattle.object_cells.proofs.UnusedWords.{next_apart}
 
 -- Once the box was made that a slot came to hold, only the count of the object was put, and words behind the head of
 -- the cell to which the object's slot for a store or table refers.
@@ -52,12 +54,21 @@ pub record PutsBeside (owner owned : Kind) (old new : Mutator) (cell other : Cel
 
 module _ {owner owned : Kind} {old new : Mutator} {cell other : Cell} {store : ℕ} {holds : SlotContent} {words : List ℕ}
     (putting : PutsBeside owner owned old new cell other store holds words) where
-  -- no word of a cell is one of the box
-  pub not_made : {one : Cell} {all : List ℕ} (a : ℕ) → HasCell (heap_of old) one all → IsOfCell one a
-      → next_at old ≤ a → a < next_at old + content_need holds → ⊥
-  not_made a has of_one from below =
-      cell_is_used putting.whole.rows has of_one from
-      (omega (arith, below, next_before_segments old (content_need holds) putting.tied putting.room))
+  -- the object's cell is no filler
+  pub own_no_filler : cell.layout.kind ≢ kind.Filler
+  own_no_filler =
+      object_is_no_filler cell.layout.kind (ap is_object_kind putting.of_kind ∙ putting.owns.object)
+
+  -- nor is the other
+  pub other_no_filler : other.layout.kind ≢ kind.Filler
+  other_no_filler =
+      owned_is_no_filler other.layout.kind (subst IsOwnedKind (sym putting.is.of_kind) putting.owns.belongs)
+
+  -- no word of a cell that is no filler is one of the box
+  pub not_made : {one : Cell} {all : List ℕ} (a : ℕ) → one.layout.kind ≢ kind.Filler → HasCell (heap_of old) one all
+      → IsOfCell one a → next_at old ≤ a → a < next_at old + content_need holds → ⊥
+  not_made a no_filler has of_one from below =
+      next_apart (content_need holds) a putting.tied putting.whole.rows putting.room no_filler has of_one from below
 
   -- no word of the object's cell is one of the other
   pub apart : (a b : ℕ) → IsOfCell cell a → IsOfCell other b → a ≢ b
@@ -71,13 +82,13 @@ module _ {owner owned : Kind} {old new : Mutator} {cell other : Cell} {store : �
   of_count : IsOfCell cell (cell.at + count_offset)
   of_count = record { from = omega arith; below = omega (arith, putting.counts) }
 
-  -- so other words of cells stay
-  stays : {one : Cell} {all : List ℕ} (a : ℕ) → HasCell (heap_of old) one all → IsOfCell one a
-      → a ≢ cell.at + count_offset → (other.at + store_head ≤ a → a < other.at + other.size → ⊥)
+  -- so other words of cells that are no fillers stay
+  stays : {one : Cell} {all : List ℕ} (a : ℕ) → one.layout.kind ≢ kind.Filler → HasCell (heap_of old) one all
+      → IsOfCell one a → a ≢ cell.at + count_offset → (other.at + store_head ≤ a → a < other.at + other.size → ⊥)
       → slice_get (heap_words new.seat) a ≡ slice_get (heap_words old.seat) a
-  stays a has of_one not_count not_slot =
+  stays a no_filler has of_one not_count not_slot =
       ap (λ all. slice_get all a) putting.puts.heap ∙ putting.beside a not_count not_slot
-      ∙ with_content_stays (heap_words old.seat) holds (next_at old) a (not_made a has of_one)
+      ∙ with_content_stays (heap_words old.seat) holds (next_at old) a (not_made a no_filler has of_one)
 
   -- and so words of the object's own cells were put
   puts : PutsOwn owner old new cell (other ∷ []) (content_need holds) words
@@ -103,7 +114,7 @@ module _ {owner owned : Kind} {old new : Mutator} {cell other : Cell} {store : �
   own_stays k less =
       let of_cell : IsOfCell cell (cell.at + k) =
       record { from = omega arith; below = omega (arith, less, putting.counts) } in
-      stays (cell.at + k) putting.has of_cell (λ same. omega (arith, same, less)) (λ from below.
+      stays (cell.at + k) own_no_filler putting.has of_cell (λ same. omega (arith, same, less)) (λ from below.
       apart (cell.at + k) (cell.at + k) of_cell (record { from = omega (arith, from); below = below }) refl)
 
   head_stays : (k : ℕ) → k < 2
@@ -111,7 +122,7 @@ module _ {owner owned : Kind} {old new : Mutator} {cell other : Cell} {store : �
   head_stays k less =
       let of_other : IsOfCell other (other.at + k) =
       record { from = omega arith; below = omega (arith, less, putting.other_long) } in
-      stays (other.at + k) putting.other_has of_other
+      stays (other.at + k) other_no_filler putting.other_has of_other
       (λ same. apart (cell.at + count_offset) (other.at + k) of_count of_other (sym same))
       (λ from below. omega (arith, from, less))
 
@@ -120,9 +131,10 @@ module _ {owner owned : Kind} {old new : Mutator} {cell other : Cell} {store : �
   stands =
       box_put (heap_words old.seat) holds (next_at old) puts refl (omega arith) (omega arith) (λ b from below.
       ap (λ all. slice_get all b) putting.puts.heap
-      ∙ putting.beside b (λ same. not_made b putting.has
+      ∙ putting.beside b (λ same. not_made b own_no_filler putting.has
       (record { from = omega (arith, same); below = omega (arith, same, putting.counts) }) from below)
-      (λ low high. not_made b putting.other_has (record { from = omega (arith, low); below = high }) from below))
+      (λ low high. not_made b other_no_filler putting.other_has
+      (record { from = omega (arith, low); below = high }) from below))
 
   -- so cells were written
   pub writes : WritesOwnCells owner owned (heap_of old) (heap_of new) cell cell (other ∷ [])

@@ -9,6 +9,7 @@ use Rattle.tagged_word.specs.declared.layout.Kind.TheVariants as kind
 use Rattle.tagged_word.specs.Cells.{has_length, store_slot}
 use Rattle.tagged_word.proofs.Members.{first_in, rest_in, one_in, in_cases}
 use Rattle.page_space.specs.Extents.{marks_start}
+use Rattle.nursery.specs.Young.{bumped}
 use Rattle.object_graph.proofs.Lists.{slice_get-set_same, slice_get-set_other}
 use Rattle.heap_table.specs.Seats.{heap_words, RestStays}
 use Rattle.heap_table.specs.Staying.{rest_stays_itself}
@@ -18,8 +19,9 @@ use Rattle.heap_model.specs.Heaps.{HasCell, words_of_cell}
 use Rattle.heap_model.specs.Kinds.{HasWord, IsBoxCell, IsSoundOf}
 use Rattle.heap_model.specs.Needs.{capacity_at}
 use Rattle.heap_model.specs.Slots.{is_object_kind, raw_word, RefersToBox, HoldsStore}
-use Rattle.heap_model.specs.Wholeness.{Whole, NamesFrom}
+use Rattle.heap_model.specs.Wholeness.{Whole, NamesFrom, IsOwnedKind}
 use Rattle.heap_model.proofs.BoundHeaps.{none_in}
+use Rattle.heap_model.proofs.CellOutcomes.{cells_move, owned_is_no_filler, stays_standing}
 use Rattle.heap_model.proofs.CellsApart.{IsOfCell, first_of_cell, cells_apart}
 use Rattle.heap_model.proofs.RowCovers.{stretch_alike}
 use Rattle.write_barrier.specs.MutatorState.{Mutator, heap_of, IsTied, with_word}
@@ -29,8 +31,9 @@ use Rattle.object_cells.specs.Contents.{next_at}
 use Rattle.object_cells.specs.OwnSlots.{ComesFrom, Refills}
 use Rattle.object_cells.proofs.CellsRead.{cell_before_marks, word_stands}
 use Rattle.object_cells.proofs.MadeBoxes.{row_of_none}
-use Rattle.object_cells.proofs.NothingUsed.{room_for_none, used_and_none}
+use Rattle.object_cells.proofs.NothingUsed.{room_for_none}
 use Rattle.object_cells.proofs.OwnCapacities.{object_keeps}
+use Rattle.object_cells.proofs.TakenRuns.{bumped_none}
 use Rattle.object_cells.proofs.OwnPlaces.{has_own_words, box_size}
 use Rattle.object_cells.proofs.OwnPuts.{PutsOwn, own_writes}
 use Rattle.object_cells.proofs.OwnerWrites.{owned_is_no_box, written_own_keeps_cells}
@@ -119,8 +122,8 @@ module _ {owner owned : Kind} {old new : Mutator} {cell : Cell} {word box : ℕ}
   word_stays a has no_box of_one = kept a (not_of a has no_box of_one)
 
   -- what is used stays
-  pub same_young : new.young ≡ record old.young { used = old.young.used + 0 }
-  same_young = ap (λ (m : Mutator). m.young) writing.puts_it ∙ used_and_none old.young
+  pub same_young : new.young ≡ bumped old.young 0
+  same_young = ap (λ (m : Mutator). m.young) writing.puts_it ∙ sym (bumped_none old.young)
 
   -- so a word of the object's own cells was put, and nothing more is used
   puts : PutsOwn owner old new cell others 0 put
@@ -190,13 +193,16 @@ module _ {owner owned : Kind} {old new : Mutator} {cell : Cell} {word box : ℕ}
   -- so does a cell of the kind that it owns
   pub owned_stays : {one : Cell} {words : List ℕ} → HasCell (heap_of old) one words → one.layout.kind ≡ owned
       → HasCell (heap_of new) one words
-  owned_stays {one} {words} has is = cells.kept one words has (λ gone. elim (in_cases cell others one gone) [
-    | inl same ↦ false≢true (sym writing.owns.short ∙ sym (ap has_length writing.of_kind)
-        ∙ ap (λ (c : Cell). has_length c.layout.kind) same ∙ ap has_length is ∙ writing.owns.long)
-    | inr among ↦
-        owned_is_no_box writing.owns is
-        (ap (λ (c : Cell). c.layout.kind) (sym (one_in one_box one among)) ∙ writing.box_of.box)
-  ])
+  owned_stays {one} {words} has is =
+      let belongs : IsOwnedKind one.layout.kind = subst IsOwnedKind (sym is) writing.owns.belongs in
+      stays_standing (cells_move cells) has (owned_is_no_filler one.layout.kind belongs)
+      (λ gone. elim (in_cases cell others one gone) [
+        | inl same ↦ false≢true (sym writing.owns.short ∙ sym (ap has_length writing.of_kind)
+            ∙ ap (λ (c : Cell). has_length c.layout.kind) same ∙ ap has_length is ∙ writing.owns.long)
+        | inr among ↦
+            owned_is_no_box writing.owns is
+            (ap (λ (c : Cell). c.layout.kind) (sym (one_in one_box one among)) ∙ writing.box_of.box)
+      ])
 
   -- and so its store has the slots that it had
   pub store_stays : {store : ℕ} {slots : List ℕ} → HoldsStore (heap_of old) owned store slots

@@ -1,5 +1,5 @@
 -- What the slots of an object name whose cells changed: each named the same before, or names what stands where no cell
--- began; and no two name one. So the change of cells is the object's own.
+-- began but a filler; and no two name one. So the change of cells is the object's own.
 use Rattle.std.proofs.Common.{◌≡◌, ℕ, ◌+◌, List, ◌∷◌, ◌++◌, Contains, ◌⊎◌, inl, inr, refl, sym, ◌∙◌, ap, subst}
 use Rattle.tagged_word.specs.declared.layout.Kind.TheVariants as kind
 use Rattle.heap_model.specs.Types.{Kind, Cell}
@@ -14,6 +14,7 @@ use Rattle.heap_model.specs.Kinds.{HasWord, IsSoundCell}
 use Rattle.heap_model.specs.Wholeness.{Whole, HasSlotAt, NamesFrom, IsOwnedKind}
 use Rattle.heap_model.specs.Changes.{IsNewPlace, IsOwnChange}
 use Rattle.heap_model.proofs.WordClasses.{same_reference}
+use Rattle.heap_model.proofs.CellOutcomes.{owned_is_no_filler}
 use Rattle.heap_model.proofs.CellsApart.{one_at, one_words}
 use Rattle.heap_model.proofs.ObjectSlots.{store_slot_at}
 use Rattle.heap_model.proofs.NamedBefore.{slot_named_before}
@@ -23,7 +24,7 @@ use Rattle.object_cells.proofs.SlotNumbers.{IsSlotOf, HasNumbers}
 use Rattle.object_cells.proofs.OwnSteps.{OwnWriting, own_writing, stood, stands, came_object, objects_stay, came_stood}
 use Rattle.object_cells.proofs.OwnSteps.{own_places_stay, went_own, boxes_came}
 
--- a cell that is no box stands where none began
+-- a cell that is no box stands where none began but a filler
 pub record IsNewStore (old new : Heap) (at : ℕ) : Type 0 where
   pub cell : Cell
   pub words : List ℕ
@@ -71,8 +72,8 @@ module _ {old new : Heap} {cell came : Cell} {others beside made : List Cell} {w
       → HasSlotAt old cell (words_of_cell old cell) place word → RefersTo new word named words
       → IsOwnedKind named.layout.kind → NamesFrom old cell place named.at
   named_before word at refers owned =
-      slot_named_before renames.writing.step.whole (own_places_stay renames.writing.step) (stood renames.writing.step) renames.writing.step.object at
-      refers owned
+      slot_named_before renames.writing.step.whole (own_places_stay renames.writing.step) (stood renames.writing.step)
+      renames.writing.step.object at refers owned
 
   -- where the word of the object's store comes from
   store_source : {named : Cell} {words : List ℕ} {slot : ℕ} (word : ℕ) → slot ≡ came.at + store_slot
@@ -121,13 +122,13 @@ module _ {old new : Heap} {cell came : Cell} {others beside made : List Cell} {w
       let same = came_object renames.writing owner there names.object in
       cell_source slot at (subst (λ (one : Cell). NamesFrom new one slot at) (sym same) names)
 
-  -- no cell began where a slot names what is new
+  -- no cell but a filler began where a slot names what is new
   to_new_is_new : {slot at : ℕ} → IsToNew slot at → IsNewPlace old at
   to_new_is_new (IsToNew.of_store is_store new_store) = new_store.is_new
   to_new_is_new (IsToNew.of_number numbered box there of_kind place) = λ other words has stands_there.
       renames.writing.step.cells.new_places box other words there has (stands_there ∙ sym place)
 
-  -- what a cell that came or was made names was named before by one that went, or stands where none stood
+  -- what a cell that came or was made names was named before by one that went, or is new
   renamed : (owner : Cell) (slot at : ℕ) → Contains (came ∷ (beside ++ made)) owner → NamesFrom new owner slot at
       → ((one : Cell) × ((place : ℕ) × Contains (cell ∷ others) one × NamesFrom old one place at)) ⊎ IsNewPlace old at
   renamed owner slot at there names = elim (owner_source owner slot at there names) [
@@ -170,7 +171,9 @@ module _ {old new : Heap} {cell came : Cell} {others beside made : List Cell} {w
 
   -- what was named before is not new
   named_not_new : {place slot at : ℕ} → NamesFrom old cell place at → IsToNew slot at → ⊥
-  named_not_new names names_new = to_new_is_new names_new names.cell names.others names.refers.has names.at
+  named_not_new names names_new =
+      owned_is_no_filler names.cell.layout.kind names.owned
+      (to_new_is_new names_new names.cell names.others names.refers.has names.at)
 
   -- two slots with one source are one
   one_source : (slot other at : ℕ) → Source slot at → Source other at → slot ≡ other
@@ -181,10 +184,12 @@ module _ {old new : Heap} {cell came : Cell} {others beside made : List Cell} {w
       absurd (named_not_new names names_new)
   one_source slot other at (Source.fresh names_new) (Source.before place names from) =
       absurd (named_not_new names names_new)
-  one_source slot other at (Source.fresh names_new) (Source.fresh names_new') = to_one slot other at names_new names_new'
+  one_source slot other at (Source.fresh names_new) (Source.fresh names_new') =
+      to_one slot other at names_new names_new'
 
   -- so the change of cells is the object's own, where what came or was made is sound
-  pub renamed_own : ((one : Cell) → Contains (came ∷ (beside ++ made)) one → IsSoundCell new one (words_of_cell new one))
+  pub renamed_own : ((one : Cell) → Contains (came ∷ (beside ++ made)) one
+      → IsSoundCell new one (words_of_cell new one))
       → IsOwnChange old new (cell ∷ others) (came ∷ beside) made
   renamed_own sound = record {
     own = λ one there. went_own renames.writing one there;

@@ -1,11 +1,11 @@
--- Words that were put in an object's own cells, once so many words of eden were reserved.
+-- Words that were put in an object's own cells, once so many words were reserved.
 use Rattle.std.proofs.Common.{◌≡◌, ℕ, ◌+◌, ◌≤◌, ◌<◌, inl, List, [], ◌∷◌, length, Contains}
 use Rattle.std.proofs.lemmas.List.{append-nil}
 use Rattle.std.proofs.Common.{slice_get, refl, sym, ◌∙◌, ap, subst, arith, add-zero}
 use Rattle.heap_model.specs.Types.{Kind, Cell}
 use Rattle.tagged_word.specs.Cells.{length_offset}
 use Rattle.tagged_word.proofs.Members.{one_in}
-use Rattle.page_space.specs.Extents.{Space, eden_start, segments_start, layouts_start}
+use Rattle.page_space.specs.Extents.{Space, layouts_start}
 use Rattle.page_space.proofs.Starts.{roots_start_is, layouts_start_is, marks_start_is}
 use Rattle.nursery.specs.Young.{Young, HasRoom}
 use Rattle.cell_layout.specs.Cells.{IsRow}
@@ -20,10 +20,12 @@ use Rattle.object_cells.specs.Made.{PutsWords, content_need, with_content}
 use Rattle.object_cells.proofs.MadeBoxes.{BoxStands, put_box}
 use Rattle.object_cells.proofs.OwnCells.{cell_below_layouts}
 use Rattle.object_cells.proofs.WordsPut.{sizes_stay}
-use Rattle.object_cells.proofs.UnusedWords.{next_before_segments}
+use Rattle.object_cells.proofs.RunCells.{AreOfRegion, between}
+use Rattle.object_cells.proofs.TakenRuns.{taken_run, room_stays}
+use Rattle.object_cells.proofs.UnusedWords.{next_before_segments, next_run}
 
--- So many words were reserved, and then words were put: those of the cell of an object of this
--- kind, of these others, and newly used ones.
+-- So many words were reserved, and then words were put: those of the cell of an object of this kind, of these others,
+-- and what was reserved.
 pub record PutsOwn (owner : Kind) (old new : Mutator) (cell : Cell) (others : List Cell) (need : ℕ) (words : List ℕ)
     : Type 0 where
   pub tied : IsTied old
@@ -71,16 +73,11 @@ pub own_writes : {owner owned : Kind} {old new : Mutator} {cell : Cell} {others 
     → WritesOwnCells owner owned (heap_of old) (heap_of new) cell cell others made
 own_writes {old = old} {new} {need = need} made puts header beside row =
     let all = puts.puts in
-    let used : new.young.used ≡ old.young.used + need = ap (λ (y : Young). y.used) all.young in
-    let survivors : new.young.survivors ≡ old.young.survivors = ap (λ (y : Young). y.survivors) all.young in
-    let space : new.seat.space.sizes.young ≡ old.young.space.sizes.young =
-    ap (λ (s : Space). s.sizes.young) (all.beside.space ∙ sym puts.tied) in
-    let ends : next_at old + need ≡ eden_start old.seat.space + new.young.used = omega (arith, used) in
+    let space = all.beside.space in
     record {
-      same_space = all.beside.space;
-      same_survivors = survivors;
-      grown = omega (arith, used);
-      room = omega (arith, puts.room, used, survivors, space);
+      same_space = space;
+      same_survivors = ap (λ (y : Young). y.survivors) all.young;
+      room = room_stays new need puts.tied puts.whole.rows puts.room all.young space;
       more = [];
       paths = all.paths ∙ sym (append-nil old.paths);
       sized = own_sized puts;
@@ -88,10 +85,12 @@ own_writes {old = old} {new} {need = need} made puts header beside row =
       of_kind = puts.of_kind;
       becomes = Becomes.itself refl header;
       beside = beside;
-      made_stand = subst (λ end. IsRow new.seat.space (heap_words new.seat) (next_at old) end made) ends row;
+      from = next_at old;
+      to = next_at old + need;
+      run = taken_run new need puts.tied puts.room all.young space;
+      made_stand = row;
       stay = λ a below not_cell not_others not_new.
-          ap (λ every. slice_get every a) all.heap ∙ puts.stay a not_cell not_others
-          (λ from high. not_new (record { from = from; below = omega (arith, high, used) }));
+          ap (λ every. slice_get every a) all.heap ∙ puts.stay a not_cell not_others not_new;
     }
 
 -- A box among what was reserved stands there, where the words from its address on were put for it.
@@ -103,20 +102,20 @@ pub box_put : {owner : Kind} {old new : Mutator} {cell : Cell} {others : List Ce
     box
 box_put {old = old} {new} {need = need} before holds box puts long from below stands =
     let space = puts.puts.beside.space in
-    let ends = next_before_segments old need puts.tied puts.room in
+    let run = next_run old need puts.tied puts.whole.rows puts.room in
     put_box (heap_of new) before holds box
     (omega (
       arith,
       long,
       puts.whole.sized.words,
       below,
-      ends,
+      run.ends,
       roots_start_is old.seat.space,
       layouts_start_is old.seat.space,
       marks_start_is old.seat.space,
     ))
-    (omega (arith, from, ap (λ (s : Space). eden_start s) space))
-    (omega (arith, below, ends, ap (λ (s : Space). segments_start s) space)) stands
+    (subst (λ (s : Space). AreOfRegion s box (box + content_need holds)) (sym space)
+    (between box (box + content_need holds) run.region from below)) stands
 
 -- Of a cell of which the first two words stay neither the header nor the length changed; so it is of the one cell that
 -- was written.

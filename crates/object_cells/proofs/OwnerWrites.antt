@@ -126,7 +126,6 @@ module _ {owner owned : Kind} {old new : Heap} {cell came : Cell} {others made :
       record {
         same_space = writes.same_space;
         same_survivors = writes.same_survivors;
-        grown = writes.grown;
         room = writes.room;
         more = writes.more;
         paths = writes.paths;
@@ -139,6 +138,9 @@ module _ {owner owned : Kind} {old new : Heap} {cell came : Cell} {others made :
         number = is.number;
         is_cell = is.is_cell;
         beside = λ other among. owned_of_kind (writes.beside other among) owns.belongs;
+        from = writes.from;
+        to = writes.to;
+        run = writes.run;
         made_stand = writes.made_stand;
         stay = writes.stay;
       }

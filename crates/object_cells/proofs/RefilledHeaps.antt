@@ -38,13 +38,14 @@ slots_refill old new plain cell shape others made fields whole carries cap shows
 
 -- so the heap shows the graph in which it has them
 pub written_fields_show : WrittenFieldsShow
-written_fields_show old new graph plain cell shape others made fields shows there carries cap shown are added regions
+written_fields_show old new graph plain cell shape others made fields shows there carries cap shown are added takes
     writes slots remembers =
     let whole = shows.shows.whole in
     let kept = written_own_keeps_cells plain_owns whole writes in
     let gone : List Cell = cell ∷ others in
     let came : List Cell = reshaped new.paths cell shape ∷ others in
-    let rest : RestsAgain old new = rests_again gone came made shows regions writes.sized kept.0 kept.1 remembers in
+    let rest : RestsAgain old new made =
+    rests_again gone came made shows takes writes.sized kept.0 kept.1 remembers in
     let refills =
     slots_refill (heap_of old) (heap_of new) plain cell shape others made fields whole carries cap shown writes slots in
     refills_show old new graph plain fields gone came made shows there are added rest refills

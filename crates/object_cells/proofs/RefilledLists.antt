@@ -26,14 +26,15 @@ links_reached graph elements are number link =
 
 -- so the heap shows the graph in which the list has these elements
 pub written_elements_show : WrittenElementsShow
-written_elements_show old new graph list cell others made elements shows there carries shown are regions same writes
+written_elements_show old new graph list cell others made elements shows there carries shown are takes same writes
     slots remembers =
     let before : Heap = heap_of old in
     let now : Heap = heap_of new in
     let whole = shows.shows.whole in
     let kept = written_own_keeps_cells list_owns whole writes in
     let cells : List Cell = cell ∷ others in
-    let rest : RestsAgain old new = rests_again cells cells made shows regions writes.sized kept.0 kept.1 remembers in
+    let rest : RestsAgain old new made =
+    rests_again cells cells made shows takes writes.sized kept.0 kept.1 remembers in
     let replaces : ReplacesCells before now graph list.number (ListOf elements) cells cells made =
     record {
       cells = kept.1;

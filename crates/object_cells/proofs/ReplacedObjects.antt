@@ -6,7 +6,7 @@ use Rattle.std.proofs.lemmas.Bool.{false≢true}
 use Rattle.std.proofs.lemmas.Option.{none-some, same_Some}
 use Rattle.std.proofs.lemmas.List.Elements.{Contains-append_left}
 use Rattle.page_space.specs.Extents.{Space, eden_start}
-use Rattle.nursery.specs.Young.{other_half}
+use Rattle.nursery.specs.Young.{Young, other_half}
 use Rattle.heap_model.specs.Types.{Object, Path, Cell}
 use Rattle.object_graph.specs.declared.object.Object.TheVariants as graph_object
 use Rattle.object_graph.specs.Graphs.{Graph}
@@ -22,6 +22,7 @@ use Rattle.heap_model.specs.Changes.{CellsChange, IsOwnChange, IsGraphChange}
 use Rattle.heap_model.specs.Counting.{CountsEntries}
 use Rattle.heap_model.specs.Collectable.{IsCollectable, AreFreeRuns}
 use Rattle.heap_model.proofs.ShownObjects.{object_of_shown}
+use Rattle.heap_model.proofs.CellOutcomes.{cells_move, object_is_no_filler, stays_standing}
 use Rattle.heap_model.proofs.CountsStay.{HasCountOf, count_kept, count_came}
 use Rattle.heap_model.proofs.WholeStays.{own_changes_keep_whole}
 use Rattle.heap_model.proofs.ShownGraphs.{own_changes_show}
@@ -30,8 +31,9 @@ use Rattle.heap_model.proofs.FreeStays.{own_changes_keep_free}
 use Rattle.write_barrier.specs.MutatorState.{Mutator, heap_of, MainShows}
 use Rattle.write_barrier.specs.Recording.{Remembers}
 use Rattle.write_barrier.proofs.Recording.{remembers_heap}
-use Rattle.object_cells.specs.Uses.{KeepsRegions}
+use Rattle.object_cells.specs.Uses.{TakesRun}
 use Rattle.object_cells.specs.Refills.{RestsAgain}
+use Rattle.object_cells.proofs.GrantedRests.{made_avoid_free, left_avoids_free, left_are_granted}
 
 -- after one was put in the place of another, an element stood at another place, or is that one
 put_cases : {X : Type 0} (xs : List X) (place : ℕ) (put : X) (i : ℕ) (x : X) → slice_get (set xs place put) i ≡ Some x
@@ -140,7 +142,8 @@ counts_after {new = new} graph number object paths {gone} {came} {made} shows sh
         there = old.0;
         marked = reached other marked;
         stays = λ cell words has object carries.
-            replaces.cells.kept cell words has (λ went. old.1 (sym carries ∙ replaces.only cell went object));
+            stays_standing (cells_move replaces.cells) has (object_is_no_filler cell.layout.kind object)
+            (λ went. old.1 (sym carries ∙ replaces.only cell went object));
       }) there marked place
       | inr put ↦
           count_came shown there marked
@@ -151,44 +154,52 @@ counts_after {new = new} graph number object paths {gone} {came} {made} shows sh
 
 -- the mutator rests again where its change of cells is remembered
 pub rests_again : {old new : Mutator} {graph : Graph} (gone came made : List Cell) → MainShows old graph
-    → KeepsRegions old new → HasSizes (heap_of new) → HasRows (heap_of new)
-    → CellsChange (heap_of old) (heap_of new) gone came made → Remembers old new gone came → RestsAgain old new
-rests_again {old} {new} gone came made shows regions sized rows cells remembers = record {
-  regions = regions;
+    → TakesRun old new made → HasSizes (heap_of new) → HasRows (heap_of new)
+    → CellsChange (heap_of old) (heap_of new) gone came made → Remembers old new gone came made
+    → RestsAgain old new made
+rests_again {old} {new} gone came made shows takes sized rows cells remembers = record {
+  takes = takes;
   sized = sized;
   rows = rows;
   free = remembers.touches.free;
   bound = remembers.touches.bound;
-  remembered = remembers_heap old new gone came made remembers shows.bounded shows.shows.whole cells shows.remembered;
+  remembered = remembers_heap old new gone came made remembers shows.bounded shows.shows.whole rows cells
+      shows.remembered;
 }
 
 -- so the heap shows it
 pub replaced_shows : {old new : Mutator} {graph : Graph} (number : ℕ) (object : Object) (paths : List Path)
     {gone came made : List Cell} → MainShows old graph → IsGraph (replaced graph number object paths)
-    → new.paths ≡ paths → HasReachedLinks graph object → RestsAgain old new
+    → new.paths ≡ paths → HasReachedLinks graph object → RestsAgain old new made
     → ReplacesCells (heap_of old) (heap_of new) graph number object gone came made
     → MainShows new (replaced graph number object paths)
 replaced_shows {old} {new} {graph} number object paths {gone} {came} {made} shows is_graph same links rest replaces =
     let before : Heap = heap_of old in
     let now : Heap = heap_of new in
     let after : Graph = replaced graph number object paths in
+    let takes : TakesRun old new made = rest.takes in
     let whole = own_changes_keep_whole before now gone came made shows.shows.whole rest.sized rest.rows replaces.cells
     replaces.own in
     let change = graph_changes graph number object paths same links replaces in
     let shown =
     own_changes_show before now graph after gone came made shows.shows whole replaces.cells replaces.own change in
     record {
-      tied = rest.regions.of_young ∙ shows.tied ∙ sym rest.regions.space;
+      tied = record {
+        space = ap (λ (young : Young). young.space) takes.young ∙ shows.tied.space ∙ sym takes.space;
+        granted = left_are_granted takes shows.shows.whole replaces.cells replaces.own shows.tied;
+      };
       is_graph = is_graph;
-      quiet = rest.regions.phase ∙ shows.quiet;
+      quiet = takes.phase ∙ shows.quiet;
       shows = shown;
       counts = counts_after graph number object paths shows.shows shown shows.counts links replaces;
-      collectable = subst (λ (half : ℕ). IsCollectable now (other_half half)) (sym rest.regions.half)
+      collectable = subst (λ (half : ℕ). IsCollectable now (other_half half))
+          (sym (ap (λ (young : Young). young.half) takes.young))
           (own_changes_stay_collectable before now gone came made (other_half old.young.half) shows.shows.whole
           rest.rows replaces.cells replaces.own shows.collectable);
       free = subst (AreFreeRuns now) (sym rest.free)
           (own_changes_keep_free before now gone came made old.free shows.shows.whole replaces.cells replaces.own
-          shows.free);
-      bounded = rest.bound ∙ shows.bounded ∙ ap (λ (space : Space). eden_start space) (sym rest.regions.space);
+          (made_avoid_free takes shows.tied shows.apart shows.free) shows.free);
+      apart = left_avoids_free takes rest.free shows.apart;
+      bounded = rest.bound ∙ shows.bounded ∙ ap (λ (space : Space). eden_start space) (sym takes.space);
       remembered = rest.remembered;
     }

@@ -1,17 +1,14 @@
 -- What is written before the marks leaves all words from the marks on, and so the regions.
 use Rattle.std.proofs.Common.{◌≡◌, ℕ, ◌+◌, ◌-◌, ◌≤◌, ◌<◌, List, ◌++◌, length, take, drop}
 use Rattle.std.proofs.Common.{refl, sym, ◌∙◌, ap, subst, arith, length-append, length-take}
-use Rattle.std.specs.Prelude.{ℤ, slice_range, slice_set}
+use Rattle.std.specs.Prelude.{ℤ, slice_set}
 use Rattle.std.proofs.Math.Seq.{drop-append-add, drop-drop}
 use Rattle.std.proofs.lemmas.List.{length-take-le}
 use Rattle.tagged_word.specs.Headers.{header_bits}
 use Rattle.page_space.specs.Extents.{Space, marks_start}
 use Rattle.page_space.proofs.Starts.{layouts_start_is, marks_start_is}
-use Rattle.nursery.specs.Young.{Young}
 use Rattle.heap_model.specs.Types.{Held}
 use Rattle.handle_roots.specs.Roots.{root_at, first_word, second_word}
-use Rattle.word_store.specs.Copies.{copied}
-use Rattle.word_store.proofs.CopiedWords.{length-piece}
 use Rattle.heap_table.specs.Seats.{Seat, heap_words, RestStays}
 use Rattle.heap_table.specs.Staying.{rest_stays_itself, rest_stays_again}
 use Rattle.heap_table.proofs.HeapWords.{stays_beside-put}
@@ -22,25 +19,13 @@ use Rattle.object_cells.specs.Formats.{box_header}
 use Rattle.object_cells.specs.declared.content.SlotWrite.{SlotWrite}
 use Rattle.object_cells.specs.declared.content.SlotWrite.TheVariants as filling
 use Rattle.object_cells.specs.Contents.{filled, with_box, AllocatesBox, IsBeforeMarks}
-use Rattle.object_cells.specs.Uses.{KeepsRegions}
-use Rattle.object_cells.proofs.PutRanges.{copied_is}
-
--- where only words and used words have changed, the regions are kept
-pub keeps_regions : {old new : Mutator} {used : ℕ} → RestStays old.seat new.seat
-    → new.young ≡ record old.young { used = used } → KeepsRegions old new
-keeps_regions beside young = record {
-  space = beside.space;
-  phase = beside.phase;
-  of_young = ap (λ (y : Young). y.space) young;
-  half = ap (λ (y : Young). y.half) young;
-}
 
 -- where nothing has changed, all these words stay
 pub same_rest : {old new : Mutator} → new ≡ old → RestStays old.seat new.seat
 same_rest {old} same =
     subst (λ (main : Mutator). RestStays old.seat main.seat) (sym same) (rest_stays_itself old.seat)
 
--- and where words of eden were reserved
+-- and where words were reserved
 pub reserved_rest : {new : Mutator} (old : Mutator) (need : ℕ) → new ≡ reserved old need
     → RestStays old.seat new.seat
 reserved_rest old need same =
@@ -86,18 +71,6 @@ range_beside main at others counted within =
       phase = refl;
       behind = drop-with_range main.seat.table others at (marks_start space) below within;
     }
-
--- and where words are copied to one
-pub copy_beside : (main : Mutator) (from to count : ℕ)
-    → length (heap_words main.seat) ≡ marks_start main.seat.space → from + count ≤ marks_start main.seat.space
-    → to + count ≤ marks_start main.seat.space
-    → RestStays main.seat (with_table main (copied main.seat.table from to count)).seat
-copy_beside main from to count counted within room =
-    let table : List ℕ = main.seat.table in
-    let piece : List ℕ = slice_range table from (from + count) in
-    let inside : from + count ≤ length table = omega (arith, within, table_long main.seat counted) in
-    subst (λ words. RestStays main.seat (with_table main words).seat) (sym (copied_is table from to count inside))
-    (range_beside main to piece counted (omega (arith, room, length-piece table from count inside)))
 
 -- they stay where a box is made before the marks
 pub box_beside : (main : Mutator) (at : ℕ) (v : ℤ) → at + 1 < marks_start main.seat.space

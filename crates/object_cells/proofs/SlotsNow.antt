@@ -15,7 +15,7 @@ use Rattle.heap_model.specs.Wholeness.{Whole, HasSlotAt}
 use Rattle.heap_model.specs.Changes.{CellsChange}
 use Rattle.heap_model.proofs.CellsApart.{IsOfCell, one_at}
 use Rattle.heap_model.proofs.CellWords.{slice_get-drop, word_there, words_by_kind, words_are_size}
-use Rattle.heap_model.proofs.CellOutcomes.{cells_move, Fate, fate}
+use Rattle.heap_model.proofs.CellOutcomes.{cells_move, Fate, fate, object_is_no_filler, owned_is_no_filler}
 use Rattle.heap_model.proofs.OneOwner.{object_is_not_owned}
 use Rattle.heap_model.proofs.SlotWords.{IsStoreKind, store_is_owned}
 use Rattle.heap_model.proofs.WordClasses.{same_reference, undefined_refers_not}
@@ -59,7 +59,7 @@ pub beside_stands : {old new : Heap} {cell came other : Cell} {others made : Lis
     → IsTrue (is_object_kind cell.layout.kind) → CellsChange old new (cell ∷ others) (came ∷ others) made
     → HasCell old other words → IsStoreKind other.layout.kind → HasCell new other (words_of_cell new other)
 beside_stands {new = new} {cell} {came} {other} {others} {made} object cells has store =
-    elim (fate (cells_move cells) has) [
+    elim (fate (cells_move cells) has (owned_is_no_filler other.layout.kind (store_is_owned store))) [
       | Fate.has_gone there ↦ elim (in_cases cell others other there) [
         | inl same ↦ absurd (store_is_no_object same object store)
         | inr among ↦
@@ -100,7 +100,8 @@ store_now {cell = cell} {store = store} puts slot =
     let within : store_slot < cell.size = omega (arith, plain_cell_size puts.has puts.plain) in
     let of_cell : IsOfCell cell (cell.at + store_slot) = record { from = omega arith; below = omega (arith, within) } in
     word_at_offset store_slot (reshaped_stands puts) within
-    ∙ word_stays (cell.at + store_slot) puts.whole puts.one puts.has of_cell (λ same. omega (arith, same))
+    ∙ word_stays (cell.at + store_slot) puts.whole puts.one puts.has
+    (object_is_no_filler cell.layout.kind (ap is_object_kind puts.plain)) of_cell (λ same. omega (arith, same))
     puts.not_store
     ∙ word_stands store_slot store puts.has slot
 
@@ -210,11 +211,12 @@ numbered_stands {heap} {cell} k a has plain are
     beside_word_stands store j a stands refers is of_cell ∙ ap (slice_get are.beside) (sym back)
     ∙ behind_cap k cap has plain are refl (omega (arith, counts))
 
--- the address of a slot is that of a cell, and not of the object's header
+-- the address of a slot is that of a cell that is no filler, and not of the object's header
 pub record IsSlotAddress (heap : Heap) (cell : Cell) (a : ℕ) : Type 0 where
   pub one : Cell
   pub words : List ℕ
   pub has : HasCell heap one words
+  pub no_filler : one.layout.kind ≢ kind.Filler
   pub of_cell : IsOfCell one a
   pub not_header : a ≢ cell.at
 
@@ -222,12 +224,20 @@ pub record IsSlotAddress (heap : Heap) (cell : Cell) (a : ℕ) : Type 0 where
 pub numbered_address : {heap : Heap} {cell : Cell} {words : List ℕ} (k a : ℕ) → Whole heap → HasCell heap cell words
     → cell.layout.kind ≡ kind.Plain → IsNumbered heap cell words k a → IsSlotAddress heap cell a
 numbered_address {cell = cell} {words} k a whole has plain (IsNumbered.own below is of_cell) =
-    record { one = cell; words = words; has = has; of_cell = of_cell; not_header = λ same. omega (arith, same, is) }
+    record {
+      one = cell;
+      words = words;
+      has = has;
+      no_filler = object_is_no_filler cell.layout.kind (ap is_object_kind plain);
+      of_cell = of_cell;
+      not_header = λ same. omega (arith, same, is);
+    }
 numbered_address k a whole has plain (IsNumbered.beside store j other others slot refers of_kind counts is of_cell) =
     record {
       one = other;
       words = others;
       has = refers.has;
+      no_filler = owned_is_no_filler other.layout.kind (store_is_owned (inl of_kind));
       of_cell = of_cell;
       not_header = beside_not_header a whole has plain refers.has (inl of_kind) of_cell;
     }
@@ -254,6 +264,7 @@ slot_now k holds puts were are there =
       numbered = numbered;
       stands = found.stands;
       kept = λ apart. sym (numbered_stands k found.at puts.has puts.plain were numbered)
-          ∙ sym (word_stays found.at puts.whole puts.one address.has address.of_cell address.not_header apart)
+          ∙ sym (word_stays found.at puts.whole puts.one address.has address.no_filler address.of_cell
+          address.not_header apart)
           ∙ found.stands;
     }

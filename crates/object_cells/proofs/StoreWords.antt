@@ -16,9 +16,9 @@ use Rattle.object_cells.specs.FilledRuns.{run_words}
 use Rattle.object_cells.specs.Made.{begun_store}
 use Rattle.object_cells.specs.declared.content.SlotContent.{SlotContent}
 use Rattle.object_cells.proofs.NewStores.{store_cell}
-use Rattle.object_cells.proofs.PutRanges.{length-with_range, with_range_before, with_range_inside, with_range_behind}
-use Rattle.object_cells.proofs.PutRanges.{copied_is}
-use Rattle.object_cells.proofs.PutRanges.{slice_get-slice_range}
+use Rattle.write_barrier.proofs.PutRanges.{length-with_range, with_range_before, with_range_inside, with_range_behind}
+use Rattle.write_barrier.proofs.PutRanges.{copied_is}
+use Rattle.write_barrier.proofs.PutRanges.{slice_get-slice_range}
 
 -- a store of no values has its head and its slots
 pub length-empty_store : (capacity : ℕ) → length (empty_store capacity) ≡ store_head + capacity
@@ -33,14 +33,16 @@ empty_store_hole capacity k below =
     ∙ slice_get-get_or holes k 0 (omega (arith, below, length-replicate capacity hole_word))
     ∙ ap (λ n. Some n) (get_or-replicate capacity k hole_word 0 below)
 
--- The store before and the one that is made, with a box behind it, stand among the words, and have no word in common;
+-- The store before and the one that is made, with a box behind it, stand among the words, and have no word in common
+-- where the first one has slots;
 -- the object's slot for the store is a word of neither, nor is the other word that is put.
 pub record MakesStore (words : List ℕ) (object own : ℕ) (store : Store) (capacity at : ℕ) (holds : SlotContent)
     : Type 0 where
   pub more : store.capacity < capacity
   pub within : at + run_words (store_cell at capacity) holds ≤ length words
   pub other : store.at + (store_head + store.capacity) ≤ length words
-  pub apart : (store.at + (store_head + store.capacity) ≤ at) ⊎ (at + (store_head + capacity) ≤ store.at)
+  pub apart : 0 < store.capacity
+      → (store.at + (store_head + store.capacity) ≤ at) ⊎ (at + (store_head + capacity) ≤ store.at)
   pub slot : object + store_slot < length words
   pub own_in : own < length words
   pub named : at ≤ object + store_slot → object + store_slot < at + run_words (store_cell at capacity) holds → ⊥
@@ -142,7 +144,7 @@ module _ {words : List ℕ} {object own : ℕ} {store : Store} {capacity at : �
       (omega (arith, below, long))
       ∙ slice_get-slice_range (filled words capacity at) (store.at + store_head) store.capacity k below
       ∙ ap (slice_get (filled words capacity at)) from
-      ∙ filled_stays (store.at + (store_head + k)) (λ low high. elim makes.apart [
+      ∙ filled_stays (store.at + (store_head + k)) (λ low high. elim (makes.apart (omega (arith, below))) [
         | inl before ↦ omega (arith, before, low, below, makes.more)
         | inr behind ↦ omega (arith, behind, high, makes.more)
       ])

@@ -8,7 +8,6 @@ use Rattle.tagged_word.specs.Cells.{store_head, store_slot}
 use Rattle.tagged_word.specs.Readings.{reference_in}
 use Rattle.tagged_word.proofs.Readings.{reference_from}
 use Rattle.page_space.specs.Sizes.{AreWithin}
-use Rattle.page_space.specs.Extents.{eden_start}
 use Rattle.page_space.proofs.Starts.{marks_start_is}
 use Rattle.heap_model.specs.Types.{Cell}
 use Rattle.cell_layout.proofs.OneCell.{cells_have_words}
@@ -17,7 +16,9 @@ use Rattle.heap_model.specs.Slots.{reference_word, RefersTo, HoldsStore}
 use Rattle.heap_model.specs.Kinds.{HasWord}
 use Rattle.heap_model.specs.Wholeness.{Whole}
 use Rattle.heap_model.specs.Needs.{capacity_by}
+use Rattle.heap_model.proofs.CellOutcomes.{owned_is_no_filler}
 use Rattle.heap_model.proofs.CellsApart.{has_is_cell, one_at, one_words}
+use Rattle.heap_model.proofs.SlotWords.{store_is_owned}
 use Rattle.heap_model.proofs.CellWords.{words_by_kind, words_are_size}
 use Rattle.heap_model.proofs.WordClasses.{same_reference, undefined_refers_not}
 use Rattle.object_cells.specs.declared.stores.Store.{Store}
@@ -26,7 +27,6 @@ use Rattle.object_cells.proofs.CellsRead.{cell_before_marks, word_is}
 use Rattle.object_cells.proofs.KeptCapacities.{capacity_read, length_stands}
 use Rattle.heap_model.proofs.OneBeside.{one_beside}
 use Rattle.object_cells.proofs.SlotPlaces.{beside_refers}
-use Rattle.object_cells.proofs.UnusedWords.{cell_apart}
 
 -- a store stands at the address, to which the word refers, and these are its slots
 pub record IsFoundStore (heap : Heap) (word : ℕ) (beside : List ℕ) (at : ℕ) : Type 0 where
@@ -101,10 +101,14 @@ store_is {heap} object word at capacity whole there stands refers counted =
       capacity = capacity_read heap object word stands ∙ ap (capacity_by heap) refers ∙ ap (λ o. unwrap_or o 0) counted;
       small = omega (arith, bounds.1, found.size, long);
       within = omega (arith, cell_before_marks whole.sized found.refers.has, found.size, long, found.stands);
-      used = elim (cell_apart whole.rows found.refers.has) [
-        | inl before ↦ inl (omega (arith, before, found.size, long, found.stands))
-        | inr behind ↦ inr (omega (arith, behind, found.stands))
-      ];
+      used = inr (record {
+        cell = found.cell;
+        words = found.words;
+        has = found.refers.has;
+        starts = found.stands;
+        ends = omega (arith, found.size, long, found.stands);
+        no_filler = owned_is_no_filler found.cell.layout.kind (store_is_owned (inl found.of_kind));
+      });
       slots = λ other others more word_other has_other stands_other slot_other are_other.
           let same = same_store word_other there.word has_other there.has (stands_other ∙ sym there.stands) slot_other
           there.slot in
@@ -117,8 +121,8 @@ store_is {heap} object word at capacity whole there stands refers counted =
 -- where nothing is read, nothing stands beside it
 pub store_is_none : {heap : Heap} (object word : ℕ) → Whole heap
     → AreWithin heap.space.sizes heap.space.variables → HasStoreSlot heap object
-    → slice_get heap.words (object + 1) ≡ Some word
-    → reference_in word ≡ None → IsStoreAt heap object (record { at = 0; capacity = 0 })
+    → slice_get heap.words (object + 1) ≡ Some word → reference_in word ≡ None
+    → IsStoreAt heap object (record { at = 0; capacity = 0 })
 store_is_none {heap} object word whole within there stands none =
     let is = word_is 1 there.word word object there.has there.stands there.slot stands in
     let short : length there.beside ≡ 0 = elim (cases_lt 0 (length there.beside)) [
@@ -127,12 +131,11 @@ store_is_none {heap} object word whole within there stands none =
           (ap reference_in (sym is) ∙ none))
       | inr few ↦ omega arith
     ] in
-    let start = eden_start heap.space in
     record {
       capacity = capacity_read heap object word stands ∙ ap (capacity_by heap) none;
       small = omega arith;
       within = omega (arith, marks_start_is heap.space);
-      used = inl (omega (arith, within.some_page));
+      used = inl refl;
       slots = λ other others more word_other has_other stands_other slot_other are_other.
           let same = same_store word_other there.word has_other there.has (stands_other ∙ sym there.stands) slot_other
           there.slot in

@@ -1,11 +1,16 @@
--- What was touched, where cells of a heap became others: each address by what its touch owes the cells that went and
--- came.
-use Rattle.std.proofs.Common.{◌≡◌, ℕ, ◌+◌, ◌≤◌, ◌<◌, ◌⊎◌, ◌↔◌, inl, inr, List, ◌∷◌, refl, sym, ◌∙◌, ap, subst, arith}
+-- What was touched, where cells of a heap became others and cells were made: each address beside the run of these by
+-- what its touch owes the cells that went and came.
+use Rattle.std.proofs.Common.{◌≡◌, ◌≢◌, ℕ, ◌+◌, ◌≤◌, ◌<◌, ◌⊎◌, ◌↔◌, inl, inr, List, [], ◌∷◌, refl, sym, ◌∙◌, ap}
+use Rattle.std.proofs.Common.{subst, arith}
 use Rattle.std.proofs.lemmas.Bool.{cases_lt}
+use Rattle.tagged_word.specs.declared.layout.Kind.TheVariants as kind
 use Rattle.page_space.specs.Extents.{eden_start}
 use Rattle.heap_model.specs.Types.{Cell}
-use Rattle.heap_model.specs.Remembered.{IsSlotOf, IsSlotOfOne, IsInOneOf, Touch, TouchesCells}
-use Rattle.write_barrier.specs.MutatorState.{Mutator}
+use Rattle.heap_model.specs.Heaps.{Heap, HasCell}
+use Rattle.heap_model.specs.Remembered.{IsSlotOf, IsSlotOfOne, IsInOneOf, Touch, TouchesBeside, TouchesMade}
+use Rattle.heap_model.proofs.BoundHeaps.{none_in}
+use Rattle.heap_model.proofs.CellsApart.{one_at}
+use Rattle.write_barrier.specs.MutatorState.{Mutator, heap_of}
 use Rattle.write_barrier.specs.Recording.{Touches, touched, touched_one, touched_again, touched_then, Remembers}
 use Rattle.write_barrier.proofs.TouchedRanges.{touched_inside, touched_outside}
 use Rattle.write_barrier.proofs.Recording.{touch_alike}
@@ -25,33 +30,38 @@ fits_within gone came at Touch.Kept fits = inl refl
 fits_within gone came at Touch.Stored fits = inr fits.0
 fits_within gone came at Touch.Wiped fits = inr fits.0
 
--- where each address fits, and what was kept is a slot of those that came exactly where it was one of those that went,
--- only these cells were touched
-pub cells_touched : (eden : ℕ) (gone came : List Cell) (touch : ℕ → Touch)
-    → ((at : ℕ) → at < eden → FitsTouch gone came at (touch at))
-    → ((at : ℕ) → at < eden → touch at ≡ Touch.Kept → IsSlotOfOne gone at ↔ IsSlotOfOne came at)
-    → TouchesCells eden gone came touch
-cells_touched eden gone came touch fits kept = record {
-  within = λ at below. fits_within gone came at (touch at) (fits at below);
-  stored = λ at below is. (subst (FitsTouch gone came at) is (fits at below)).1;
-  wiped = λ at below is. (subst (FitsTouch gone came at) is (fits at below)).1;
+-- the address is none of those from one up to another
+abbrev pub IsBeside : (from to at : ℕ) → Type 0
+IsBeside from to at = from ≤ at → at < to → ⊥
+
+-- Where each address of pages beside the run fits, and what was kept is a slot of those that came exactly where it was
+-- one of those that went, only these cells were touched there.
+pub cells_touched : (eden from to : ℕ) (gone came : List Cell) (touch : ℕ → Touch)
+    → ((at : ℕ) → at < eden → IsBeside from to at → FitsTouch gone came at (touch at))
+    → ((at : ℕ) → at < eden → IsBeside from to at → touch at ≡ Touch.Kept → IsSlotOfOne gone at ↔ IsSlotOfOne came at)
+    → TouchesBeside eden from to gone came touch
+cells_touched eden from to gone came touch fits kept = record {
+  within = λ at below beside. fits_within gone came at (touch at) (fits at below beside);
+  stored = λ at below beside is. (subst (FitsTouch gone came at) is (fits at below beside)).1;
+  wiped = λ at below beside is. (subst (FitsTouch gone came at) is (fits at below beside)).1;
   kept = kept;
 }
 
 -- where the same cells went and came, their slots are the same
-pub same_cells_touched : (eden : ℕ) (cells : List Cell) (touch : ℕ → Touch)
-    → ((at : ℕ) → at < eden → FitsTouch cells cells at (touch at)) → TouchesCells eden cells cells touch
-same_cells_touched eden cells touch fits =
-    cells_touched eden cells cells touch fits (λ at below is. (λ slot. slot, λ slot. slot))
+pub same_cells_touched : (eden from to : ℕ) (cells : List Cell) (touch : ℕ → Touch)
+    → ((at : ℕ) → at < eden → IsBeside from to at → FitsTouch cells cells at (touch at))
+    → TouchesBeside eden from to cells cells touch
+same_cells_touched eden from to cells touch fits =
+    cells_touched eden from to cells cells touch fits (λ at below beside is. (λ slot. slot, λ slot. slot))
 
 -- where one cell became another, what was kept is to be a slot of the one exactly where it is one of the other
-pub one_cell_touched : (eden : ℕ) (cell came : Cell) (others : List Cell) (touch : ℕ → Touch)
-    → ((at : ℕ) → at < eden → FitsTouch (cell ∷ others) (came ∷ others) at (touch at))
-    → ((at : ℕ) → at < eden → touch at ≡ Touch.Kept → IsSlotOf cell at ↔ IsSlotOf came at)
-    → TouchesCells eden (cell ∷ others) (came ∷ others) touch
-one_cell_touched eden cell came others touch fits kept =
-    cells_touched eden (cell ∷ others) (came ∷ others) touch fits (λ at below is.
-    let same = kept at below is in
+pub one_cell_touched : (eden from to : ℕ) (cell came : Cell) (others : List Cell) (touch : ℕ → Touch)
+    → ((at : ℕ) → at < eden → IsBeside from to at → FitsTouch (cell ∷ others) (came ∷ others) at (touch at))
+    → ((at : ℕ) → at < eden → IsBeside from to at → touch at ≡ Touch.Kept → IsSlotOf cell at ↔ IsSlotOf came at)
+    → TouchesBeside eden from to (cell ∷ others) (came ∷ others) touch
+one_cell_touched eden from to cell came others touch fits kept =
+    cells_touched eden from to (cell ∷ others) (came ∷ others) touch fits (λ at below beside is.
+    let same = kept at below beside is in
     (one_changes cell came others same.0, one_changes came cell others same.1))
 
 -- an address in a range is touched so, and others are kept
@@ -67,10 +77,21 @@ touched_cases how from to at =
       ]
     ]
 
--- a range that begins behind all pages touches nothing of them
-pub young_touched : (how : Touch) (eden from to at : ℕ) → eden ≤ from → at < eden
-    → touched how from to at ≡ Touch.Kept
-young_touched how eden from to at young below = touched_outside how from to at (inl (omega (arith, young, below)))
+-- a range of the run touches nothing beside it
+pub kept_beside : (how : Touch) (from to a b at : ℕ) → from ≤ a → b ≤ to → IsBeside from to at
+    → touched how a b at ≡ Touch.Kept
+kept_beside how from to a b at begins ends beside = elim (touched_cases how a b at) [
+  | inl inside ↦ absurd (beside (omega (arith, begins, inside.0)) (omega (arith, ends, inside.1)))
+  | inr out ↦ out.1
+]
+
+-- and a range beside it nothing of the run
+pub kept_within : (how : Touch) (from to a b at : ℕ) → ((one : ℕ) → a ≤ one → one < b → IsBeside from to one)
+    → from ≤ at → at < to → touched how a b at ≡ Touch.Kept
+kept_within how from to a b at beside begins ends = elim (touched_cases how a b at) [
+  | inl inside ↦ absurd (beside at inside.0 inside.1 begins ends)
+  | inr out ↦ out.1
+]
 
 -- what was touched twice was kept where both kept it
 again_kept : (first next : Touch) → touched_again first next ≡ Touch.Kept
@@ -97,10 +118,9 @@ pub then_cases : (first next : ℕ → Touch) (at : ℕ)
     ⊎ ((next at ≡ Touch.Kept) × (touched_then first next at ≡ first at))
 then_cases first next at = again_cases (first at) (next at)
 
--- where the later touches keep all of the pages, the earlier ones say what became of them
-pub then_young : (eden : ℕ) (first next : ℕ → Touch) → ((at : ℕ) → at < eden → next at ≡ Touch.Kept) → (at : ℕ)
-    → at < eden → touched_then first next at ≡ first at
-then_young eden first next kept at below = ap (touched_again (first at)) (kept at below)
+-- where the later touches keep the address, the earlier ones say what became of it
+pub then_first : (first next : ℕ → Touch) (at : ℕ) → next at ≡ Touch.Kept → touched_then first next at ≡ first at
+then_first first next at kept = ap (touched_again (first at)) kept
 
 -- a touch of what was kept is that touch
 pub again_behind : (next : Touch) → touched_again Touch.Kept next ≡ next
@@ -108,23 +128,16 @@ again_behind Touch.Kept = refl
 again_behind Touch.Stored = refl
 again_behind Touch.Wiped = refl
 
--- and where the earlier ones keep them, the later ones do
-pub young_then : (eden : ℕ) (first next : ℕ → Touch) → ((at : ℕ) → at < eden → first at ≡ Touch.Kept) → (at : ℕ)
-    → at < eden → touched_then first next at ≡ next at
-young_then eden first next kept at below =
-    ap (λ (one : Touch). touched_again one (next at)) (kept at below) ∙ again_behind (next at)
+-- and where the earlier ones keep it, the later ones do
+pub then_next : (first next : ℕ → Touch) (at : ℕ) → first at ≡ Touch.Kept → touched_then first next at ≡ next at
+then_next first next at kept = ap (λ (one : Touch). touched_again one (next at)) kept ∙ again_behind (next at)
 
--- so the later ones can be left out where they touch nothing of pages
-pub touches_first : {old new : Mutator} (first next : ℕ → Touch)
-    → ((at : ℕ) → at < old.recorded.bound → next at ≡ Touch.Kept) → Touches old new (touched_then first next)
-    → Touches old new first
-touches_first {old} first next kept touches = touch_alike (then_young old.recorded.bound first next kept) touches
-
--- and so can the earlier ones
+-- so the earlier ones can be left out where they touch nothing of pages
 pub touches_next : {old new : Mutator} (first next : ℕ → Touch)
     → ((at : ℕ) → at < old.recorded.bound → first at ≡ Touch.Kept) → Touches old new (touched_then first next)
     → Touches old new next
-touches_next {old} first next kept touches = touch_alike (young_then old.recorded.bound first next kept) touches
+touches_next {old} first next kept touches =
+    touch_alike (λ at below. then_next first next at (kept at below)) touches
 
 -- what was kept fits
 pub kept_fits : (gone came : List Cell) (at : ℕ) (how : Touch) → how ≡ Touch.Kept → FitsTouch gone came at how
@@ -158,13 +171,76 @@ fits_one gone came how one at fits =
     fits_range gone came how one (one + 1) at (λ from below.
     let same : one ≡ at = omega (arith, from, below) in subst (λ k. FitsTouch gone came k how) same fits)
 
--- addresses of pages fit a range that begins behind them
-pub fits_young : (gone came : List Cell) (how : Touch) (eden from to at : ℕ) → eden ≤ from → at < eden
-    → FitsTouch gone came at (touched how from to at)
-fits_young gone came how eden from to at young below =
-    fits_range gone came how from to at (λ begins ends. absurd (omega (arith, begins, young, below)))
+-- addresses beside the run fit a range of it
+pub fits_made : (gone came : List Cell) (how : Touch) (from to a b at : ℕ) → from ≤ a → b ≤ to → IsBeside from to at
+    → FitsTouch gone came at (touched how a b at)
+fits_made gone came how from to a b at begins ends beside =
+    kept_fits gone came at (touched how a b at) (kept_beside how from to a b at begins ends beside)
+
+-- and those of the run one that is beside it
+pub fits_apart : (gone came : List Cell) (how : Touch) (from to a b at : ℕ)
+    → ((one : ℕ) → a ≤ one → one < b → IsBeside from to one) → from ≤ at → at < to
+    → FitsTouch gone came at (touched how a b at)
+fits_apart gone came how from to a b at beside begins ends =
+    kept_fits gone came at (touched how a b at) (kept_within how from to a b at beside begins ends)
+
+-- so they fit one address beside it
+pub fits_one_apart : (gone came : List Cell) (how : Touch) (from to one at : ℕ) → IsBeside from to one → from ≤ at
+    → at < to → FitsTouch gone came at (touched_one how one at)
+fits_one_apart gone came how from to one at beside begins ends =
+    fits_apart gone came how from to one (one + 1) at (λ a above below.
+    let same : one ≡ a = omega (arith, above, below) in subst (IsBeside from to) same beside) begins ends
+
+-- where no cell was made, no word of one was touched
+pub none_made : (old : Heap) (touch : ℕ → Touch) → TouchesMade old 0 0 [] touch
+none_made old touch = record {
+  fillers = λ at below above ends. absurd (omega (arith, ends));
+  covers = λ at above ends. absurd (omega (arith, ends));
+  within = λ at slot. absurd (none_in slot.cell slot.among);
+  stored = λ at below above ends is. absurd (omega (arith, ends));
+  slots = λ at below slot. absurd (none_in slot.cell slot.among);
+}
+
+-- a slot that was put stays so by a later touch that fits
+again_slot : (made : List Cell) (at : ℕ) (first next : Touch) → FitsTouch made made at next → IsSlotOfOne made at
+    → first ≡ Touch.Stored → touched_again first next ≡ Touch.Stored
+again_slot made at first Touch.Kept fits slot is = is
+again_slot made at first Touch.Stored fits slot is = refl
+again_slot made at first Touch.Wiped fits slot is = absurd (fits.1 slot)
+
+-- where the run was touched as it has to be, and then so that each of its addresses fits, it is as it has to be
+pub made_then : {old : Heap} {from to : ℕ} {made : List Cell} (touch next : ℕ → Touch)
+    → TouchesMade old from to made touch
+    → ((at : ℕ) → at < eden_start old.space → from ≤ at → at < to → FitsTouch made made at (next at))
+    → TouchesMade old from to made (touched_then touch next)
+made_then {made = made} touch next of_made fits = record {
+  fillers = of_made.fillers;
+  covers = of_made.covers;
+  within = of_made.within;
+  stored = λ at below begins ends is. elim (then_cases touch next at) [
+    | inl later ↦ (subst (FitsTouch made made at) (sym later ∙ is) (fits at below begins ends)).1
+    | inr earlier ↦ of_made.stored at below begins ends (sym earlier.1 ∙ is)
+  ];
+  slots = λ at below slot.
+      let within = of_made.within at slot in
+      again_slot made at (touch at) (next at) (fits at below within.0 within.1) slot (of_made.slots at below slot);
+}
+
+-- a cell that is no filler does not begin in the run
+pub begins_beside : {old : Heap} {from to : ℕ} {made : List Cell} {touch : ℕ → Touch} {cell : Cell} {words : List ℕ}
+    → TouchesMade old from to made touch → HasCell old cell words → cell.layout.kind ≢ kind.Filler
+    → cell.at < eden_start old.space → IsBeside from to cell.at
+begins_beside {cell = cell} of_made has no_filler below begins ends =
+    let one = of_made.fillers cell.at below begins ends in
+    let same : one.cell ≡ cell = one_at one.has has one.stands in
+    no_filler (ap (λ (c : Cell). c.layout.kind) (sym same) ∙ one.filler)
 
 -- so a change of cells is remembered
-pub remembers : {old new : Mutator} {gone came : List Cell} (touch : ℕ → Touch) → Touches old new touch
-    → TouchesCells (eden_start old.seat.space) gone came touch → Remembers old new gone came
-remembers touch touches cells = record { touch = touch; touches = touches; cells = cells }
+pub remembers : {old new : Mutator} {gone came made : List Cell} {from to : ℕ} (touch : ℕ → Touch)
+    → Touches old new touch → TouchesBeside (eden_start old.seat.space) from to gone came touch
+    → TouchesMade (heap_of old) from to made touch → Remembers old new gone came made
+remembers {from = from} {to} touch touches beside of_made = record {
+  touch = touch;
+  touches = touches;
+  cells = record { from = from; to = to; beside = beside; of_made = of_made };
+}

@@ -14,18 +14,22 @@ use Rattle.heap_model.specs.Types.{LayoutWord, Path, PathField, Cell}
 use Rattle.heap_model.specs.Heaps.{Heap, HasCell, words_of_cell}
 use Rattle.heap_model.specs.Wholeness.{Whole, HasRows}
 use Rattle.heap_model.specs.Changes.{CellsChange}
-use Rattle.heap_model.specs.Remembered.{IsSlotOf, Touch}
+use Rattle.heap_model.specs.Slots.{is_object_kind}
+use Rattle.heap_model.specs.Remembered.{IsSlotOf, Touch, TouchesMade}
+use Rattle.heap_model.proofs.CellOutcomes.{object_is_no_filler}
 use Rattle.heap_model.proofs.CellsApart.{IsOfCell, first_of_cell}
 use Rattle.heap_model.proofs.PathLayouts.{layout_is}
 use Rattle.write_barrier.specs.MutatorState.{Mutator, heap_of}
 use Rattle.write_barrier.specs.Recording.{Touches, touched_one, touched_again, touched_then, Remembers}
 use Rattle.write_barrier.proofs.Recording.{touch_alike}
+use Rattle.write_barrier.proofs.TouchedRanges.{touched_other}
 use Rattle.object_cells.specs.CellWrites.{reshaped}
 use Rattle.object_cells.specs.SlotChanges.{WritesFields}
 use Rattle.object_cells.proofs.OwnerWrites.{plain_owns, written_own_keeps_cells}
 use Rattle.object_cells.proofs.OwnPlaces.{box_size}
 use Rattle.object_cells.proofs.SlotsNow.{plain_cell_size}
-use Rattle.object_cells.proofs.TouchedCells.{FitsTouch, one_cell_touched, fits_then, fits_one, then_kept, remembers}
+use Rattle.object_cells.proofs.TouchedCells.{FitsTouch, IsBeside, one_cell_touched, fits_then, fits_one, then_kept}
+use Rattle.object_cells.proofs.TouchedCells.{kept_fits, made_then, begins_beside, remembers}
 use Rattle.object_cells.proofs.TouchedOffsets.{IsBehindHead, header_is_no_slot, object_store_slot, store_has_slot}
 use Rattle.object_cells.proofs.TouchedOffsets.{box_has_no_slots}
 use Rattle.object_cells.proofs.PathOffsets.{AreAlike, slots_alike, plain_by_path, field_has_slot, wide_is_no_slot}
@@ -171,27 +175,46 @@ object_alike {object = object} {touch} {other} alike (TouchesObject.header touch
     TouchesObject.header (touch_alike
     (λ at below. ap (λ (how : Touch). touched_again how (head at)) (alike at below)) touches)
 
--- so the change of the fields is remembered, where each address fits its touch, and fields whose slots were kept are
--- alike
+-- the object's header is none of the run, so wiping it fits there
+header_apart : {old new : Heap} {cell : Cell} {next : ℕ} {others made : List Cell} {before after : Path}
+    {from to : ℕ} {touch : ℕ → Touch} → Refields old new cell next others made before after
+    → TouchesMade old from to made touch → (at : ℕ) → at < eden_start old.space → from ≤ at → at < to
+    → FitsTouch made made at (touched_one Touch.Wiped cell.at at)
+header_apart {cell = cell} {made = made} {before = before} r of_made at below begins ends =
+    kept_fits made made at (touched_one Touch.Wiped cell.at at)
+    (touched_other Touch.Wiped cell.at at (λ same.
+    let plain = plain_by_path cell before r.was in
+    let no_filler = object_is_no_filler cell.layout.kind (ap is_object_kind plain) in
+    begins_beside of_made r.has no_filler (omega (arith, below, same)) (omega (arith, begins, same))
+    (omega (arith, ends, same))))
+
+-- So the change of the fields is remembered, where each address beside the run of the cells that were made fits its
+-- touch, fields whose slots were kept are alike, and the run was touched as it has to be.
 pub fields_remembered : {old new : Mutator} {cell : Cell} {next : ℕ} {others made : List Cell} {before after : Path}
-    (touch : ℕ → Touch) (r : Refields (heap_of old) (heap_of new) cell next others made before after)
+    {from to : ℕ} (touch : ℕ → Touch) (r : Refields (heap_of old) (heap_of new) cell next others made before after)
     → TouchesObject old new cell.at touch
-    → ((at : ℕ) → at < eden_start old.seat.space
+    → ((at : ℕ) → at < eden_start old.seat.space → IsBeside from to at
     → FitsTouch (cell ∷ others) (reshaped new.paths cell next ∷ others) at (touch at))
     → ((number : ℕ) → number < before.cap → cell.at + (plain_head + number) < eden_start old.seat.space
     → touch (cell.at + (plain_head + number)) ≡ Touch.Kept → AreAlike before after number)
-    → Remembers old new (cell ∷ others) (reshaped new.paths cell next ∷ others)
-fields_remembered {old} {new} {cell} {next} {others} touch r (TouchesObject.slots touches) fits alike =
+    → TouchesMade (heap_of old) from to made touch
+    → Remembers old new (cell ∷ others) (reshaped new.paths cell next ∷ others) made
+fields_remembered {old} {new} {cell} {next} {others} {from = from} {to} touch r (TouchesObject.slots touches) fits alike
+    of_made =
     let eden = eden_start old.seat.space in
     remembers touch touches
-    (one_cell_touched eden cell (reshaped new.paths cell next) others touch fits (fields_kept r eden touch alike))
-fields_remembered {old} {new} {cell} {next} {others} touch r (TouchesObject.header touches) fits alike =
+    (one_cell_touched eden from to cell (reshaped new.paths cell next) others touch fits
+    (λ at below beside kept. fields_kept r eden touch alike at below kept))
+    of_made
+fields_remembered {old} {new} {cell} {next} {others} {from = from} {to} touch r (TouchesObject.header touches) fits
+    alike of_made =
     let eden = eden_start old.seat.space in
     let one : Cell = reshaped new.paths cell next in
     let head = touched_one Touch.Wiped cell.at in
     let both = touched_then touch head in
     remembers both touches
-    (one_cell_touched eden cell one others both
-    (λ at below. fits_then (cell ∷ others) (one ∷ others) touch head at (fits at below)
+    (one_cell_touched eden from to cell one others both
+    (λ at below beside. fits_then (cell ∷ others) (one ∷ others) touch head at (fits at below beside)
     (fits_one (cell ∷ others) (one ∷ others) Touch.Wiped cell.at at (header_fits r)))
-    (λ at below kept. fields_kept r eden touch alike at below (then_kept touch head at kept).0))
+    (λ at below beside kept. fields_kept r eden touch alike at below (then_kept touch head at kept).0))
+    (made_then touch head of_made (header_apart r of_made))

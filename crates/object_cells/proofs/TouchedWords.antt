@@ -63,7 +63,7 @@ content_touch_at (content.Tagged word) at next same = refl
 content_touch_at (content.Raw word) at next same = refl
 content_touch_at (content.Boxed v) at next same = ap (content_touch (content.Boxed v)) (same (omega arith))
 
--- so in words that were reserved it touches those where eden's next words are
+-- so in words that were reserved it touches those where the next cell is made
 pub content_reserved : {old between new : Mutator} (holds : SlotContent) (at need : ℕ) → between ≡ reserved old need
     → (0 < content_need holds → at ≡ next_at old) → Touches between new (content_touch holds at)
     → Touches old new (content_touch holds (next_at old))

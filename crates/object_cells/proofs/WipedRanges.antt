@@ -1,19 +1,12 @@
--- How records are touched where stretches of words are put that are no slots, or given up.
-use Rattle.std.proofs.Common.{◌≡◌, ℕ, ◌+◌, ◌<◌, ◌≤◌, ◌⊎◌, inl, inr, List, length, slice_get, sym, ◌∙◌, ap, subst}
-use Rattle.std.proofs.Common.{arith}
-use Rattle.std.specs.Prelude.{slice_range}
+-- How records are touched where stretches of words are wiped one behind the other.
+use Rattle.std.proofs.Common.{◌≡◌, ℕ, ◌+◌, ◌<◌, ◌≤◌, ◌⊎◌, inl, inr, sym, ◌∙◌, ap, subst, arith}
 use Rattle.std.proofs.lemmas.Bool.{cases_lt}
 use Rattle.page_space.specs.Extents.{marks_start}
-use Rattle.word_store.specs.Copies.{copied}
-use Rattle.word_store.proofs.CopiedWords.{length-piece}
-use Rattle.heap_table.specs.Seats.{heap_words}
 use Rattle.heap_model.specs.Remembered.{Touch}
-use Rattle.write_barrier.specs.MutatorState.{Mutator, forgets, with_word, with_table}
+use Rattle.write_barrier.specs.MutatorState.{Mutator, with_word}
 use Rattle.write_barrier.specs.Recording.{Touches, touched, touched_again, touched_one, touched_then}
-use Rattle.write_barrier.specs.Values.{with_range}
-use Rattle.write_barrier.proofs.Recording.{then_touch, touch_alike, wiped_touch, word_touch}
+use Rattle.write_barrier.proofs.Recording.{then_touch, touch_alike, word_touch}
 use Rattle.write_barrier.proofs.TouchedRanges.{touched_inside, touched_outside}
-use Rattle.object_cells.proofs.PutRanges.{with_range_before, with_range_behind, copied_is}
 
 -- an address is beside a range, or one of its own
 beside_or_in : (from to at : ℕ) → ((at < from) ⊎ (to ≤ at)) ⊎ ((from ≤ at) × (at < to))
@@ -77,28 +70,3 @@ two_wiped {old} {one} {new} at first second is next within =
     (word_touch one (at + 1) second (omega (arith, within, marks))) in
     wiped_on at (at + 1) (at + 2) (omega arith) (omega arith) there
     (touch_alike (λ a below. ap (λ end. touched Touch.Wiped (at + 1) end a) (omega arith)) behind)
-
--- a stretch of words that is forgotten and then put was wiped
-pub stretch_touch : {old new : Mutator} (at count : ℕ) (table others : List ℕ)
-    → new ≡ with_table (forgets old at (at + count)) table
-    → heap_words new.seat ≡ with_range (heap_words old.seat) at others → length others ≡ count
-    → at ≤ length (heap_words old.seat) → Touches old new (touched Touch.Wiped at (at + count))
-stretch_touch {old} {new} at count table others is heap long within =
-    let words = heap_words old.seat in
-    wiped_touch old new at (at + count) (ap (λ (main : Mutator). main.free) is)
-    (ap (λ (main : Mutator). main.recorded) is)
-    (λ a below out. ap (λ all. slice_get all a) heap ∙ elim out [
-      | inl before ↦ with_range_before words others at a within before
-      | inr behind ↦ with_range_behind words others at a within (omega (arith, behind, long))
-    ])
-
--- and so is one to which others were copied
-pub copy_touch : {old new : Mutator} (from at count : ℕ) (table : List ℕ)
-    → new ≡ with_table (forgets old at (at + count)) table
-    → heap_words new.seat ≡ copied (heap_words old.seat) from at count
-    → from + count ≤ length (heap_words old.seat) → at ≤ length (heap_words old.seat)
-    → Touches old new (touched Touch.Wiped at (at + count))
-copy_touch {old} from at count table is heap inside within =
-    let words = heap_words old.seat in
-    stretch_touch at count table (slice_range words from (from + count)) is
-    (heap ∙ copied_is words from at count inside) (length-piece words from count inside) within

@@ -1,11 +1,13 @@
 -- Which kinds of cells stand beside an object, and which words name no store, table or box.
-use Rattle.std.proofs.Common.{◌≡◌, false, IsTrue, ◌⊎◌, inl, inr, ℤ, ℕ}
+use Rattle.std.proofs.Common.{◌≡◌, ◌≢◌, false, IsTrue, ◌⊎◌, inl, inr, ℤ, ℕ}
 use Rattle.std.proofs.Common.{refl, sym, ◌∙◌, ap, subst}
 use Rattle.heap_model.specs.Types.{Kind, Cell}
 use Rattle.tagged_word.specs.declared.layout.Kind.TheVariants as kind
 use Rattle.heap_model.specs.Heaps.{Heap}
 use Rattle.heap_model.specs.Slots.{is_object_kind, small_word, undefined_word, hole_word, RefersToPlace}
 use Rattle.heap_model.proofs.WordClasses.{same_reference, small_refers_not, undefined_refers_not, hole_refers_not}
+use Rattle.heap_model.specs.Wholeness.{IsOwnedKind}
+use Rattle.heap_model.proofs.CellOutcomes.{owned_is_no_filler, box_is_no_filler}
 use Rattle.heap_model.proofs.CellsApart.{one_at}
 use Rattle.heap_model.proofs.OneOwner.{object_is_not_owned}
 use Rattle.object_cells.specs.OwnSlots.{NamesNone}
@@ -23,6 +25,11 @@ box_is_no_object k (inr is) none = ap is_object_kind is
 -- so a store or a box is none
 pub beside_is_no_object : (k : Kind) → IsStoreOrBox k → is_object_kind k ≡ false
 beside_is_no_object k is = box_is_no_object k is refl
+
+-- nor a filler
+pub beside_is_no_filler : (k : Kind) → IsStoreOrBox k → k ≢ kind.Filler
+beside_is_no_filler k (inl is) filler = owned_is_no_filler k (subst IsOwnedKind (sym is) tt) filler
+beside_is_no_filler k (inr is) filler = box_is_no_filler k is filler
 
 -- a small integer names nothing
 pub small_names_none : {heap : Heap} (v : ℤ) → NamesNone heap (small_word v)

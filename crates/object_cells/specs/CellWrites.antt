@@ -1,4 +1,4 @@
--- What is written when one object changes: words of its own cells, words behind the used part of eden, and layout
+-- What is written when one object changes: words of its own cells, words of the run in which cells are made, and layout
 -- words.
 use Rattle.std.specs.Prelude.{◌≡◌, ℕ, ◌+◌, ◌<◌, ◌≤◌, ◌⊎◌, false, List, ◌∷◌, ◌++◌, Contains, Some}
 use Rattle.std.specs.Prelude.{slice_get, IsTrue}
@@ -6,14 +6,14 @@ use Rattle.heap_model.specs.Types.{Kind, Path, Cell}
 use Rattle.tagged_word.specs.declared.layout.Kind.TheVariants as kind
 use Rattle.tagged_word.specs.Headers.{header_bits}
 use Rattle.tagged_word.specs.Cells.{has_length, length_offset}
-use Rattle.page_space.specs.Extents.{eden_start, layouts_start}
+use Rattle.page_space.specs.Extents.{layouts_start}
 use Rattle.shape_tree.specs.Shapes.{IsPathShape, shape_path}
 use Rattle.shape_tree.specs.ShapeLayouts.{layout_of}
 use Rattle.cell_layout.specs.Cells.{IsRow}
 use Rattle.heap_model.specs.Heaps.{Heap, HasCell, words_of_cell}
 use Rattle.heap_model.specs.Slots.{is_object_kind}
 use Rattle.heap_model.specs.Wholeness.{Whole, HasSizes, HasRows, IsOwnedKind}
-use Rattle.heap_model.specs.Changes.{IsNewlyUsed, CellsChange}
+use Rattle.heap_model.specs.Changes.{IsRunOf, CellsChange}
 
 -- the cell with another shape in its header, and so another layout
 abbrev pub reshaped : List Path → Cell → ℕ → Cell
@@ -57,12 +57,11 @@ pub data Becomes (old new : Heap) (cell came : Cell) : Type 0 where
 
 -- Of the words before the layout words only those of the cell of an object of the kind `owner` have changed, which is
 -- the same or has another shape then, those of these cells of the kind `owned` but their headers and lengths, integers
--- of these boxes, and words that are newly used, in which cells were made; and layout words of shapes that are new.
+-- of these boxes, and words of the run in which cells were made; and layout words of shapes that are new.
 pub record WritesOwnCells (owner owned : Kind) (old new : Heap) (cell came : Cell) (others made : List Cell)
     : Type 0 where
   pub same_space : new.space ≡ old.space
   pub same_survivors : new.survivors ≡ old.survivors
-  pub grown : old.used ≤ new.used
   pub room : new.survivors + new.used ≤ new.space.sizes.young
   pub more : List Path
   pub paths : new.paths ≡ old.paths ++ more
@@ -71,9 +70,12 @@ pub record WritesOwnCells (owner owned : Kind) (old new : Heap) (cell came : Cel
   pub of_kind : cell.layout.kind ≡ owner
   pub becomes : Becomes old new cell came
   pub beside : (other : Cell) → Contains others other → IsWrittenOfKind owned old new other
-  pub made_stand : IsRow new.space new.words (eden_start old.space + old.used) (eden_start old.space + new.used) made
+  pub from : ℕ
+  pub to : ℕ
+  pub run : IsRunOf old new from to
+  pub made_stand : IsRow new.space new.words from to made
   pub stay : (at : ℕ) → at < layouts_start old.space → (IsInCell at cell → ⊥)
-      → ((other : Cell) → Contains others other → IsInCell at other → ⊥) → (IsNewlyUsed old new at → ⊥)
+      → ((other : Cell) → Contains others other → IsInCell at other → ⊥) → (from ≤ at → at < to → ⊥)
       → slice_get new.words at ≡ slice_get old.words at
 
 -- Then cells stand in rows again: what the object's became, the others as they were, those that were made, and all

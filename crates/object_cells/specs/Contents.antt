@@ -6,8 +6,8 @@ use Rattle.tagged_word.specs.Headers.{header_bits}
 use Rattle.tagged_word.specs.Readings.{reference_in}
 use Rattle.heap_model.specs.Types.{Rep, Held}
 use Rattle.object_graph.specs.declared.value.Rep.TheVariants as rep
-use Rattle.page_space.specs.Extents.{Space, eden_start, marks_start}
-use Rattle.nursery.specs.Young.{HasRoom}
+use Rattle.page_space.specs.Extents.{Space, marks_start}
+use Rattle.nursery.specs.Young.{HasRoom, next_of}
 use Rattle.handle_roots.specs.declared.held.Held.TheVariants as held
 use Rattle.heap_table.specs.Seats.{RestStays}
 use Rattle.heap_model.specs.Heaps.{Heap}
@@ -49,9 +49,9 @@ content_of own rep _ = content.Tagged (record { 0 = undefined_word })
 abbrev pub box_in : Heap → ℕ → Option ℕ
 box_in heap word = if is_box_word heap word then reference_in word else None
 
--- the address of the next word of eden that is not used
+-- the address at which the next cell is made
 abbrev pub next_at : Mutator → ℕ
-next_at main = eden_start main.seat.space + main.young.used
+next_at main = next_of main.young
 
 -- how a slot comes to hold this: a box is written where one stands, and else made at the address
 abbrev pub filling_of : Option ℕ → ℕ → SlotContent → SlotWrite

@@ -17,7 +17,7 @@ use Rattle.heap_model.specs.Showing.{ShowsValue, ShowsList}
 use Rattle.write_barrier.specs.MutatorState.{Mutator, heap_of, MainShows}
 use Rattle.write_barrier.specs.Recording.{Remembers}
 use Rattle.object_cells.specs.HeldValues.{IsReachedValue}
-use Rattle.object_cells.specs.Uses.{KeepsRegions}
+use Rattle.object_cells.specs.Uses.{TakesRun}
 use Rattle.object_cells.specs.CellWrites.{WritesOwnCells}
 use Rattle.object_cells.specs.OwnSlots.{IsNoBoxOf, Refills}
 
@@ -71,10 +71,10 @@ WrittenElementsShow =
     → MainShows old graph → slice_get graph.objects list.number ≡ Some (ListOf list.elements)
     → cell.header.object ≡ list.number
     → ShowsList (heap_of old) cell (words_of_cell (heap_of old) cell) list.elements
-    → AreNewElements graph elements → KeepsRegions old new → new.paths ≡ old.paths
+    → AreNewElements graph elements → TakesRun old new made → new.paths ≡ old.paths
     → WritesList (heap_of old) (heap_of new) cell others made
     → RefillsElements (heap_of old) (heap_of new) cell others made list.elements elements
-    → Remembers old new (cell ∷ others) (cell ∷ others)
+    → Remembers old new (cell ∷ others) (cell ∷ others) made
     → MainShows new (relist graph list elements)
 
 -- With one element more behind those that it has, for which there is room, a list that can be reached has elements that

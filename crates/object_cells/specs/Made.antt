@@ -1,10 +1,10 @@
 -- Stores and boxes that are made for an object, and the words that making them puts.
-use Rattle.std.specs.Prelude.{◌≡◌, ℕ, ◌+◌, ◌<◌, ◌≤◌, ◌⊎◌, Bool, false, not, List, length, slice_set}
+use Rattle.std.specs.Prelude.{◌≡◌, ◌≢◌, ℕ, ◌+◌, ◌<◌, ◌≤◌, ◌⊎◌, Bool, false, not, List, length, slice_set}
 use Rattle.tagged_word.specs.declared.layout.Kind.TheVariants as kind
 use Rattle.tagged_word.specs.Words.{small}
 use Rattle.tagged_word.specs.Headers.{header_bits}
 use Rattle.tagged_word.specs.Cells.{store_head, store_slot, cell_words_most}
-use Rattle.page_space.specs.Extents.{eden_start, segments_start, marks_start}
+use Rattle.page_space.specs.Extents.{marks_start}
 use Rattle.nursery.specs.Young.{HasRoom}
 use Rattle.heap_model.specs.Types.{Cell, Held}
 use Rattle.handle_roots.specs.declared.held.Held.TheVariants as held
@@ -18,7 +18,7 @@ use Rattle.heap_model.specs.Remembered.{Touch}
 use Rattle.write_barrier.specs.declared.room.NoRoom.{NoRoom}
 use Rattle.write_barrier.specs.MutatorState.{Mutator}
 use Rattle.write_barrier.specs.Values.{with_range}
-use Rattle.write_barrier.specs.Recording.{touched, untouched}
+use Rattle.write_barrier.specs.Recording.{touched, touched_then, untouched}
 use Rattle.object_cells.specs.Formats.{box_header, empty_store}
 use Rattle.object_cells.specs.declared.content.SlotContent.{SlotContent}
 use Rattle.object_cells.specs.declared.content.SlotContent.TheVariants as content
@@ -50,14 +50,22 @@ pub record HasStoreSlot (heap : Heap) (at : ℕ) : Type 0 where
   pub beside : List ℕ
   pub are : HoldsStore heap kind.Store word beside
 
+-- The words from an address up to another are those of a cell that is no filler.
+pub record IsUsedRange (heap : Heap) (from to : ℕ) : Type 0 where
+  pub cell : Cell
+  pub words : List ℕ
+  pub has : HasCell heap cell words
+  pub starts : cell.at ≡ from
+  pub ends : cell.at + cell.size ≡ to
+  pub no_filler : cell.layout.kind ≢ kind.Filler
+
 -- What stands beside the object at the address: a store of so many slots at its own address, or nothing, which is no
--- slots. It ends before the marks, and is not among the words of eden that are not used.
+-- slots. It ends before the marks.
 pub record IsStoreAt (heap : Heap) (object : ℕ) (store : Store) : Type 0 where
   pub capacity : capacity_at heap object ≡ store.capacity
   pub small : store_head + store.capacity ≤ cell_words_most
   pub within : store.at + (store_head + store.capacity) ≤ marks_start heap.space
-  pub used : (store.at + (store_head + store.capacity) ≤ eden_start heap.space + heap.used)
-      ⊎ (segments_start heap.space ≤ store.at)
+  pub used : (store.capacity ≡ 0) ⊎ IsUsedRange heap store.at (store.at + (store_head + store.capacity))
   pub slots : (cell : Cell) (words beside : List ℕ) (word : ℕ) → HasCell heap cell words → cell.at ≡ object
       → HasWord words store_slot word → HoldsStore heap kind.Store word beside → length beside ≡ store.capacity
   pub refers : (cell : Cell) (words beside : List ℕ) (word : ℕ) → HasCell heap cell words → cell.at ≡ object
@@ -99,9 +107,11 @@ slot_touch (content.Tagged word) = Touch.Stored
 slot_touch (content.Raw word) = Touch.Wiped
 slot_touch (content.Boxed v) = Touch.Stored
 
--- which addresses making a store of so many slots touches
+-- which addresses making a store of so many slots touches: its head, and its slots
 abbrev pub store_touch : ℕ → ℕ → ℕ → Touch
-store_touch capacity at = touched Touch.Wiped at (at + (store_head + capacity))
+store_touch capacity at =
+    touched_then (touched Touch.Wiped at (at + store_head))
+    (touched Touch.Stored (at + store_head) (at + (store_head + capacity)))
 
 -- the word that the slot holds, where its box stands at an address
 abbrev pub content_word : SlotContent → ℕ → ℕ

@@ -15,7 +15,7 @@ use Rattle.heap_model.specs.Showing.{ShowsPlain}
 use Rattle.heap_model.specs.Changes.{CellsChange, IsOwnChange}
 use Rattle.heap_model.specs.Remembered.{AreRemembered}
 use Rattle.write_barrier.specs.MutatorState.{Mutator, heap_of, MainShows}
-use Rattle.object_cells.specs.Uses.{KeepsRegions}
+use Rattle.object_cells.specs.Uses.{TakesRun}
 use Rattle.object_cells.specs.PlainObjects.{LacksFields, ShowsRefilled}
 use Rattle.object_cells.specs.HeldValues.{IsReachedValue}
 
@@ -38,9 +38,10 @@ pub record RefillsCells (old new : Heap) (plain : PlainObject) (fields : List Fi
   pub carries : cell.header.object ≡ plain.number
   pub shows : ShowsPlain new cell (words_of_cell new cell) plain.cap fields
 
--- the mutator rests again: its regions are kept, its words are those of a heap, and what is recorded is right
-pub record RestsAgain (old new : Mutator) : Type 0 where
-  pub regions : KeepsRegions old new
+-- The mutator rests again: the cells that were made stand in words that were taken for them, its words are those of a
+-- heap, and what is recorded is right.
+pub record RestsAgain (old new : Mutator) (made : List Cell) : Type 0 where
+  pub takes : TakesRun old new made
   pub sized : HasSizes (heap_of new)
   pub rows : HasRows (heap_of new)
   pub free : new.free ≡ old.free
@@ -55,7 +56,7 @@ RefillsShow =
     → MainShows old graph → slice_get graph.objects plain.number ≡ Some (Plain plain.cap plain.fields)
     → AreNewFields graph fields
     → with_path (Some paths_most) graph.paths (path_of plain.cap fields) ≡ Some new.paths
-    → RestsAgain old new → RefillsCells (heap_of old) (heap_of new) plain fields gone came made
+    → RestsAgain old new made → RefillsCells (heap_of old) (heap_of new) plain fields gone came made
     → ShowsRefilled new graph plain fields
 
 -- With one field written, for which there is room, an object that can be reached has fields that it may have.

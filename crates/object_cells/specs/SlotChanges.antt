@@ -16,7 +16,7 @@ use Rattle.heap_model.specs.Wholeness.{Whole}
 use Rattle.heap_model.specs.Showing.{ShowsField, ShowsPlain}
 use Rattle.write_barrier.specs.MutatorState.{Mutator, heap_of, MainShows}
 use Rattle.write_barrier.specs.Recording.{Remembers}
-use Rattle.object_cells.specs.Uses.{KeepsRegions}
+use Rattle.object_cells.specs.Uses.{TakesRun}
 use Rattle.object_cells.specs.CellWrites.{reshaped, WritesOwnCells}
 use Rattle.object_cells.specs.OwnSlots.{IsNoBoxOf, Refills}
 use Rattle.object_cells.specs.PlainObjects.{ShowsRefilled}
@@ -87,8 +87,8 @@ WrittenFieldsShow =
     → ShowsPlain (heap_of old) cell (words_of_cell (heap_of old) cell) plain.cap plain.fields
     → AreNewFields graph fields
     → with_path (Some paths_most) graph.paths (path_of plain.cap fields) ≡ Some new.paths
-    → KeepsRegions old new
+    → TakesRun old new made
     → WritesFields (heap_of old) (heap_of new) cell shape others made
     → RefillsSlots (heap_of old) (heap_of new) cell shape others made plain.fields fields
-    → Remembers old new (cell ∷ others) (reshaped new.paths cell shape ∷ others)
+    → Remembers old new (cell ∷ others) (reshaped new.paths cell shape ∷ others) made
     → ShowsRefilled new graph plain fields

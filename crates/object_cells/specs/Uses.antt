@@ -1,13 +1,16 @@
--- How many words more of eden are used, and what stays beside the words.
-use Rattle.std.specs.Prelude.{◌≡◌, ℕ, ◌+◌}
+-- How many words were taken from where cells are made, and what stays beside the words.
+use Rattle.std.specs.Prelude.{◌≡◌, ℕ, ◌+◌, ◌≤◌, List, Contains}
+use Rattle.nursery.specs.Young.{HasRoom, bumped}
 use Rattle.heap_table.specs.Seats.{RestStays}
+use Rattle.heap_model.specs.Types.{Cell}
 use Rattle.write_barrier.specs.MutatorState.{Mutator}
+use Rattle.object_cells.specs.Contents.{next_at}
 
--- so many words of eden more are used; the regions, the phase, the marks, the board and the free runs of pages are the
--- same
+-- so many words were taken from where cells are made; the regions, the phase, the marks, the board and the free runs of
+-- pages are the same
 pub record UsesMore (old new : Mutator) (need : ℕ) : Type 0 where
   pub beside : RestStays old.seat new.seat
-  pub young : new.young ≡ record old.young { used = old.young.used + need }
+  pub young : new.young ≡ bumped old.young need
   pub free : new.free ≡ old.free
 
 -- the regions and the phase are the same, and the survivors are in the same half
@@ -16,3 +19,13 @@ pub record KeepsRegions (old new : Mutator) : Type 0 where
   pub phase : new.seat.phase ≡ old.seat.phase
   pub of_young : new.young.space ≡ old.young.space
   pub half : new.young.half ≡ old.young.half
+
+-- So many words were taken from where cells are made, in which these cells stand; the regions and the phase are the
+-- same.
+pub record TakesRun (old new : Mutator) (made : List Cell) : Type 0 where
+  pub space : new.seat.space ≡ old.seat.space
+  pub phase : new.seat.phase ≡ old.seat.phase
+  pub need : ℕ
+  pub room : HasRoom old.young need
+  pub young : new.young ≡ bumped old.young need
+  pub within : (cell : Cell) → Contains made cell → (next_at old ≤ cell.at) × (cell.at + cell.size ≤ next_at old + need)

@@ -45,7 +45,8 @@ pub fn store_of(main: &Main, object: u32) -> Store
     }
 }
 
-/// So many words of eden that were not used; where none are asked for, any address.
+/// So many words that were not used, of eden or of what is granted; where none are asked for, any
+/// address.
 ///
 /// # Errors
 /// There is no room for them; nothing has changed.

@@ -7,8 +7,9 @@ use std::test::Fail;
 /// nothing where no heap is kept. A list has 3 words, its stores 2 and their slots: 4, twice as many whenever one is
 /// full, and 1,000 in the end. A weak map has 3, its tables 2 and two for each pair: 4, and twice as many whenever
 /// twice the entries are more. A box has 2. A scavenge comes where the words that are wanted are not there, and leaves
-/// those of what lives, but for what was there at the scavenge before: that goes to pages. All goes there where a
-/// scavenge leaves no room. Rows that begin with 512 objects of 4 words fill the only page with them.
+/// those of what lives, but for what was there at the scavenge before: that goes to pages. Where it leaves no room the
+/// words are granted of a page, and neither used words nor survivors come of it. All goes to pages where no run of one
+/// has the words. Rows that begin with 512 objects of 4 words fill the only page with them.
 const COUNTS: &str = "\
 run |  | 0 0 0 | 0 0
 run | new x 2; set x a 5; get y x a; print y | 4 0 0 | 4 0
@@ -22,30 +23,30 @@ run | gc |
 run x | print 5 | 
 run | scavenge | 1 0 0 | 0 0
 run | repeat 6000; new x 8; end | 12001 0 0 | 2730 10
-run | let p undefined; repeat 6000; new x 8; set x n p; let p x; end | 24002 0 0 | 2670 0
+run | let p undefined; repeat 6000; new x 8; set x n p; let p x; end | 24002 0 0 | 2600 0
 run --pages 1 | let p undefined; repeat 6000; new x 8; set x n p; let p x; end | 4094 3 10 | 0 8190
 run --young 64 | repeat 100; new x 2; end | 201 0 0 | 36 4
-run --young 64 | let p undefined; repeat 100; new x 2; set x n p; let p x; end | 402 0 0 | 16 0
+run --young 64 | let p undefined; repeat 100; new x 2; set x n p; let p x; end | 402 0 0 | 60 0
 run --pages 1 --young 64 | let p undefined; repeat 600; new x 2; set x n p; let p x; end | 2114 3 4 | 0 64
 run --young 64 | new x 1; set x a x; repeat 100; set x a 1; set x a 5000000000; end | 303 0 0 | 16 0
 run --young 64 | new x 1; set x a x; repeat 100; set x a 5000000000; end | 203 0 0 | 5 0
-run --young 64 | list l; repeat 100; push l 1; end | 66 3 66 | 0 0
+run --young 64 | list l; repeat 100; push l 1; end | 202 0 0 | 0 0
 run --pages 1 --young 64 | let o 0; repeat 512; new t 2; set t n o; let o t; end; scavenge; scavenge; \
 list l; repeat 100; push l 1; end | 2118 11 66 | 0 37
-run --young 64 | list l; repeat 100; push l 5000000000; end | 66 3 68 | 0 0
+run --young 64 | list l; repeat 100; push l 5000000000; end | 202 0 0 | 4 2
 run --pages 1 --young 64 | let o 0; repeat 512; new t 2; set t n o; let o t; end; scavenge; scavenge; \
 list l; repeat 100; push l 5000000000; end | 2086 11 36 | 0 53
 run --young 64 | list l; push l 1; repeat 100; put l 0 5000000000; put l 0 1; end | 303 0 0 | 28 0
-run --young 64 | list l; repeat 5; new x 8; push l x; end; new z 2; push l 5000000000 | 19 0 0 | 16 0
+run --young 64 | list l; repeat 5; new x 8; push l x; end; new z 2; push l 5000000000 | 19 0 0 | 2 4
 run --pages 1 --young 64 | let o 0; repeat 512; new t 2; set t n o; let o t; end; scavenge; scavenge; \
 list l; repeat 5; new x 8; push l x; end; new z 2; push l 5000000000 | 2067 12 10 | 0 59
 run --young 1519 | list l; repeat 1001; push l 7; end | 2002 3 0 | 1002 517
-run --young 1518 | list l; repeat 1001; push l 7; end | 2002 3 0 | 1002 0
+run --young 1518 | list l; repeat 1001; push l 7; end | 2002 3 0 | 0 517
 run --pages 1 --young 1518 | let o 0; repeat 512; new t 2; set t n o; let o t; end; scavenge; scavenge; \
 list l; repeat 1001; push l 7; end | 3078 11 1002 | 0 517
 run --young 64 | list l; push l 1; repeat 100; push l 2; trunc l 1; end | 303 0 0 | 6 3
 run --young 64 | list l; repeat 4; push l 1; end; repeat 100; shift l 1; push l 1; end | 311 0 0 | 56 5
-run --young 64 | weak m; repeat 100; new k 0; wput m k 1; end | 27 4 66 | 0 0
+run --young 64 | weak m; repeat 100; new k 0; wput m k 1; end | 302 0 0 | 6 32
 run --pages 1 --young 64 | let o 0; repeat 512; new t 2; set t n o; let o t; end; scavenge; scavenge; \
 weak m; repeat 100; new k 0; wput m k 1; end | 2067 12 34 | 0 31
 run --young 64 | weak m; new k 0; wput m k 1; repeat 100; wput m k 5000000000; wput m k 1; end | 304 0 0 | 40 0
@@ -55,7 +56,14 @@ run --pages 1 --young 64 | let o 0; repeat 512; new t 2; set t n o; let o t; end
 new x 0; scavenge; new y 0; scavenge; drop x; scavenge; new z 0 | 2059 0 0 | 2 2
 run --pages 1 --young 64 | new x 0; scavenge | 2 0 0 | 0 2
 run --pages 1 --young 64 | new x 0; scavenge; scavenge | 3 0 0 | 0 0
-run --pages 1 --young 64 | new x 0; scavenge; scavenge; new y 0; set x a y; drop y; scavenge | 7 0 0 | 0 8";
+run --pages 1 --young 64 | new x 0; scavenge; scavenge; new y 0; set x a y; drop y; scavenge | 7 0 0 | 0 8
+run --pages 1 --young 64 | new a 8; new b 8; new c 8; new d 8; new e 8; new f 8; new g 2; new x 8 | 8 0 0 | 0 64
+run --pages 1 --young 64 | new a 8; new b 8; new c 8; new d 8; new e 8; new f 8; new g 2; new x 8; new y 0 | \
+9 0 0 | 2 0
+run --pages 1 --young 64 | list l; new u 1; let o 0; repeat 494; new t 2; set t n o; let o t; end; scavenge; scavenge; \
+repeat 65; push l 7; end | 2111 12 130 | 0 0
+run --pages 1 --young 64 | list l; new u 2; let o 0; repeat 494; new t 2; set t n o; let o t; end; scavenge; scavenge; \
+repeat 65; push l 7; end | 2047 12 66 | 0 0";
 
 #[test]
 fn a_kept_heap_counts_executed_lines(rt: HostRuntime) -> Result<(), Fail> {

@@ -54,7 +54,8 @@ fn each_cell_has_the_words_of_its_description(rt: HostRuntime) -> Result<(), Fai
 /// the size of the gap that is left. Half 1 begins at 2,176, and the roots at 2,240. The objects of variables are
 /// copied first, then what recorded slots refer to, in their order, and then what the slots of the copy refer to that
 /// was made last of those not looked at. What lives over a second scavenge is in the page. A raw integer stays, though
-/// it has the bits of the reference to the place where its object stood, or where a reference was recorded.
+/// it has the bits of the reference to the place where its object stood, or where a reference was recorded. What eden
+/// has no room for is made in the first words of the page.
 const SCAVENGED: &str = "\
 new x 0; scavenge | 8705 | 64 34 3 0 | 30 2048
 new x 0; scavenge; scavenge | 1 | 0 0 | 34 3 30 2046
@@ -79,7 +80,11 @@ weak m; scavenge; scavenge; new k 0; wput m k m; scavenge | 1 | \
 weak m; wput m m 1; scavenge; scavenge; new k 0; wput m k 2; drop k; scavenge | 1 | \
 64 4294967330 3 0 | 10 13 2 18 4 1 2 8705 4 7 7 7 7 30 2035
 weak m; wput m m 1; scavenge; scavenge; new k 0; wput m k 2; drop k; scavenge; scavenge | 1 | \
-0 0 | 10 13 2 18 4 1 2 53 4 7 7 7 7 4294967330 3 30 2033";
+0 0 | 10 13 2 18 4 1 2 53 4 7 7 7 7 4294967330 3 30 2033
+list l; repeat 33; push l 1; end | 1 | 0 14 32 2 2 | 6 13 33 14 64 2 2 2 2 2 2 2 2 2 2 2 2 2 2 2 2 2 2 2 2 2 2 2 2 2 2 \
+2 2 2 2 2 2 2 7 7 7 7 7 7 7 7 7 7 7 7 7 7 7 7 7 7 7 7 7 7 7 7 7 7 7 7 7 7 7 30 1979
+new a 8; new b 8; new c 8; new d 8; new e 8; new f 8; new g 1; new x 1; new y 0; set x a y; drop y; scavenge | 13 | \
+64 34359738402 3 0 | 30064771142 3 8705 66 3 7 7 7 7 7 7 7 7 4294967362 3 7";
 
 #[test]
 fn a_scavenge_leaves_the_words_of_what_lives(rt: HostRuntime) -> Result<(), Fail> {

@@ -44,7 +44,7 @@ free_of {main} {left} {size} {run} stand takes counted =
     }
 
 -- what is recorded of each address of a page once a range was wiped
-wiped_range : {old new : Mutator} (from to at : ℕ) → Touches old new (touched Touch.Wiped from to)
+pub wiped_range : {old new : Mutator} (from to at : ℕ) → Touches old new (touched Touch.Wiped from to)
     → at < old.recorded.bound
     → Contains new.recorded.slots at ↔ (Contains old.recorded.slots at × ((from ≤ at) × (at < to) → ⊥))
 wiped_range {old} {new} from to at touches below =

@@ -145,6 +145,7 @@ module _ {start mid new : Mutator} {all : Bool} {progress : Progress} {todo : Li
         copied = state.copied;
         placed = subst (λ (rows : List (List Run)). IsPlaced (start_of start) state.fixed rows state.homes all
             progress.refused) (sym free) state.placed;
+        counted = state.counted;
         kept = subst (λ (now : List ℕ). AreKept (start_of start) state.fixed now state.homes new.recorded.slots)
             (sym stored_words)
             (kept_slot state.begun state.filled.copying slot place home stood there judges state.kept);

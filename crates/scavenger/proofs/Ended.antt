@@ -6,7 +6,7 @@ use Rattle.object_graph.specs.Graphs.{Graph}
 use Rattle.page_space.specs.Extents.{eden_start, roots_start}
 use Rattle.cell_layout.proofs.OneCell.{cells_have_words}
 use Rattle.nursery.specs.Young.{Young, IsYoung, other_half}
-use Rattle.free_runs.specs.FreeRuns.{longest_of}
+use Rattle.free_runs.specs.FreeRuns.{AreFree, longest_of}
 use Rattle.free_runs.specs.Laws.{IsFreeWord}
 use Rattle.free_runs.proofs.Takes.{longest_tells}
 use Rattle.heap_table.specs.Seats.{heap_words}
@@ -28,9 +28,11 @@ use Rattle.write_barrier.specs.MutatorState.{Mutator, heap_of, MainShows}
 use Rattle.scav_copy.specs.declared.places.Home.{Home}
 use Rattle.scav_copy.specs.Places.{Fixed, size_of}
 use Rattle.scavenger.specs.Starts.{IsRootAt, start_of}
-use Rattle.scavenger.specs.Walking.{IsToPromote}
+use Rattle.scavenger.specs.declared.progress.Progress.{Progress}
+use Rattle.scavenger.specs.declared.scavenging.Scavenged.{Scavenged}
+use Rattle.scavenger.specs.Walking.{IsToPromote, AreCounted, IsFirstInVain}
 use Rattle.scavenger.specs.Laws.{IsEnded, EndsAreScavenges}
-use Rattle.scavenger.specs.Scavenged.{Scavenges, place_after}
+use Rattle.scavenger.specs.Scavenged.{Scavenges, Tells, place_after}
 use Rattle.scavenger.proofs.PagesRuns.{word_of_run}
 use Rattle.scavenger.proofs.EndWords.{ended, outside_same}
 use Rattle.scavenger.proofs.EndCopies.{renaming, young_of, copy_size}
@@ -42,7 +44,7 @@ use Rattle.scavenger.proofs.EndedHeap.{left_tiles}
 use Rattle.scavenger.proofs.EndedHeap.{left_few}
 
 -- where entries were counted, they are in the moved heap
-counts_stay : {old new : Heap} {to : ℕ → Option ℕ} {graph : Graph} → Shows old graph → IsMoved old new to
+pub counts_stay : {old new : Heap} {to : ℕ → Option ℕ} {graph : Graph} → Shows old graph → IsMoved old new to
     → CountsEntries old graph → CountsEntries new graph
 counts_stay {old} {new} {to} shows moved counts number at entries there marked place =
     let before = place_before moved place in
@@ -84,9 +86,9 @@ module _ {old new : Mutator} {all : Bool} {fixed : Fixed} {homes : List Home} {w
         | inr enough ↦ inr (longest_below home there enough)
       ]
 
-  -- it is a scavenge
-  scavenged : Scavenges old new all
-  scavenged =
+  -- it is a scavenge, where the runs that are left are apart
+  scavenged : AreFree new.free → Scavenges old new all
+  scavenged apart =
       let ending = ending_is young is in
       record {
         fixed = fixed;
@@ -107,6 +109,7 @@ module _ {old new : Mutator} {all : Bool} {fixed : Fixed} {homes : List Home} {w
         promotes = promotes;
         stays = is.placed.promoted;
         left = is.filled.left;
+        apart = apart;
       }
 
   -- the heap that is left may be collected
@@ -127,19 +130,27 @@ module _ {old new : Mutator} {all : Bool} {fixed : Fixed} {homes : List Home} {w
       subst (λ heap. AreRemembered heap new.recorded.slots) (sym (left_is young is))
       (end_is_remembered (ending_is young is) new.recorded.slots is.kept)
 
+  -- nothing is granted in it
+  none_granted : 0 < new.young.granted.words → ⊥
+  none_granted some = omega (arith, some, ap (λ (one : Young). one.granted.words) is.young)
+
   -- the heap that is left shows the graph
   still_shows : (graph : Graph) → MainShows old graph → MainShows new graph
   still_shows graph shows =
       let to = place_after (start_of old) homes in
       let moved = left_is_moved young is in
       record {
-        tied = ap (λ (one : Young). one.space) is.young ∙ shows.tied ∙ sym is.seat.space;
+        tied = record {
+          space = ap (λ (one : Young). one.space) is.young ∙ shows.tied.space ∙ sym is.seat.space;
+          granted = λ some. absurd (none_granted some);
+        };
         is_graph = shows.is_graph;
         quiet = is.seat.phase ∙ shows.quiet;
         shows = moves_show (heap_of old) (heap_of new) to graph (shows_for (Stays to) shows.shows) moved;
         counts = counts_stay shows.shows moved shows.counts;
         collectable = left_is_collectable;
         free = left_is_free;
+        apart = λ row one there among from below. none_granted (omega (arith, from, below));
         bounded = is.bound ∙ shows.bounded ∙ ap eden_start (sym is.seat.space);
         remembered = left_is_remembered;
       }
@@ -148,8 +159,21 @@ module _ {old new : Mutator} {all : Bool} {fixed : Fixed} {homes : List Home} {w
 pub ends_are_scavenges : EndsAreScavenges
 ends_are_scavenges old new graph all fixed homes words fill refused shows young free is =
     let to = place_after (start_of old) homes in (
-      scavenged young is,
+      scavenged young is free,
       still_shows young is graph shows,
       λ rooms. moves_keep_rooms (heap_of old) (heap_of new) to graph rooms (shows_for (Stays to) shows.shows)
           (left_is_moved young is),
     )
+
+-- and it tells what was to be promoted and stays young, where that was counted
+pub ends_tell : (old new : Mutator) (all : Bool) (fixed : Fixed) (homes : List Home) (words : List ℕ)
+    (fill refused : ℕ) (progress : Progress) (told : Scavenged) → IsYoung old.young → AreFree new.free
+    → IsEnded old new all fixed homes words fill refused → AreCounted old.seat.space all fixed homes progress
+    → told.stayed ≡ progress.stayed → told.first_need ≡ progress.first_need → Tells old new all told
+unfolding scavenged
+ends_tell old new all fixed homes words fill refused progress told young free is counted stayed first =
+    record {
+      scavenges = scavenged young is free;
+      stayed = stayed ∙ counted.stayed;
+      first_need = subst (IsFirstInVain old.seat.space all fixed homes) (sym first) counted.first;
+    }

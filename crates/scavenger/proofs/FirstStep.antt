@@ -1,5 +1,5 @@
 -- A scavenge begins: nothing is copied, and all slots outside are to do.
-use Rattle.std.proofs.Common.{◌≡◌, ℕ, ◌+◌, inl, inr, Bool, List, [], refl, subst, arith}
+use Rattle.std.proofs.Common.{◌≡◌, ℕ, ◌+◌, inl, inr, Bool, List, [], None, refl, subst, arith}
 use Rattle.page_space.specs.Sizes.{page_words}
 use Rattle.page_space.specs.Extents.{roots_start}
 use Rattle.page_space.specs.RegionLaws.{IsSpace}
@@ -16,7 +16,7 @@ use Rattle.scav_copy.proofs.Spots.{none_in}
 use Rattle.scavenger.specs.declared.progress.Progress.{Progress}
 use Rattle.scavenger.specs.Starts.{Start, IsBegun, room_start}
 use Rattle.scavenger.specs.Filling.{Tiles, IsFilled, IsToDo}
-use Rattle.scavenger.specs.Walking.{IsPlaced, AreKept, MayBegin, Scavenging, at_root}
+use Rattle.scavenger.specs.Walking.{IsPlaced, IsFirstInVain, AreKept, MayBegin, Scavenging, at_root}
 use Rattle.scavenger.proofs.CodeChanges.{changes_nothing}
 use Rattle.scavenger.proofs.FirstPages.{first_pages}
 use Rattle.scavenger.proofs.Started.{shown_heaps_may_begin}
@@ -27,6 +27,8 @@ first_progress main = record {
   fill = room_start main.seat.space (other_half main.young.half);
   copied = 0;
   refused = page_words + 1;
+  stayed = 0;
+  first_need = None;
 }
 
 module _ {start : Start} {fixed : Fixed} (begun : IsBegun start fixed) where
@@ -92,6 +94,11 @@ first_step main all quiet may = record {
   filled = first_filled may.begun;
   copied = refl;
   placed = first_placed may.begun all;
+  counted = record {
+    stayed = refl;
+    few = omega arith;
+    first = IsFirstInVain.none_stays (λ home there. absurd (none_in home there));
+  };
   kept = first_kept may.begun;
   listed = λ at there. absurd (none_in at there);
   few = omega arith;

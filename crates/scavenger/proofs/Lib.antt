@@ -39,6 +39,7 @@ pub mod KeptSpots
 pub mod KeptCopies
 pub mod KeptSlots
 pub mod PlacedCopies
+pub mod CountedCopies
 pub mod KeptMoves
 pub mod CodeMoves
 pub mod CodeStores
@@ -70,3 +71,11 @@ pub mod Ended
 pub mod LoopEnds
 pub mod LoopStages
 pub mod Tight
+pub mod TakenWords
+pub mod GrantedWords
+pub mod GrantedCells
+pub mod GrantedMoves
+pub mod GrantedRuns
+pub mod GrantedRecords
+pub mod Granted
+pub mod CodeGrants

@@ -222,6 +222,7 @@ takes_copy {start} {now} {all} {progress} {todo} {end} {eden} rest at cell state
         filled = state.filled;
         copied = state.copied;
         placed = state.placed;
+        counted = state.counted;
         kept = state.kept;
         listed = λ other there.
             state.listed other

@@ -17,7 +17,7 @@ use Rattle.scavenger.specs.declared.progress.Progress.{Progress}
 use Rattle.scavenger.specs.Starts.{room_start, start_of}
 use Rattle.scavenger.specs.Filling.{Front, IsToDo, IsFilled, AllAreDone, ChangesWords, IsEmptied}
 use Rattle.scavenger.specs.Laws.{IsEnded}
-use Rattle.scavenger.specs.Walking.{AreSpaces, AreKept, IsPlaced, room_end, Scavenging, at_copy}
+use Rattle.scavenger.specs.Walking.{AreSpaces, AreCounted, AreKept, IsPlaced, room_end, Scavenging, at_copy}
 use Rattle.scavenger.proofs.FollowTiles.{fill_above}
 use Rattle.scavenger.proofs.CodeChanges.{changes_again}
 use Rattle.scavenger.proofs.LoopGoing.{fill_in_room, root_or_before}
@@ -85,13 +85,14 @@ ends_scavenging {start} {now} {emptied} {new} {all} {progress} limits state is_e
     })
 
 -- What a scavenge comes to at its end, in words of its own.
-pub record HasEnded (old new : Mutator) (all : Bool) : Type 0 where
+pub record HasEnded (old new : Mutator) (all : Bool) (progress : Progress) : Type 0 where
   pub fixed : Fixed
   pub homes : List Home
   pub words : List ℕ
   pub fill : ℕ
   pub refused : ℕ
   pub ended : IsEnded old new all fixed homes words fill refused
+  pub counted : AreCounted old.seat.space all fixed homes progress
 
 -- the last two steps end it, as the code computes their numbers
 pub has_ended : (start now emptied : Mutator) (spaces : Spaces) (all : Bool) (progress : Progress) (half : ℕ)
@@ -101,7 +102,7 @@ pub has_ended : (start now emptied : Mutator) (spaces : Spaces) (all : Bool) (pr
     → IsEmptied now.seat.space half progress.fill spaces.room_end (heap_words now.seat) (heap_words emptied.seat)
     → ChangesWords now emptied → emptied.free ≡ now.free → emptied.recorded ≡ now.recorded
     → nursery ≡ emptied.young → young ≡ turned nursery (progress.fill - spaces.room)
-    → HasEnded start (record emptied { young = young }) all
+    → HasEnded start (record emptied { young = young }) all progress
 has_ended start now emptied spaces all progress half nursery young limits are is_half state is_emptied changes free
     recorded lent turns =
     let fill : ℕ = progress.fill in
@@ -122,6 +123,7 @@ has_ended start now emptied spaces all progress half nursery young limits are is
       refused = progress.refused;
       ended = ends_scavenging limits state of_room changes free recorded
           (ap (λ (one : Young). record emptied { young = one }) turned_by);
+      counted = state.counted;
     }
 
 -- the copies of the segment have no more words than the young generation

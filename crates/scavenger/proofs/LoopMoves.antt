@@ -63,8 +63,8 @@ cell_found {now} {all} {progress} {todo} {at} word found move read none known =
 pub copied_stays : {old mid : Mutator} {all : Bool} {at size : ℕ} {before : Progress} (after : Progress) (to : ℕ)
     → Places old mid all at size before after to → after.copied ≡ before.copied
 copied_stays _ _ (Places.stays same not_to) = refl
-copied_stays _ _ (Places.passes same many) = refl
-copied_stays _ _ (Places.refuses same less none) = refl
+copied_stays _ _ (Places.passes same promote many) = refl
+copied_stays _ _ (Places.refuses same promote less none) = refl
 copied_stays _ _ (Places.promotes run free promote takes is_free taken) = refl
 
 -- the young generation is before the marks

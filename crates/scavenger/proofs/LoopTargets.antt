@@ -237,8 +237,8 @@ module _ {start now : Mutator} {all : Bool} {progress : Progress} {todo : List �
           → MayBeCopied mid cell to
       may_be_copied (Places.stays same not_to) =
           subst (λ (main : Mutator). MayBeCopied main cell progress.fill) (sym same) copied_behind
-      may_be_copied (Places.passes same many) =
+      may_be_copied (Places.passes same promote many) =
           subst (λ (main : Mutator). MayBeCopied main cell progress.fill) (sym same) copied_behind
-      may_be_copied (Places.refuses same less none) =
+      may_be_copied (Places.refuses same promote less none) =
           subst (λ (main : Mutator). MayBeCopied main cell progress.fill) (sym same) copied_behind
       may_be_copied (Places.promotes run free promote takes is_free taken) = copied_in_run run free takes is_free taken

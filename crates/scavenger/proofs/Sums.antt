@@ -103,26 +103,29 @@ few_homes measure (cell ∷ cells) (home ∷ homes) ascend homes_ascend are =
           omega (arith, all, rest)
     ]
 
--- with one home more the sum is greater by the measure of its cell
-pub one_home_more : (measure : ℕ → ℕ) (homes : List Home) (new : Home)
-    → sum_of_homes measure (with_home homes new) ≡ sum_of_homes measure homes + measure new.from
-one_home_more measure [] new =
-    let parts : sum_of_homes measure (new ∷ []) ≡ measure new.from + 0 =
-    sum_by-cons (λ (one : Home). measure one.from) new [] in
+-- with one home more a sum over homes is greater by its part
+pub joined_sum : (of : Home → ℕ) (homes : List Home) (new : Home)
+    → sum_by of (with_home homes new) ≡ sum_by of homes + of new
+joined_sum of [] new =
+    let parts : sum_by of (new ∷ []) ≡ of new + 0 = sum_by-cons of new [] in
     omega (arith, parts)
-one_home_more measure (home ∷ homes) new =
-    let of : Home → ℕ = λ one. measure one.from in
-    let parts : sum_by of (home ∷ homes) ≡ measure home.from + sum_by of homes = sum_by-cons of home homes in
-    by_place (λ all. sum_of_homes measure all ≡ sum_of_homes measure (home ∷ homes) + measure new.from) home homes new
+joined_sum of (home ∷ homes) new =
+    let parts : sum_by of (home ∷ homes) ≡ of home + sum_by of homes = sum_by-cons of home homes in
+    by_place (λ all. sum_by of all ≡ sum_by of (home ∷ homes) + of new) home homes new
     (λ less.
-    let first : sum_by of (new ∷ (home ∷ homes)) ≡ measure new.from + sum_by of (home ∷ homes) =
+    let first : sum_by of (new ∷ (home ∷ homes)) ≡ of new + sum_by of (home ∷ homes) =
     sum_by-cons of new (home ∷ homes) in
     omega (arith, first))
     (λ more.
-    let first : sum_by of (home ∷ with_home homes new) ≡ measure home.from + sum_by of (with_home homes new) =
+    let first : sum_by of (home ∷ with_home homes new) ≡ of home + sum_by of (with_home homes new) =
     sum_by-cons of home (with_home homes new) in
-    let rest : sum_by of (with_home homes new) ≡ sum_by of homes + measure new.from = one_home_more measure homes new in
+    let rest : sum_by of (with_home homes new) ≡ sum_by of homes + of new = joined_sum of homes new in
     omega (arith, first, parts, rest))
+
+-- with one home more the sum is greater by the measure of its cell
+pub one_home_more : (measure : ℕ → ℕ) (homes : List Home) (new : Home)
+    → sum_of_homes measure (with_home homes new) ≡ sum_of_homes measure homes + measure new.from
+one_home_more measure homes new = joined_sum (λ one. measure one.from) homes new
 
 -- the homes are of cells that are to be copied
 pub homes_are : {start : Start} {fixed : Fixed} {words : List ℕ} {rows : List (List Run)} {homes : List Home} {fill : ℕ}

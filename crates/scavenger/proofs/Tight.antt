@@ -1,5 +1,5 @@
 -- After a scavenge the heap is tight, and what came to pages is reached: what was reached in the old heap is reached in
--- the new one, where it came.
+-- the new one, where it came, from variables and from slots of cells of pages that stood there before.
 use Rattle.std.proofs.Common.{◌≡◌, ℕ, ◌+◌, ◌<◌, ◌≤◌, inl, inr, List, Contains, Option, Some, None, IsTrue}
 use Rattle.std.proofs.Common.{slice_get, get_or, refl, sym, ◌∙◌, ap, subst, arith}
 use Rattle.std.proofs.lemmas.Option.{same_Some, slice_get-get_or}
@@ -21,10 +21,11 @@ use Rattle.heap_model.specs.Kinds.{HasWord}
 use Rattle.heap_model.specs.Wholeness.{HasSizes}
 use Rattle.heap_model.specs.Collectable.{AreFreeRuns}
 use Rattle.heap_model.specs.Remembered.{AreRemembered}
-use Rattle.heap_model.specs.Reaching.{IsReached, IsTight, IsOldOrReached, FillsPages}
+use Rattle.heap_model.specs.Reaching.{IsReachedFrom, IsTight, IsOldOrReached, FillsPages}
 use Rattle.heap_model.proofs.BoundHeaps.{none_in}
 use Rattle.heap_model.proofs.CellsApart.{has_is_cell, one_at}
 use Rattle.heap_model.proofs.CellWords.{word_there}
+use Rattle.heap_model.proofs.ReachedFrom.{still_reached}
 use Rattle.heap_moves.specs.Moved.{IsMovedWord, moved_to, IsMoved, IsFrom}
 use Rattle.heap_moves.proofs.MovedWords.{referred}
 use Rattle.scav_copy.specs.declared.places.Home.{Home}
@@ -58,7 +59,7 @@ leads_on at now moved is stays =
 
 module _ {start : Start} {fixed : Fixed} (begins : Begins start fixed) where
   -- a slot that was read of a cell is one of the cell's
-  own_slot : {cell : Cell} {body : List ℕ} (offset : ℕ) → HasCell start.heap cell body
+  pub own_slot : {cell : Cell} {body : List ℕ} (offset : ℕ) → HasCell start.heap cell body
       → Contains (offsets_of fixed cell.at) offset → Contains (scavenge_offsets cell.layout cell.length) offset
   unfolding cell_before
   own_slot {cell} offset has slot =
@@ -71,14 +72,14 @@ module _ {start : Start} {fixed : Fixed} (begins : Begins start fixed) where
       slot_by_reading fixed.before fixed.layouts cell.at is_cell.end _ (reading_of cell) offset refl reads slot
 
   -- a word that refers to an address is the reference to it
-  refers_by : (place at : ℕ) → RefersToAddress fixed.before place at
+  pub refers_by : (place at : ℕ) → RefersToAddress fixed.before place at
       → get_or start.heap.words place 0 ≡ reference_word at
   refers_by place at refers =
       ap (λ words. get_or words place 0) (sym begins.before)
       ∙ (reference_from (get_or fixed.before place 0) at refers).1
 
   -- so is a word of a cell
-  word_refers : {cell : Cell} {body : List ℕ} (offset at word : ℕ) → HasCell start.heap cell body
+  pub word_refers : {cell : Cell} {body : List ℕ} (offset at word : ℕ) → HasCell start.heap cell body
       → HasWord body offset word → RefersToAddress fixed.before (cell.at + offset) at → word ≡ reference_word at
   word_refers {cell} offset at word has there refers =
       sym (word_reads offset word has there) ∙ refers_by (cell.at + offset) at refers
@@ -109,7 +110,7 @@ module _ {start : Start} {new : Heap} {fixed : Fixed} {homes : List Home} {words
 
   -- a variable that held the reference to a cell holds the one to where that came
   variable_reaches : (slot at now : ℕ) → Contains fixed.slots slot → IsRootAt start.heap.space slot
-      → RefersToAddress fixed.before slot at → place_after start homes at ≡ Some now → IsReached new now
+      → RefersToAddress fixed.before slot at → place_after start homes at ≡ Some now → IsReachedFrom start.heap new now
   variable_reaches slot at now among root refers stays =
       let place : ℕ = root_at start.heap.space root.variable in
       let few : place < marks_start start.heap.space =
@@ -123,7 +124,7 @@ module _ {start : Start} {new : Heap} {fixed : Fixed} {homes : List Home} {words
       let refers_now = leads_on at now ((moved.roots root.variable root.known).first _ _ there there_too) was stays in
       let holds : slice_get new.words place ≡ Some (reference_word now) =
       there_too ∙ ap (λ n. Some n) refers_now in
-      IsReached.by_variable root.variable now
+      IsReachedFrom.by_variable root.variable now
       (subst (λ (space : Space). root.variable < space.variables) (sym moved.space) root.known)
       (subst (λ space. slice_get new.words (root_at space root.variable) ≡ Some (reference_word now)) (sym moved.space)
       holds)
@@ -163,7 +164,7 @@ module _ {start : Start} {new : Heap} {fixed : Fixed} {homes : List Home} {words
 
   -- a recorded slot refers to where that came to which it referred
   recorded_reaches : (slot at now : ℕ) → Contains start.recorded slot → RefersToAddress fixed.before slot at
-      → place_after start homes at ≡ Some now → IsReached new now
+      → place_after start homes at ≡ Some now → IsReachedFrom start.heap new now
   recorded_reaches slot at now recorded refers stays =
       let found = ((remembered slot).0 recorded).0 in
       let cell : Cell = found.cell in
@@ -173,9 +174,11 @@ module _ {start : Start} {new : Heap} {fixed : Fixed} {homes : List Home} {words
       let within = (slots_lie_within start.heap.space start.heap.words cell offset is_cell own).within in
       let leads = slot_leads cell.at offset at now found.has (slotted_stays offset found.has found.of_page own) own
       (subst (λ n. RefersToAddress fixed.before n at) (sym found.slot.stands) refers) stays in
-      IsReached.by_page slot now record {
+      IsReachedFrom.by_page slot now record {
         cell = moved_to cell cell.at;
-        words = leads.others;
+        words = found.words;
+        had = found.has;
+        others = leads.others;
         has = leads.has;
         of_page = subst (λ space. cell.at < eden_start space) (sym moved.space) found.of_page;
         slot = record { offset = offset; visited = own; stands = found.slot.stands };
@@ -184,7 +187,7 @@ module _ {start : Start} {new : Heap} {fixed : Fixed} {homes : List Home} {words
 
   -- so does each slot outside
   outside_reaches : (slot at now : ℕ) → Contains fixed.slots slot → RefersToAddress fixed.before slot at
-      → place_after start homes at ≡ Some now → IsReached new now
+      → place_after start homes at ≡ Some now → IsReachedFrom start.heap new now
   outside_reaches slot at now among refers stays =
       elim ((begins.slots slot).0 among) [
         | inl root ↦ variable_reaches slot at now among root refers stays
@@ -192,19 +195,20 @@ module _ {start : Start} {new : Heap} {fixed : Fixed} {homes : List Home} {words
       ]
 
   -- so what a slot of a cell refers to is reached where it came
-  slot_reaches : (host offset at now : ℕ) (comes : Comes host) → IsReached new comes.now
+  slot_reaches : (host offset at now : ℕ) (comes : Comes host) → IsReachedFrom start.heap new comes.now
       → Contains (offsets_of fixed host) offset → RefersToAddress fixed.before (host + offset) at
-      → place_after start homes at ≡ Some now → IsReached new now
+      → place_after start homes at ≡ Some now → IsReachedFrom start.heap new now
   slot_reaches host offset at now comes reached slot refers stays =
       let is = comes.is in
       let own = own_slot begins offset is.has
       (subst (λ n. Contains (offsets_of fixed n) offset) (sym is.stands) slot) in
       let leads = slot_leads comes.now offset at now is.has (ap (place_after start homes) is.stands ∙ comes.stays) own
       (subst (λ n. RefersToAddress fixed.before (n + offset) at) (sym is.stands) refers) stays in
-      IsReached.by_slot (moved_to is.cell comes.now) leads.others offset now reached leads.has own leads.holds
+      IsReachedFrom.by_slot (moved_to is.cell comes.now) leads.others offset now reached leads.has own leads.holds
 
   -- what was reached is reached where it came
-  reaches : (at now : ℕ) → IsReachable fixed at → place_after start homes at ≡ Some now → IsReached new now
+  reaches : (at now : ℕ) → IsReachable fixed at → place_after start homes at ≡ Some now
+      → IsReachedFrom start.heap new now
   reaches _ now (IsReachable.by_slot slot cell among refers is) stays =
       outside_reaches slot cell now among refers stays
   reaches _ now (IsReachable.by_cell host offset cell from slot refers is) stays =
@@ -212,7 +216,7 @@ module _ {start : Start} {new : Heap} {fixed : Fixed} {homes : List Home} {words
       slot_reaches host offset cell now comes (reaches host comes.now from comes.stays) slot refers stays
 
   -- a home copy is reached
-  home_reached : (home : Home) → Contains homes home → IsReached new home.to
+  home_reached : (home : Home) → Contains homes home → IsReachedFrom start.heap new home.to
   home_reached home there =
       let reached = (renaming.survivors home.from).0 (home, there, refl) in
       let is : IsYoungCell start.heap home.from = (begins.cells home.from).0 (reached_is fixed home.from reached) in
@@ -225,7 +229,7 @@ module _ {start : Start} {new : Heap} {fixed : Fixed} {homes : List Home} {words
   new_is_tight alone cell others has above =
       let same = ap eden_start moved.space in
       let found = alone cell others has (omega (arith, same, above)) in
-      subst (IsReached new) found.2 (home_reached found.0 found.1)
+      still_reached cell.at (subst (IsReachedFrom start.heap new) found.2 (home_reached found.0 found.1))
 
   -- a cell that stayed at its address stood there as it stands
   stood_there : {was cell : Cell} {body others : List ℕ} → HasCell start.heap was body → HasCell new cell others
@@ -241,7 +245,7 @@ module _ {start : Start} {new : Heap} {fixed : Fixed} {homes : List Home} {words
       → IsOldOrReached start.heap new cell
   old_or_reached had has stays (StaysAt.in_page below none same) = stood_there had has stays same
   old_or_reached had has stays (StaysAt.at_home young is) =
-      IsOldOrReached.reached (subst (IsReached new) is.to (home_reached is.home is.among))
+      IsOldOrReached.reached (subst (IsReachedFrom start.heap new) is.to (home_reached is.home is.among))
 
   -- and any other is free
   filled_from : {cell : Cell} {others : List ℕ} → HasCell new cell others
@@ -260,7 +264,7 @@ scavenges_are_tight old new graph all shows scavenged =
     new_is_tight shows.shows.whole.sized shows.free shows.remembered scavenged.begins scavenged.renaming scavenged.moved
     scavenged.alone
 
--- and brings nothing to pages but free cells and what is reached
+-- and brings nothing to pages but free cells and what is reached so
 pub scavenges_fill_pages : ScavengesFillPages
 scavenges_fill_pages old new graph all shows scavenged =
     fills_pages shows.shows.whole.sized shows.free shows.remembered scavenged.begins scavenged.renaming scavenged.moved

@@ -1,19 +1,24 @@
--- What a scavenge leaves of the graph that the heap shows, and of the rooms of its objects; and what it begins with.
-use Rattle.std.specs.Prelude.{◌≡◌, ℕ, ◌-◌, ◌↔◌, Bool, List}
+-- What a scavenge leaves of the graph that the heap shows, of the rooms of its objects and of free runs; and what it
+-- begins with.
+use Rattle.std.specs.Prelude.{◌≡◌, ℕ, ◌+◌, ◌-◌, ◌<◌, ◌≤◌, ◌↔◌, ◌⊎◌, Bool, List, Option, Some}
 use Rattle.object_graph.specs.Graphs.{Graph}
 use Rattle.page_space.specs.Extents.{eden_start}
 use Rattle.page_space.specs.RegionLaws.{IsSpace}
 use Rattle.nursery.specs.Young.{IsYoung, turned}
 use Rattle.free_runs.specs.FreeRuns.{AreFree}
+use Rattle.free_runs.specs.Laws.{IsFreeWord}
 use Rattle.heap_table.specs.Seats.{RestStays, heap_words}
-use Rattle.heap_model.specs.Reaching.{IsTight, FillsPages}
+use Rattle.heap_model.specs.Types.{Cell, Run}
+use Rattle.heap_model.specs.Heaps.{Heap, HasCell}
+use Rattle.heap_model.specs.Reaching.{IsReached, IsTight, FillsPages}
 use Rattle.heap_model.specs.Rooms.{Room, HasRooms}
+use Rattle.heap_moves.specs.Moved.{IsMoved, moved_to}
 use Rattle.write_barrier.specs.MutatorState.{Mutator, heap_of, MainShows}
 use Rattle.scav_copy.specs.declared.places.Home.{Home}
 use Rattle.scav_copy.specs.Places.{Fixed}
 use Rattle.scavenger.specs.Starts.{IsBegun, start_of, room_start}
 use Rattle.scavenger.specs.Filling.{IsFilled, AllAreDone, IsEmptied}
-use Rattle.scavenger.specs.Walking.{AreKept, IsPlaced, room_end}
+use Rattle.scavenger.specs.Walking.{AreKept, IsPlaced, IsToPromote, room_end}
 use Rattle.scavenger.specs.Scavenged.{Scavenges}
 
 -- Each graph that the heap showed it shows, and its objects have the rooms that they had, so each command needs as many
@@ -61,8 +66,39 @@ ScavengesAreTight =
     (old new : Mutator) (graph : Graph) (all : Bool) → MainShows old graph → Scavenges old new all
     → IsTight (heap_of new)
 
--- And nothing came to pages but free cells and what is reached.
+-- And nothing came to pages but free cells and what is reached from variables and from what stood in pages before.
 abbrev pub ScavengesFillPages : Type 0
 ScavengesFillPages =
     (old new : Mutator) (graph : Graph) (all : Bool) → MainShows old graph → Scavenges old new all
     → FillsPages (heap_of old) (heap_of new)
+
+-- The address is a word of a cell that was promoted: it stood in the young generation of the old heap, was reached
+-- there and was to be promoted, and stands in a page of the new heap, where it came.
+pub record IsOfPromoted (old new : Heap) (all : Bool) (to : ℕ → Option ℕ) (at : ℕ) : Type 0 where
+  pub cell : Cell
+  pub words : List ℕ
+  pub had : HasCell old cell words
+  pub young : eden_start old.space ≤ cell.at
+  pub reached : IsReached old cell.at
+  pub to_promote : IsToPromote old.space all cell.at
+  pub now : ℕ
+  pub came : to cell.at ≡ Some now
+  pub others : List ℕ
+  pub has : HasCell new (moved_to cell now) others
+  pub of_page : now < eden_start new.space
+  pub from : now ≤ at
+  pub below : at < now + cell.size
+
+-- One heap is another one moved, and words of free runs were taken for cells that were promoted alone: each word that
+-- was in a free run is in one, or is a word of such a cell. No word came to a free run.
+pub record TakesWords (old new : Heap) (all : Bool) (rows left : List (List Run)) : Type 0 where
+  pub to : ℕ → Option ℕ
+  pub moved : IsMoved old new to
+  pub taken : (at : ℕ) → IsFreeWord rows at → IsFreeWord left at ⊎ IsOfPromoted old new all to at
+  pub no_other : (at : ℕ) → IsFreeWord left at → IsFreeWord rows at
+
+-- So a scavenge of a heap that shows a graph throws no word of a free run away.
+abbrev pub ScavengesTakeWords : Type 0
+ScavengesTakeWords =
+    (old new : Mutator) (graph : Graph) (all : Bool) → MainShows old graph → Scavenges old new all
+    → TakesWords (heap_of old) (heap_of new) all old.free new.free

@@ -4,4 +4,5 @@ pub mod Following
 pub mod Paging
 pub mod Scavenged
 pub mod Laws
+pub mod Granting
 pub mod Walking

@@ -3,7 +3,7 @@ use Rattle.std.specs.Prelude.{◌≡◌, ℕ, ◌+◌, ◌<◌, ◌≤◌, ◌�
 use Rattle.std.specs.Prelude.{sum_by, slice_get, nat_lt, ◌==◌, if◌then◌else◌}
 use Rattle.page_space.specs.Extents.{eden_start, roots_start}
 use Rattle.nursery.specs.Young.{turned}
-use Rattle.free_runs.specs.FreeRuns.{longest_of}
+use Rattle.free_runs.specs.FreeRuns.{AreFree, longest_of}
 use Rattle.free_runs.specs.Laws.{IsFreeWord}
 use Rattle.heap_table.specs.Seats.{RestStays, heap_words}
 use Rattle.heap_model.specs.Types.{Cell, Run}
@@ -16,7 +16,8 @@ use Rattle.scav_copy.specs.Renamings.{Renaming}
 use Rattle.scav_copy.specs.Copies.{AreHoused}
 use Rattle.scavenger.specs.Starts.{Start, Begins, IsRootAt, start_of, room_start}
 use Rattle.scavenger.specs.Filling.{Tiles, IsInPromoted}
-use Rattle.scavenger.specs.Walking.{IsToPromote}
+use Rattle.scavenger.specs.Walking.{IsToPromote, words_in_vain, IsFirstInVain}
+use Rattle.scavenger.specs.declared.scavenging.Scavenged.{Scavenged}
 
 -- the home of the cell at an address, if it has one
 abbrev pub home_of : List Home → ℕ → Option ℕ
@@ -49,8 +50,8 @@ words_of_homes fixed homes = sum_by (λ home. size_of fixed home.from) homes
 -- recorded slots through slots of such cells, have homes: they stand there, and all that referred to them refers to
 -- that. Those that stay young fill the main side's segment of the half that was empty, from its start on; they are the
 -- survivors, and eden is empty. A survivor, or any where all are promoted, has its home in a page, unless it is longer
--- than each free run that is left; no other has. Each word that was in a free run is in one, or in such a copy. Else
--- nothing changed in pages, in second root words and in layout words.
+-- than each free run that is left; no other has. Each word that was in a free run is in one, or in such a copy, and the
+-- runs that are left neither overlap nor touch. Else nothing changed in pages, in second root words and in layout words.
 pub record Scavenges (old new : Mutator) (all : Bool) : Type 0 where
   pub fixed : Fixed
   pub homes : List Home
@@ -78,3 +79,11 @@ pub record Scavenges (old new : Mutator) (all : Bool) : Type 0 where
       → IsToPromote old.seat.space all home.from
   pub left : (at : ℕ) → IsFreeWord old.free at
       ↔ (IsFreeWord new.free at ⊎ IsInPromoted (start_of old) fixed homes at)
+  pub apart : AreFree new.free
+
+-- What is told of a scavenge: how many words the cells have that were to be promoted and stay young, and how many the
+-- first of them has, by where they stand now, if there is one.
+pub record Tells (old new : Mutator) (all : Bool) (told : Scavenged) : Type 0 where
+  pub scavenges : Scavenges old new all
+  pub stayed : told.stayed ≡ words_in_vain old.seat.space all scavenges.fixed scavenges.homes
+  pub first_need : IsFirstInVain old.seat.space all scavenges.fixed scavenges.homes told.first_need

@@ -1,6 +1,7 @@
 -- How a scavenge goes on: what is known before and behind each of its steps.
-use Rattle.std.specs.Prelude.{◌≡◌, ℕ, ◌+◌, ◌-◌, ◌<◌, ◌≤◌, ◌↔◌, ◌⊎◌, Bool, true, List, length, Contains, sum_by}
-use Rattle.std.specs.Prelude.{Some, slice_get}
+use Rattle.std.specs.Prelude.{◌≡◌, ℕ, ◌+◌, ◌-◌, ◌<◌, ◌≤◌, ◌↔◌, ◌⊎◌, Bool, true, false, List, length, Contains, sum_by}
+use Rattle.std.specs.Prelude.{Option, Some, None, slice_get, nat_lt, not, ◌&&◌, ◌||◌, if◌then◌else◌}
+use Rattle.std.specs.Option.{option_or}
 use Rattle.tagged_word.specs.Cells.{scavenge_offsets}
 use Rattle.page_space.specs.Sizes.{page_words}
 use Rattle.page_space.specs.Extents.{Space, eden_start, segments_start, marks_start}
@@ -52,6 +53,42 @@ pub record IsPlaced (start : Start) (fixed : Fixed) (rows : List (List Run)) (ho
       → (home.to < eden_start start.heap.space) ⊎ (refused ≤ size_of fixed home.from)
   pub none_fits : (n : ℕ) → 1 ≤ n → refused ≤ n → n ≤ page_words → FitsNowhere rows n
 
+-- whether the cell of a home was to be promoted, and stays young
+abbrev pub is_in_vain : Space → Bool → Home → Bool
+is_in_vain space all home =
+    (all || not (nat_lt home.from (segments_start space))) && not (nat_lt home.to (eden_start space))
+
+-- how many words these cells have
+abbrev pub words_in_vain : Space → Bool → Fixed → List Home → ℕ
+words_in_vain space all fixed homes =
+    sum_by (λ home. if is_in_vain space all home then size_of fixed home.from else 0) homes
+
+-- How many the first of them has, by where they stand; nothing where there is none.
+pub data IsFirstInVain (space : Space) (all : Bool) (fixed : Fixed) (homes : List Home) : Option ℕ → Type 0 where
+  none_stays : ((home : Home) → Contains homes home → is_in_vain space all home ≡ false)
+      → IsFirstInVain space all fixed homes None
+  first_is : (home : Home) → Contains homes home → is_in_vain space all home ≡ true
+      → ((other : Home) → Contains homes other → is_in_vain space all other ≡ true → home.to ≤ other.to)
+      → IsFirstInVain space all fixed homes (Some (size_of fixed home.from))
+
+-- both were counted
+pub record AreCounted (space : Space) (all : Bool) (fixed : Fixed) (homes : List Home) (progress : Progress)
+    : Type 0 where
+  pub stayed : progress.stayed ≡ words_in_vain space all fixed homes
+  pub few : progress.stayed ≤ progress.copied
+  pub first : IsFirstInVain space all fixed homes progress.first_need
+
+-- a copy goes to the segment; and one that was to be promoted does
+abbrev pub stays_young : Progress → ℕ → Progress
+stays_young progress size = record progress { fill = progress.fill + size }
+
+abbrev pub stays_in_vain : Progress → ℕ → Progress
+stays_in_vain progress size = record progress {
+  fill = progress.fill + size;
+  stayed = progress.stayed + size;
+  first_need = option_or progress.first_need (Some size);
+}
+
 -- the address is that of a slot of a home copy in a page
 pub record IsPromotedSlot (start : Start) (fixed : Fixed) (homes : List Home) (at : ℕ) : Type 0 where
   pub home : Home
@@ -96,6 +133,7 @@ pub record Scavenging (start now : Mutator) (all : Bool) (progress : Progress) (
   pub filled : IsFilled (start_of start) fixed (heap_words now.seat) now.free homes progress.fill
   pub copied : progress.copied ≡ sum_by (λ home. size_of fixed home.from) homes
   pub placed : IsPlaced (start_of start) fixed now.free homes all progress.refused
+  pub counted : AreCounted start.seat.space all fixed homes progress
   pub kept : AreKept (start_of start) fixed (heap_words now.seat) homes now.recorded.slots
   pub listed : (at : ℕ) → Contains todo at → (home : Home) × Contains homes home × (home.to ≡ at)
   pub few : length todo ≤ progress.copied
@@ -161,11 +199,11 @@ pub record TakesRun (old new : Mutator) (size : ℕ) (run : Run) (free : Cell) :
 -- which is kept. Or to a free run, and what is left of that is one free cell.
 pub data Places (old new : Mutator) (all : Bool) (at size : ℕ) (before : Progress) : Progress → ℕ → Type 0 where
   stays : new ≡ old → (IsToPromote old.seat.space all at → ⊥)
-      → Places old new all at size before (record before { fill = before.fill + size }) before.fill
-  passes : new ≡ old → before.refused ≤ size
-      → Places old new all at size before (record before { fill = before.fill + size }) before.fill
-  refuses : new ≡ old → size < before.refused → FitsNowhere old.free size
-      → Places old new all at size before (record before { fill = before.fill + size; refused = size }) before.fill
+      → Places old new all at size before (stays_young before size) before.fill
+  passes : new ≡ old → IsToPromote old.seat.space all at → before.refused ≤ size
+      → Places old new all at size before (stays_in_vain before size) before.fill
+  refuses : new ≡ old → IsToPromote old.seat.space all at → size < before.refused → FitsNowhere old.free size
+      → Places old new all at size before (stays_in_vain (record before { refused = size }) size) before.fill
   promotes : (run : Run) (free : Cell) → IsToPromote old.seat.space all at → TakesFront old.free new.free size run
       → IsFreeAt old.seat.space (heap_words old.seat) free run.at → TakesRun old new size run free
       → Places old new all at size before before run.at

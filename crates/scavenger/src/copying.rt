@@ -26,7 +26,7 @@ use tagged_word::Word;
 use write_barrier::Main;
 
 /// So many words of a page, if a free run has them. What is left of the run is made one free cell.
-fn take_run(main: &mut Main, size: u32) -> Option<u32>
+pub(crate) fn take_run(main: &mut Main, size: u32) -> Option<u32>
     requires quiet { main.old.seat.phase ≡ Quiet }
     requires some { 1 ≤ size }
     requires few { size ≤ page_words }
@@ -52,18 +52,22 @@ fn place_for(main: &mut Main, spaces: &Spaces, progress: &mut Progress, at: u32,
     requires few { size ≤ page_words }
     requires free { StandFree main.old }
     requires within { progress.old.fill + size < 2 ^ 32 }
+    requires few_stayed { progress.old.stayed + size < 2 ^ 32 }
     ensures { (all : Bool) → AreSpaces main.old.seat.space main.old.young.half all spaces.now →
         Places main.old main.new all at size progress.old progress.new result }
 {
-    if spaces.are_promoted(at) && size < progress.refused {
+    if !spaces.are_promoted(at) {
+        let to = progress.fill;
+        progress.fill += size;
+        return to;
+    }
+    if size < progress.refused {
         if let Some(to) = take_run(main, size) {
             return to;
         }
         progress.refused = size;
     }
-    let to = progress.fill;
-    progress.fill += size;
-    to
+    progress.stays_in_vain(size)
 }
 
 /// Copies the words of a cell to an address, and makes its header the reference to the copy.
@@ -76,7 +80,7 @@ fn copy_cell(main: &mut Main, cell: &Cell, to: u32)
 {
     // There is a word for each address before the marks.
     main.addresses_fit();
-    main.copy_slots(cell.at, to, cell.size);
+    main.copy_words(cell.at, to, cell.size);
     main.write(cell.at, Word::reference(to).0);
 }
 

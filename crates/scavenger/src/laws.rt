@@ -2,14 +2,17 @@
 //! is followed.
 ghost use Rattle.scavenger.specs.Following.{SlotsHaveTargets, CopyingGoesOn, RenamingGoesOn};
 ghost use Rattle.scavenger.specs.Laws.{ShownHeapsMayBegin, EndsAreScavenges, ScavengesAreTight};
-ghost use Rattle.scavenger.specs.Laws.{ScavengesFillPages};
+ghost use Rattle.scavenger.specs.Laws.{ScavengesFillPages, ScavengesTakeWords};
+ghost use Rattle.scavenger.specs.Granting.{GrantsMakeRoom, GrantsKeepGraphs, GrantsKeepStores, GrantsStayTight};
 
 /// A heap that shows a graph may be scavenged. What is young behind a scavenge is reached, from variables
-/// or from slots of pages; what came to pages is so too, or free.
+/// or from slots of pages; what came to pages is so too, or free. Words of free runs are taken for cells
+/// that are promoted, and no others.
 pub fn laws_of_scavenges()
     ensures begin { ShownHeapsMayBegin }
     ensures tight { ScavengesAreTight }
     ensures pages { ScavengesFillPages }
+    ensures words { ScavengesTakeWords }
 {}
 
 /// Each live slot that refers to words that are left refers to one of the cells there: to a header
@@ -29,4 +32,13 @@ pub fn laws_of_following()
 /// shows the graph, its objects have the rooms that they had, and it may be scavenged again.
 pub fn laws_of_ends()
     ensures { EndsAreScavenges }
+{}
+
+/// Where words of a free run were granted, there is room for so many; the heap shows what it showed, with
+/// the same rooms, objects stand where they stood, and no more young cells are kept than are reached.
+pub fn laws_of_grants()
+    ensures room { GrantsMakeRoom }
+    ensures graphs { GrantsKeepGraphs }
+    ensures stores { GrantsKeepStores }
+    ensures tight { GrantsStayTight }
 {}

@@ -1,8 +1,10 @@
 //! Copying the live cells of the young generation by one thread: eden and one half are emptied. What
 //! survived before goes to a page, if a free run has its words, or whatever lives where all is to be
-//! promoted; all else goes to the other half.
+//! promoted; all else goes to the other half. And granting words of a free run, where a cell is to be made
+//! for which eden has no room.
 //!
-//! Model: none of its own. `Scavenges` of `specs/Scavenged.antt` is what a scavenge comes to.
+//! Model: none of its own. `Scavenges` of `specs/Scavenged.antt` is what a scavenge comes to, and
+//! `Grants` of `specs/Granting.antt` what is granted.
 //! Invariant: `Scavenging` of `specs/Walking.antt`, between two slots: home copies fill the segment one
 //! behind another, or stand in pages, which are rows of cells; each live slot that refers to a cell that
 //! is to be copied is to do; and recorded are those slots that were and still refer to a young cell, and
@@ -11,6 +13,7 @@
 
 mod copying;
 mod emptying;
+mod granting;
 mod known_cells;
 mod laws;
 mod progress;
@@ -19,5 +22,6 @@ mod scavenging;
 mod slots;
 mod spaces;
 
-pub use laws::{laws_of_ends, laws_of_following, laws_of_scavenges, laws_of_slots};
-pub use scavenging::scavenge;
+pub use granting::grant_run;
+pub use laws::{laws_of_ends, laws_of_following, laws_of_grants, laws_of_scavenges, laws_of_slots};
+pub use scavenging::{Scavenged, scavenge};

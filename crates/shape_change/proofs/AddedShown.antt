@@ -1,11 +1,14 @@
 -- A heap to whose plain object a field of a new name came shows the graph in which the object has it.
-use Rattle.std.proofs.Common.{◌≡◌, ℕ, List, [], ◌∷◌, ◌++◌, length, Some, None, sym, ◌∙◌, ap, subst, arith}
+use Rattle.std.proofs.Common.{◌≡◌, ℕ, ◌+◌, List, [], ◌∷◌, ◌++◌, length, Some, None, sym, ◌∙◌, ap, subst, arith}
 use Rattle.heap_model.specs.Types.{Header, Value, Field, Path, Cell, Held}
 use Rattle.object_graph.specs.Objects.{field_value, with_field}
 use Rattle.object_graph.specs.Paths.{path_of, with_path}
 use Rattle.object_graph.specs.Graphs.{Graph, PlainObject}
 use Rattle.object_graph.specs.Invariants.{IsValue}
 use Rattle.object_graph.specs.Limits.{paths_most}
+use Rattle.nursery.specs.Young.{HasRoom}
+use Rattle.cell_layout.specs.Cells.{IsRow}
+use Rattle.heap_table.specs.Seats.{heap_words}
 use Rattle.heap_table.specs.Staying.{rest_stays_again}
 use Rattle.shape_tree.specs.Shapes.{shape_path, stepped}
 use Rattle.heap_model.specs.Heaps.{HasCell, words_of_cell}
@@ -18,7 +21,7 @@ use Rattle.object_cells.specs.PlainObjects.{IsPlainAt, LacksFields, ShowsRefille
 use Rattle.object_cells.specs.HeldValues.{IsValueHeld}
 use Rattle.object_cells.specs.Refills.{AreNewFields}
 use Rattle.object_cells.specs.SlotChanges.{WritesFields}
-use Rattle.object_cells.specs.Contents.{held_rep}
+use Rattle.object_cells.specs.Contents.{held_rep, next_at}
 use Rattle.shape_change.specs.Additions.{CanAdd, AddsPath, added_path, count_of}
 use Rattle.object_cells.specs.Made.{PutsWords}
 use Rattle.object_cells.specs.CellWrites.{reshaped}
@@ -31,7 +34,7 @@ use Rattle.object_cells.proofs.HeldContents.{held_rep_is}
 use Rattle.shape_change.proofs.AddedFields.{new_field, with_field-new, path_of-push}
 use Rattle.shape_change.proofs.AddedSlots.{AddsSlot, added_refills}
 use Rattle.object_cells.proofs.RefilledHeaps.{written_fields_show}
-use Rattle.object_cells.proofs.RestOfWords.{keeps_regions}
+use Rattle.object_cells.proofs.TakenRuns.{takes_run}
 
 -- What is known of a plain object of a graph to which a field of a new name may come: its cell, its fields, their
 -- path, and that with the field.
@@ -109,13 +112,14 @@ module _ {old : Mutator} {graph : Graph} {plain : PlainObject} {object : ℕ} {h
 
   -- a heap in which its slots hold the fields with this one shows the graph in which it has these
   pub added_shows : {mid new : Mutator} {next : ℕ} {words : List ℕ} {others made : List Cell} (need : ℕ)
-      (known : Adding old graph plain object header name value what)
+      (known : Adding old graph plain object header name value what) → HasRoom old.young need
       → AddsPath (reserved old need) mid (added_path old.paths header.shape name value) next → PutsWords mid new words
+      → IsRow new.seat.space (heap_words new.seat) (next_at old) (next_at old + need) made
       → WritesFields (heap_of old) (heap_of new) known.cell next others made
       → AddsSlot (heap_of old) (heap_of new) known.cell next others made plain.fields (new_field name what)
-      → Remembers old new (known.cell ∷ others) (reshaped new.paths known.cell next ∷ others)
+      → Remembers old new (known.cell ∷ others) (reshaped new.paths known.cell next ∷ others) made
       → ShowsRefilled new graph plain (with_field plain.fields name what)
-  added_shows {mid} {new} {next} {others = others} {made} need known path puts writes adds remembers =
+  added_shows {mid} {new} {next} {others = others} {made} need known room path puts row writes adds remembers =
       let fields : List Field = plain.fields ++ new_field name what ∷ [] in
       let with : with_field plain.fields name what ≡ fields = with_field-new plain.fields name what known.fresh in
       let are = written_fields_are_new graph plain name what known.shows.is_graph known.is.object known.is.reached
@@ -130,4 +134,4 @@ module _ {old : Mutator} {graph : Graph} {plain : PlainObject} {object : ℕ} {h
       subst (ShowsRefilled new graph plain) (sym with)
       (written_fields_show old new graph plain known.cell next others made fields known.shows known.is.object
       known.carries known.caps known.shown (subst (AreNewFields graph) with are) added
-      (keeps_regions beside (puts.young ∙ path.young)) writes (added_refills adds) remembers)
+      (takes_run need beside room (puts.young ∙ path.young) row) writes (added_refills adds) remembers)

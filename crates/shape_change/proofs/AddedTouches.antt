@@ -15,6 +15,7 @@ use Rattle.shape_change.specs.Additions.{AddsPath}
 use Rattle.shape_change.specs.Shifts.{field_touch}
 use Rattle.shape_change.proofs.FieldsAlike.{push_last, added_alike}
 use Rattle.shape_change.proofs.OneAdded.{AddsOne}
+use Rattle.shape_change.proofs.RunTouches.{TouchesWith}
 use Rattle.shape_change.proofs.TouchedSlots.{slot_remembered}
 
 -- what was touched once a path was added and words were reserved, and then the header was put
@@ -31,11 +32,12 @@ path_touches {old} {mid} {object = object} {touch} need adds bounded touches =
 
 -- so it is remembered where the word of the field was put in a slot that the object had
 pub one_remembered : {old new : Mutator} {cell : Cell} {next at word : ℕ} {others made : List Cell}
-    {fields : List Field} {field : Field} (one : AddsOne (heap_of old) (heap_of new) cell next at word others made fields field)
-    → TouchesObject old new cell.at
+    {fields : List Field} {field : Field}
+    (one : AddsOne (heap_of old) (heap_of new) cell next at word others made fields field)
+    → TouchesWith old new cell made
     (touched_one (field_touch (nat_lt (length fields) cell.layout.cap)
     (Some (record { name = field.name; rep = field.rep }))) at)
-    → Remembers old new (cell ∷ others) (reshaped new.paths cell next ∷ others)
+    → Remembers old new (cell ∷ others) (reshaped new.paths cell next ∷ others) made
 one_remembered {cell = cell} {fields = fields} {field} one touches =
     let puts = one.puts in
     let cap : ℕ = cell.layout.cap in

@@ -1,6 +1,6 @@
 -- A heap of which one word was put besides the header of an object, once a path was added and words were allocated.
 use Rattle.std.proofs.Common.{◌≡◌, ◌≢◌, ℕ, ◌+◌, ◌<◌, ◌≤◌, List, length, Some, slice_get}
-use Rattle.std.proofs.Common.{sym, ◌∙◌, ap, subst, arith, length-set}
+use Rattle.std.proofs.Common.{sym, ◌∙◌, ap, arith, length-set}
 use Rattle.std.specs.Prelude.{slice_set}
 use Rattle.heap_model.specs.Types.{Header, Path, Cell}
 use Rattle.tagged_word.specs.Headers.{header_bits}
@@ -9,18 +9,20 @@ use Rattle.object_graph.specs.Paths.{missing}
 use Rattle.object_graph.specs.Limits.{paths_most}
 use Rattle.object_graph.proofs.AddedPaths.{with_path-is}
 use Rattle.object_graph.proofs.Lists.{slice_get-set_same, slice_get-set_other}
-use Rattle.page_space.specs.Extents.{Space, eden_start, layouts_start, marks_start}
+use Rattle.page_space.specs.Extents.{Space, layouts_start, marks_start}
 use Rattle.page_space.proofs.Starts.{roots_start_is, layouts_start_is, marks_start_is}
-use Rattle.nursery.specs.Young.{Young, HasRoom}
+use Rattle.nursery.specs.Young.{Young, HasRoom, bumped}
 use Rattle.cell_layout.specs.Cells.{IsRow}
 use Rattle.heap_table.specs.Seats.{heap_words, RestStays}
 use Rattle.heap_table.specs.Staying.{rest_stays_again}
-use Rattle.heap_model.specs.Wholeness.{HasSizes}
+use Rattle.heap_model.specs.Wholeness.{Whole, HasSizes}
+use Rattle.heap_model.specs.Changes.{IsRunOf}
 use Rattle.write_barrier.specs.MutatorState.{Mutator, heap_of, IsTied, reserved}
 use Rattle.object_cells.specs.Contents.{next_at}
 use Rattle.shape_change.specs.Additions.{AddsPath, with_shape}
 use Rattle.object_cells.specs.Made.{PutsWords}
 use Rattle.object_cells.proofs.OneWord.{WritesOne}
+use Rattle.object_cells.proofs.TakenRuns.{taken_run, room_stays}
 use Rattle.object_cells.proofs.UnusedWords.{next_before_segments}
 use Rattle.object_cells.proofs.WordsPut.{sizes_stay}
 
@@ -105,9 +107,8 @@ module _ {old mid new : Mutator} {path : Path} {cell : Cell} {shape at word need
       sizes_stay mid new over.adds.sized over.puts.beside over.puts.paths (ap length over.puts.heap ∙ over.long)
       (λ a behind. ap (λ all. slice_get all a) over.puts.heap ∙ layouts_stay a over (omega (arith, behind, space)))
 
-  -- how many words of eden are used afterwards
-  pub over_young : PutsOver old mid new path cell shape at word need words
-      → new.young ≡ record old.young { used = old.young.used + need }
+  -- so many words were taken
+  pub over_young : PutsOver old mid new path cell shape at word need words → new.young ≡ bumped old.young need
   over_young over = over.puts.young ∙ over.adds.young
 
   -- all words from the marks on stay
@@ -118,30 +119,30 @@ module _ {old mid new : Mutator} {path : Path} {cell : Cell} {shape at word need
   pub over_space : PutsOver old mid new path cell shape at word need words → new.seat.space ≡ old.seat.space
   over_space over = (over_beside over).space
 
+  -- the words that were taken are a run
+  pub over_run : PutsOver old mid new path cell shape at word need words
+      → IsRunOf (heap_of old) (heap_of new) (next_at old) (next_at old + need)
+  over_run over = taken_run new need over.tied over.room (over_young over) (over_space over)
+
   -- one word of the cells was put
-  pub over_writes_one : (made : List Cell) → PutsOver old mid new path cell shape at word need words
+  pub over_writes_one : (made : List Cell) → Whole (heap_of old)
+      → PutsOver old mid new path cell shape at word need words
       → IsRow new.seat.space (heap_words new.seat) (next_at old) (next_at old + need) made
       → WritesOne (heap_of old) (heap_of new) cell shape at word made
-  over_writes_one made over row =
-      let young = over_young over in
-      let used : new.young.used ≡ old.young.used + need = ap (λ (y : Young). y.used) young in
-      let survivors : new.young.survivors ≡ old.young.survivors = ap (λ (y : Young). y.survivors) young in
-      let space : new.seat.space.sizes.young ≡ old.young.space.sizes.young =
-      ap (λ (s : Space). s.sizes.young) (over_space over ∙ sym over.tied) in
-      let ends : next_at old + need ≡ eden_start old.seat.space + new.young.used = omega (arith, used) in
+  over_writes_one made whole over row =
       record {
         same_space = over_space over;
-        same_survivors = survivors;
-        grown = omega (arith, used);
-        room = omega (arith, over.room, used, survivors, space);
+        same_survivors = ap (λ (y : Young). y.survivors) (over_young over);
+        room = room_stays new need over.tied whole.rows over.room (over_young over) (over_space over);
         more = missing old.paths path;
         paths = over.puts.paths ∙ sym (with_path-is (Some paths_most) old.paths mid.paths path over.adds.leads.added);
         sized = over_sized over;
         header = ap (λ all. slice_get all cell.at) over.puts.heap ∙ over.header;
         put = ap (λ all. slice_get all at) over.puts.heap ∙ over.put;
-        made_stand = subst (λ end. IsRow new.seat.space (heap_words new.seat) (next_at old) end made) ends row;
+        from = next_at old;
+        to = next_at old + need;
+        run = over_run over;
+        made_stand = row;
         stay = λ a below not_cell not_at not_new. ap (λ all. slice_get all a) over.puts.heap
-            ∙ over.stay a not_cell not_at
-            (λ from before. not_new (record { from = from; below = omega (arith, before, used) }))
-            ∙ over.adds.stay a below;
+            ∙ over.stay a not_cell not_at not_new ∙ over.adds.stay a below;
       }

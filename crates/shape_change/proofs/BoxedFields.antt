@@ -8,21 +8,23 @@ use Rattle.std.proofs.lemmas.Bool.{lt-ltb}
 use Rattle.tagged_word.specs.declared.layout.Kind.TheVariants as kind
 use Rattle.tagged_word.specs.Headers.{header_bits}
 use Rattle.tagged_word.proofs.Members.{one_in, first_in}
-use Rattle.page_space.specs.Extents.{Space, eden_start, segments_start, layouts_start, marks_start}
-use Rattle.page_space.proofs.Starts.{roots_start_is, layouts_start_is, marks_start_is}
+use Rattle.page_space.specs.Extents.{Space, layouts_start, marks_start}
+use Rattle.page_space.proofs.Starts.{marks_start_is}
+use Rattle.cell_layout.specs.Cells.{IsRow}
 use Rattle.object_graph.specs.Objects.{revalued}
 use Rattle.object_graph.specs.Graphs.{Graph, PlainObject}
 use Rattle.heap_table.specs.Seats.{heap_words}
 use Rattle.heap_model.specs.Types.{Value, Path, Cell}
-use Rattle.heap_model.specs.Heaps.{HasCell, words_of_cell}
+use Rattle.heap_model.specs.Heaps.{words_of_cell}
 use Rattle.heap_model.specs.Slots.{reference_word, raw_word}
 use Rattle.heap_model.specs.Kinds.{HasWord, IsBoxCell}
 use Rattle.heap_model.specs.Needs.{box_words}
 use Rattle.heap_model.specs.Wholeness.{HasSizes}
 use Rattle.heap_model.specs.Remembered.{Touch}
+use Rattle.heap_model.proofs.CellOutcomes.{object_is_no_filler}
 use Rattle.heap_model.proofs.CellsApart.{IsOfCell, first_of_cell}
 use Rattle.write_barrier.specs.MutatorState.{Mutator, heap_of, with_word, with_slot}
-use Rattle.write_barrier.specs.Recording.{touched, touched_one}
+use Rattle.write_barrier.specs.Recording.{touched_one}
 use Rattle.object_cells.specs.Formats.{box_header}
 use Rattle.object_cells.specs.declared.content.SlotContent.TheVariants as content
 use Rattle.object_cells.specs.CellWrites.{reshaped}
@@ -37,19 +39,22 @@ use Rattle.object_cells.proofs.HeldContents.{HoldsValue}
 use Rattle.object_cells.proofs.NewBoxes.{box_cell}
 use Rattle.object_cells.proofs.NumberedSlots.{IsNumbered}
 use Rattle.object_cells.proofs.OneWord.{IsReady}
-use Rattle.object_cells.proofs.OwnPlaces.{box_size, box_place, store_not_in_box}
+use Rattle.object_cells.proofs.OwnPlaces.{box_size, box_place, plain_is_object, store_not_in_box}
 use Rattle.object_cells.proofs.OwnCells.{cell_below_layouts, beside_not_header}
 use Rattle.object_cells.proofs.PlainFields.{plain_sound}
 use Rattle.heap_model.proofs.OneBeside.{one_slots}
-use Rattle.object_cells.proofs.UnusedWords.{cell_is_used, next_before_segments}
-use Rattle.object_cells.proofs.TouchedCells.{young_touched, young_then}
-use Rattle.object_cells.proofs.TouchedFields.{TouchesObject, object_alike}
+use Rattle.object_cells.proofs.RunCells.{AreOfRegion}
+use Rattle.object_cells.proofs.TakenRuns.{taken_run}
+use Rattle.object_cells.proofs.TouchedCells.{IsBeside}
+use Rattle.object_cells.proofs.UnusedWords.{IsUnusedRun, next_run, run_beside}
+use Rattle.object_cells.proofs.TouchedFields.{TouchesObject}
 use Rattle.object_cells.proofs.WordsPut.{PutsTwo, HasHead, puts_no_slot, puts_slot, puts_two, sizes_put}
 use Rattle.shape_change.proofs.ContentsShown.{box_shows}
-use Rattle.shape_change.proofs.FilledFields.{next_head, head_below, address, slot_below, before_marks, slot_puts}
+use Rattle.shape_change.proofs.FilledFields.{next_head, head_below, slot_below, before_marks, slot_puts}
 use Rattle.shape_change.proofs.FilledFields.{touches_slot, slot_shown}
 use Rattle.shape_change.proofs.FilledSlots.{RefersToOld, fills_box}
 use Rattle.shape_change.proofs.ReadyHeaps.{ready_boxed, puts_box}
+use Rattle.shape_change.proofs.RunTouches.{TouchesWith, numbered_beside, touches_alone, touches_box}
 use Rattle.shape_change.proofs.Settings.{Setting}
 use Rattle.shape_change.proofs.SetFields.{IsNextShape, ShowsSet, sets_one, field_shown}
 use Rattle.shape_change.proofs.FieldsAlike.{replaced_alike}
@@ -83,18 +88,22 @@ module _ {old : Mutator} {graph : Graph} {object slot : ℕ} {plain : PlainObjec
     abbrev box : ℕ
     box = next_at old
 
-    -- where its words end
-    ends : box + box_words ≤ segments_start old.seat.space
-    ends = next_before_segments old box_words s.shows.tied ready.room
+    -- its words are not used
+    run : IsUnusedRun (heap_of old) box box_words
+    run = next_run old box_words s.shows.tied s.shows.shows.whole.rows ready.room
 
-    -- no address of a cell is among them
-    not_in_box : {one : Cell} {words : List ℕ} (a free : ℕ) → HasCell (heap_of old) one words → IsOfCell one a
-        → box ≤ free → free < box + box_words → free ≢ a
-    not_in_box a free has of_cell from below same =
-        cell_is_used s.shows.shows.whole.rows has of_cell (omega (arith, from, same)) (omega (arith, below, same, ends))
+    -- no word of the object is among them, so not its header, nor is the slot
+    not_of_object : (a : ℕ) → IsOfCell s.cell a → IsBeside box (box + box_words) a
+    not_of_object a of_cell =
+        run_beside a run (object_is_no_filler s.cell.layout.kind (plain_is_object s.shown.of_kind)) s.has of_cell
 
     not_head : (free : ℕ) → box ≤ free → free < box + box_words → free ≢ s.cell.at
-    not_head free from below = not_in_box s.cell.at free s.has (first_of_cell s.has) from below
+    not_head free from below same =
+        not_of_object s.cell.at (first_of_cell s.has) (omega (arith, from, same)) (omega (arith, below, same))
+
+    not_slot : (free : ℕ) → box ≤ free → free < box + box_words → free ≢ at
+    not_slot free from below same =
+        numbered_beside run s.has s.shown.of_kind numbered (omega (arith, from, same)) (omega (arith, below, same))
 
     -- they are put before the word of the slot
     made : PutsTwo mid (with_box mid box v) (box + 1) (raw_word v) box (header_bits box_header)
@@ -102,7 +111,7 @@ module _ {old : Mutator} {graph : Graph} {object slot : ℕ} {plain : PlainObjec
         let space : Space = old.seat.space in
         puts_box mid box v
         (subst (λ (p : Space). box + box_words ≤ marks_start p) (sym ready.space)
-        (omega (arith, ends, roots_start_is space, layouts_start_is space, marks_start_is space))) ready.sized.words
+        (omega (arith, run.within, marks_start_is space))) ready.sized.words
 
     boxed : IsReady old (with_box mid box v) box_words
     boxed = ready_boxed v s.shows.tied ready
@@ -129,8 +138,7 @@ module _ {old : Mutator} {graph : Graph} {object slot : ℕ} {plain : PlainObjec
     put_stays : (free : ℕ) → box ≤ free → free < box + box_words
         → slice_get (heap_words new.seat) free ≡ slice_get (heap_words (with_box mid box v).seat) free
     put_stays free from below =
-        let slot_is = address s at numbered in
-        puts.stay free (not_head free from below) (not_in_box at free slot_is.has slot_is.of_cell from below)
+        puts.stay free (not_head free from below) (not_slot free from below)
 
     same_space : new.seat.space ≡ old.seat.space
     same_space = puts.beside.space ∙ boxed.space
@@ -141,8 +149,7 @@ module _ {old : Mutator} {graph : Graph} {object slot : ℕ} {plain : PlainObjec
       raw = λ w is.
           let same : v ≡ w = cc in
           put_stays (box + 1) (omega arith) (omega arith) ∙ made.header ∙ ap (λ n. Some (raw_word n)) same;
-      from = λ w is. subst (λ (p : Space). eden_start p ≤ box) (sym same_space) (omega arith);
-      below = λ w is. subst (λ (p : Space). box + box_words ≤ segments_start p) (sym same_space) ends;
+      region = λ w is. subst (λ (p : Space). AreOfRegion p box (box + box_words)) (sym same_space) run.region;
     }
 
     -- as many words and layouts as before
@@ -153,17 +160,20 @@ module _ {old : Mutator} {graph : Graph} {object slot : ℕ} {plain : PlainObjec
         sizes_put (with_box mid box v) new s.cell.at (next_head s next) at (reference_word box) boxed.sized
         (below s.cell.at (head_below s)) (below at (slot_below s at numbered)) puts
 
+    -- the box fills its words
+    row : IsRow new.seat.space (heap_words new.seat) box (box + box_words) (box_cell box ∷ [])
+    row = made_row (heap_of new) (content.Boxed v) box sized stands
+
     -- and the heap shows the graph with the field
     pub new_box_shown : ShowsSet s new
     new_box_shown =
-        let eden : ℕ = old.recorded.bound in
-        let stored = touched_one Touch.Stored at in
-        let only_slot : TouchesObject old new s.cell.at stored =
-        object_alike (young_then eden (touched Touch.Wiped box (box + box_words)) stored (λ a of_page.
-        young_touched Touch.Wiped eden box (box + box_words) a (omega (arith, s.shows.bounded)) of_page)) touches in
+        let run_taken = taken_run new box_words s.shows.tied ready.room (puts.young ∙ boxed.young) same_space in
+        let stored : TouchesWith old new s.cell (box_cell box ∷ []) (touched_one Touch.Stored at) =
+        touches_box Touch.Stored (content.Boxed v) run_taken row touches
+        not_of_object (λ from below. not_slot at from below refl) in
         slot_shown s at numbered shape (reference_word box) (box_cell box ∷ []) boxed (puts_slot refl) head_now
-        (touches_slot s at numbered (content.Boxed v) holds only_slot)
-        (made_row (heap_of new) (content.Boxed v) box sized stands) (λ others sets.
+        (touches_slot s at numbered (content.Boxed v) holds stored)
+        row (λ others sets.
         let came : List Cell = reshaped new.paths s.cell next ∷ others in
         let has = sets.puts.cells.comes (box_cell box) (Contains-append_right came (box_cell box ∷ []) (box_cell box)
         (first_in (box_cell box) [])) in
@@ -210,6 +220,7 @@ module _ {old : Mutator} {graph : Graph} {object slot : ℕ} {plain : PlainObjec
       let cap : ℕ = s.cell.layout.cap in
       let not_raw = λ (below : slot < cap). boxed_not_raw v holds (lt-ltb slot cap below) in
       field_shown s shape ready puts sets (fills_box v sets to_old fits (box_shows v holds).shows)
-      (box_remembered one (set_refields sets) is.box
+      (row_of_none (heap_of new) (next_at old)) (box_remembered one (set_refields sets) is.box
       (replaced_alike cap plain.fields slot s.field (revalued s.field what) s.there not_raw)
-      (subst (λ n. TouchesObject old new s.cell.at (touched_one Touch.Wiped (n + 1))) (sym is.stands) touches))
+      (touches_alone
+      (subst (λ n. TouchesObject old new s.cell.at (touched_one Touch.Wiped (n + 1))) (sym is.stands) touches)))

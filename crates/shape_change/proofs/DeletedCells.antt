@@ -28,7 +28,7 @@ use Rattle.tagged_word.proofs.Members.{first_in}
 use Rattle.heap_model.specs.Heaps.{Heap, HasCell, words_of_cell}
 use Rattle.heap_model.specs.Slots.{is_object_kind}
 use Rattle.heap_model.specs.Kinds.{HasWord}
-use Rattle.heap_model.specs.Changes.{CellsChange}
+use Rattle.heap_model.specs.Changes.{IsRunOf, CellsChange}
 use Rattle.shape_change.specs.Shifts.{slot_at}
 use Rattle.object_cells.proofs.CellsRead.{word_stands}
 use Rattle.object_cells.proofs.OneField.{SlotsAfter, slots_again}
@@ -101,7 +101,6 @@ module _ {old new : Mutator} {cell : Cell} {slot : ℕ} {fields : List Field}
       record {
         same_space = taken.beside.space;
         same_survivors = survivors;
-        grown = omega (arith, used);
         room = omega (arith, used, survivors, young, deleting.whole.rows.few);
         more = missing old.paths path;
         paths = sym (with_path-is (Some paths_most) old.paths new.paths path taken.leads.added);
@@ -116,8 +115,10 @@ module _ {old new : Mutator} {cell : Cell} {slot : ℕ} {fields : List Field}
           header = taken.headed;
         });
         beside = λ other there. written_beside other there;
-        made_stand = subst (λ n. IsRow new.seat.space (heap_words new.seat) behind n [])
-            (ap (λ n. eden_start old.seat.space + n) (sym used)) (IsRow.none behind);
+        from = behind;
+        to = behind;
+        run = IsRunOf.of_eden refl (omega (arith, used)) (omega (arith, used));
+        made_stand = IsRow.none behind;
         stay = λ at below not_own not_beside not_new. others_stay at below not_own not_beside;
       }
 

@@ -28,13 +28,13 @@ use Rattle.shape_change.specs.FieldChanges.{HasDeletedField, DeletesField}
 use Rattle.shape_change.specs.Deletions.{TakesFieldOut, TakingOut}
 use Rattle.object_cells.proofs.FieldsFound.{value_found}
 use Rattle.shape_change.proofs.FieldsLess.{AreLess, are_less, none_less}
-use Rattle.object_cells.proofs.NothingUsed.{uses_none}
+use Rattle.object_cells.proofs.NothingUsed.{room_for_none, uses_none}
 use Rattle.object_cells.proofs.PlainFields.{names_distinct}
 use Rattle.object_cells.proofs.NewFields.{rest_of_fields_are_new}
 use Rattle.object_cells.proofs.RefilledHeaps.{written_fields_show}
 use Rattle.object_cells.proofs.OwnCapacities.{object_keeps}
 use Rattle.object_cells.proofs.OwnerWrites.{plain_owns}
-use Rattle.object_cells.proofs.RestOfWords.{keeps_regions}
+use Rattle.object_cells.proofs.TakenRuns.{bumped_none, takes_none}
 use Rattle.shape_change.proofs.FullPaths.{full_of_paths}
 use Rattle.shape_change.proofs.DeletedSlots.{Deleting}
 use Rattle.shape_change.proofs.DeletedCells.{slot_stays, others_of, deleted_writes}
@@ -93,7 +93,8 @@ module _ {old : Mutator} {graph : Graph} {object : ℕ} {plain : PlainObject} {h
         written_fields_show old new graph plain shown.cell deleting_of.taken.next (others_of deleting_of) []
         (without_field plain.fields name) shows is.object shown.carries shown.cap shown.shows
         (rest_of_fields_are_new graph plain name shows.is_graph is.object is.reached) added
-        (keeps_regions taken.beside taken.young)
+        (takes_none taken.beside (room_for_none old shows.tied shows.shows.whole)
+        (taken.young ∙ sym (bumped_none old.young)))
         (deleted_writes deleting_of) (deleted_refills deleting_of name less)
         (deleted_remembers deleting_of shows.bounded)
 

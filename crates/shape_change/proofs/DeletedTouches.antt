@@ -20,7 +20,7 @@ use Rattle.object_cells.proofs.PathOffsets.{AreAlike}
 use Rattle.object_cells.proofs.PlainFields.{plain_sound}
 use Rattle.object_cells.proofs.StoreCells.{store_at, store_cell_there, is_store_cell, slots_counted}
 use Rattle.object_cells.proofs.TouchedCells.{FitsTouch, kept_fits}
-use Rattle.object_cells.proofs.TouchedFields.{beside_fits, TouchesObject, fields_remembered}
+use Rattle.object_cells.proofs.TouchedFields.{beside_fits, TouchesObject}
 use Rattle.object_cells.proofs.TouchedFields.{Refields, refields, header_fits, own_emptied}
 use Rattle.shape_change.specs.Shifts.{field_touch}
 use Rattle.shape_change.proofs.SlotAddresses.{slot_at-own, slot_at-beside}
@@ -30,6 +30,7 @@ use Rattle.shape_change.proofs.TakenOut.{without_counted}
 use Rattle.shape_change.proofs.DeletedSlots.{Deleting, cap_is, count_is, room_is, address, address_is}
 use Rattle.shape_change.proofs.DeletedCells.{others_of, deleted_writes, one_of}
 use Rattle.shape_change.proofs.TouchedSlots.{field_fits}
+use Rattle.shape_change.proofs.RunTouches.{touches_alone, fields_with_remembered}
 
 module _ {old new : Mutator} {cell : Cell} {slot : ℕ} {fields : List Field}
     (deleting : Deleting old new cell slot fields) where
@@ -179,10 +180,10 @@ module _ {old new : Mutator} {cell : Cell} {slot : ℕ} {fields : List Field}
   ]
 
   -- what is recorded follows the cells
-  pub deleted_remembers : old.recorded.bound ≡ eden_start old.seat.space → Remembers old new gone came
+  pub deleted_remembers : old.recorded.bound ≡ eden_start old.seat.space → Remembers old new gone came []
   deleted_remembers bounded =
       let taken = deleting.taken in
       let space = old.seat.space in
-      fields_remembered taken.touch fields_change
-      (TouchesObject.slots (taken.touches (omega (arith, bounded, roots_start_is space, layouts_start_is space))))
-      (λ at below. each_fits at) (λ one below of_page kept. own_alike one below kept)
+      fields_with_remembered fields_change (touches_alone
+      (TouchesObject.slots (taken.touches (omega (arith, bounded, roots_start_is space, layouts_start_is space)))))
+      each_fits own_alike

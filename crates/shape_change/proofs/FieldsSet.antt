@@ -1,6 +1,6 @@
 -- The fields of a plain object of which one was set: it stands where it stood.
-use Rattle.std.proofs.Common.{◌≡◌, ℕ, zero, suc, ◌==◌, true, false, List, [], ◌∷◌, map, Some, None, slice_get, set, inl, inr}
-use Rattle.std.proofs.Common.{refl, sym, ◌∙◌, ap, cond}
+use Rattle.std.proofs.Common.{◌≡◌, ℕ, zero, suc, ◌==◌, true, false, List, [], ◌∷◌, map, Some, None, slice_get, set}
+use Rattle.std.proofs.Common.{inl, inr, refl, sym, ◌∙◌, ap, cond}
 use Rattle.std.specs.Prelude.{option_map}
 use Rattle.std.specs.List.{IsDistinct}
 use Rattle.std.proofs.lemmas.Bool.{eq-eqb, ne_eqb, cases_eq}

@@ -48,6 +48,7 @@ use Rattle.shape_change.proofs.FilledSlots.{AreBoxes, fills_slot}
 use Rattle.shape_change.proofs.SetFields.{IsNextShape, ShowsSet, sets_one, field_shown}
 use Rattle.shape_change.proofs.FieldsAlike.{set_alike}
 use Rattle.shape_change.proofs.TouchedSlots.{content_touches, set_refields, slot_remembered}
+use Rattle.shape_change.proofs.RunTouches.{TouchesWith, touches_alone}
 use Rattle.shape_change.proofs.Settings.{Setting, slot_is_field}
 
 -- an address before the layout words is before the marks
@@ -107,23 +108,23 @@ module _ {old : Mutator} {graph : Graph} {object slot : ℕ} {plain : PlainObjec
         puts_two mid put new s.cell.at (next_head next) at word puts (before_marks at ready slot_below)
         (before_marks s.cell.at ready head_below) ready.sized.words (λ same. address.not_header (sym same)) head
 
-    -- of pages the slot was touched, as the representation of the field says, and maybe the header
-    abbrev pub TouchesSlot : Mutator → Type 0
-    TouchesSlot new = TouchesObject old new s.cell.at
+    -- The slot was touched, as the representation of the field says, and maybe the header; and cells were made.
+    abbrev pub TouchesSlot : Mutator → List Cell → Type 0
+    TouchesSlot new made = TouchesWith old new s.cell made
         (touched_one (field_touch (nat_lt slot s.cell.layout.cap)
         (Some (record { name = s.field.name; rep = (revalued s.field what).rep }))) at)
 
     -- so it is where the slot was touched as what it comes to hold says
-    pub touches_slot : {new : Mutator} (holds : SlotContent)
+    pub touches_slot : {new : Mutator} {made : List Cell} (holds : SlotContent)
         → HoldsValue (heap_of old) (nat_lt slot s.cell.layout.cap) s.field.rep (revalued s.field what).rep what holds
-        → TouchesObject old new s.cell.at (touched_one (slot_touch holds) at) → TouchesSlot new
-    touches_slot {new} holds is touches =
-        subst (λ how. TouchesObject old new s.cell.at (touched_one how at)) (content_touches s.field.name is) touches
+        → TouchesWith old new s.cell made (touched_one (slot_touch holds) at) → TouchesSlot new made
+    touches_slot {new} {made} holds is touches =
+        subst (λ how. TouchesWith old new s.cell made (touched_one how at)) (content_touches s.field.name is) touches
 
     module _ {mid put new : Mutator} {next : ℕ} (shape : IsNextShape s new next) where
       -- where a word was put in the slot, the heap shows the graph with the field
       pub slot_shown : {need : ℕ} (word : ℕ) (made : List Cell) → IsReady old mid need → PutsWord mid put at word
-          → HasHead mid put new s.cell.at (next_head next) → TouchesSlot new
+          → HasHead mid put new s.cell.at (next_head next) → TouchesSlot new made
           → IsRow new.seat.space (heap_words new.seat) (next_at old) (next_at old + need) made
           → ((others : List Cell) (sets : SetsOne (heap_of old) (heap_of new) s.cell next at word slot others made
           plain.fields (revalued s.field what)) → ShowsPut sets) → ShowsSet s new
@@ -140,7 +141,7 @@ module _ {old : Mutator} {graph : Graph} {object slot : ℕ} {plain : PlainObjec
           let stands = subst (λ n. IsSlotPlace (heap_of old) s.cell n at place.0) store place.1 in
           let cap : ℕ = s.cell.layout.cap in
           let field : Field = revalued s.field what in
-          field_shown s shape ready puts sets (fills_slot sets numbered stands shows.boxes shows.comes shows.shows)
+          field_shown s shape ready puts sets (fills_slot sets numbered stands shows.boxes shows.comes shows.shows) row
           (slot_remembered (record { name = field.name; rep = field.rep }) (set_refields sets) whole s.shown.of_kind
           numbered place.1
           (path_field cap (set plain.fields slot field) slot field
@@ -154,7 +155,7 @@ module _ {old : Mutator} {graph : Graph} {object slot : ℕ} {plain : PlainObjec
           → HoldsValue (heap_of old) (nat_lt slot s.cell.layout.cap) s.field.rep (revalued s.field what).rep what
           (content.Tagged word) → ShowsSet s new
       tagged_shown word ready word_put head touches holds =
-          slot_shown word.0 [] ready word_put head (touches_slot (content.Tagged word) holds touches)
+          slot_shown word.0 [] ready word_put head (touches_slot (content.Tagged word) holds (touches_alone touches))
           (row_of_none (heap_of new) (next_at old)) (λ others sets.
           let shown = word_shows word (written_places_stay plain_owns sets.puts.whole sets.puts.writes) holds in
           record {
@@ -170,7 +171,7 @@ module _ {old : Mutator} {graph : Graph} {object slot : ℕ} {plain : PlainObjec
           → HoldsValue (heap_of old) (nat_lt slot s.cell.layout.cap) s.field.rep (revalued s.field what).rep what
           (content.Raw word) → ShowsSet s new
       raw_shown word ready word_put head touches holds =
-          slot_shown word [] ready word_put head (touches_slot (content.Raw word) holds touches)
+          slot_shown word [] ready word_put head (touches_slot (content.Raw word) holds (touches_alone touches))
           (row_of_none (heap_of new) (next_at old)) (λ others sets.
           let shown = raw_shows word (length graph.objects) s.value holds in
           record {

@@ -26,8 +26,8 @@ place_beside : {heap : Heap} {cell : Cell} {words : List ℕ} (word : ℕ) (slot
     → slot - cell.layout.cap < length slots → reference_in word ≡ Some store
     → offset ≡ store_head + (slot - cell.layout.cap) → IsNumbered heap cell words slot (store + offset)
 place_beside word slots slot store offset there HoldsStore.none from below refers is = absurd (omega (arith, below))
-place_beside {cell = cell} word slots slot store offset there (HoldsStore.store to other others target of_kind) from below
-    refers is =
+place_beside {cell = cell} word slots slot store offset there (HoldsStore.store to other others target of_kind) from
+    below refers is =
     let same : other.at ≡ store =
     same_reference other.at store (sym target.refers ∙ (reference_from word store refers).1) in
     let k : ℕ = slot - cell.layout.cap in

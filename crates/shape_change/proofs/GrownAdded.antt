@@ -20,6 +20,7 @@ use Rattle.heap_model.specs.Kinds.{HasWord, HasSlots}
 use Rattle.heap_model.specs.Needs.{grown}
 use Rattle.heap_model.specs.Showing.{ShowsField}
 use Rattle.heap_model.proofs.BoundHeaps.{none_in}
+use Rattle.heap_model.proofs.CellOutcomes.{object_is_no_filler}
 use Rattle.heap_model.proofs.CellsApart.{IsOfCell}
 use Rattle.heap_model.proofs.CellWords.{words_by_kind}
 use Rattle.write_barrier.specs.MutatorState.{Mutator, heap_of}
@@ -37,6 +38,7 @@ use Rattle.object_cells.proofs.MadeBoxes.{made_boxes}
 use Rattle.object_cells.proofs.OneWord.{WritesOne}
 use Rattle.object_cells.proofs.OwnCapacities.{object_grows}
 use Rattle.object_cells.proofs.OwnCells.{IsOwnWord, writes_cells, word_stays}
+use Rattle.object_cells.proofs.OwnPlaces.{plain_is_object}
 use Rattle.object_cells.proofs.OwnerWrites.{plain_owns, becomes_cap}
 use Rattle.object_cells.proofs.SlotPlaces.{own_slot, behind_cap}
 use Rattle.object_cells.proofs.SlotsNow.{plain_cell_size}
@@ -72,7 +74,7 @@ module _ {old new : Mutator} {graph : Graph} {plain : PlainObject} {object : ℕ
   box = grows.box growing
 
   abbrev made : List Cell
-  made = new_store ∷ made_boxes (store_content value) box
+  made = grows.made growing
 
   -- the word of the slot
   abbrev word : ℕ
@@ -85,7 +87,7 @@ module _ {old new : Mutator} {graph : Graph} {plain : PlainObject} {object : ℕ
   -- one word of the object's own cell was put, and its header
   one : WritesOne (heap_of old) (heap_of new) growing.known.cell growing.adds.next (object + store_slot)
       (reference_word (next_at old)) made
-  one = over_writes_one made (over growing) (grows.filled growing).row
+  one = over_writes_one made growing.known.shows.shows.whole (over growing) (grows.filled growing).row
 
   writes : WritesFields (heap_of old) (heap_of new) growing.known.cell growing.adds.next [] made
   writes =
@@ -155,8 +157,10 @@ module _ {old new : Mutator} {graph : Graph} {plain : PlainObject} {object : ℕ
       let a : ℕ = known.cell.at + (2 + k) in
       let size = plain_cell_size known.has known.shown.of_kind in
       let of_cell : IsOfCell known.cell a = record { from = omega arith; below = omega (arith, size, below) } in
+      let no_filler =
+      object_is_no_filler known.cell.layout.kind (plain_is_object known.shown.of_kind) in
       sym (own_slot k known.has known.shown.of_kind known.sound.has below)
-      ∙ sym (word_stays a known.shows.shows.whole one known.has of_cell (λ same. omega (arith, same))
+      ∙ sym (word_stays a known.shows.shows.whole one known.has no_filler of_cell (λ same. omega (arith, same))
       (λ same. omega (arith, same, known.stands)))
       ∙ own_slot k (taken.came_has takes) refl slots_now (omega (arith, below, becomes_cap writes.becomes)) ∙ there
 
@@ -247,8 +251,8 @@ module _ {old new : Mutator} {graph : Graph} {plain : PlainObject} {object : ℕ
         boxes = taken.boxes_told takes;
       }
 
-  -- of pages only the slot for the store and the header were touched, so the change is remembered
-  remembered : Remembers old new (growing.known.cell ∷ []) (came ∷ [])
+  -- beside what was made only the slot for the store and the header were touched, so the change is remembered
+  remembered : Remembers old new (growing.known.cell ∷ []) (came ∷ []) made
   remembered =
       let known = growing.known in
       let cap : ℕ = known.cell.layout.cap in
@@ -260,7 +264,8 @@ module _ {old new : Mutator} {graph : Graph} {plain : PlainObject} {object : ℕ
   -- and the graph is shown in which the object has the field
   pub grown_shown : ShowsRefilled new graph plain (with_field plain.fields name what)
   grown_shown =
-      added_shows (grows.need growing) growing.known (over growing).adds (over growing).puts writes adds_slot remembered
+      added_shows (grows.need growing) growing.known (over growing).room (over growing).adds (over growing).puts
+      (grows.filled growing).row writes adds_slot remembered
 
   -- the object's property store has as many slots as the new one
   pub grown_becomes : AreWithin old.seat.space.sizes old.seat.space.variables

@@ -1,29 +1,34 @@
 -- The words where a store was made for a field that is new, and a box behind it where the field needs one.
-use Rattle.std.proofs.Common.{◌≡◌, ℕ, ◌+◌, ◌≤◌, ◌<◌, Some, slice_get, refl, sym, ◌∙◌, ap, subst, arith}
+use Rattle.std.proofs.Common.{◌≡◌, ℕ, ◌+◌, ◌≤◌, ◌<◌, List, ◌∷◌, Some, slice_get, refl, sym, ◌∙◌, ap, subst, arith}
 use Rattle.std.specs.Prelude.{slice_set}
 use Rattle.std.proofs.lemmas.List.{set_comm}
 use Rattle.heap_model.specs.Types.{Header, Value, Cell, Held}
 use Rattle.tagged_word.specs.Headers.{header_bits}
 use Rattle.tagged_word.specs.Cells.{store_head, store_slot}
 use Rattle.object_graph.specs.Graphs.{Graph, PlainObject}
-use Rattle.page_space.specs.Extents.{Space, eden_start, segments_start, marks_start}
+use Rattle.page_space.specs.Extents.{Space, marks_start}
 use Rattle.shape_tree.specs.Shapes.{shape_path}
 use Rattle.heap_table.specs.Seats.{heap_words}
 use Rattle.heap_model.specs.Slots.{reference_word}
 use Rattle.heap_model.specs.Needs.{grown}
+use Rattle.heap_model.proofs.CellOutcomes.{object_is_no_filler}
 use Rattle.heap_model.proofs.CellsApart.{IsOfCell, first_of_cell}
 use Rattle.write_barrier.specs.MutatorState.{Mutator, heap_of}
 use Rattle.object_cells.specs.declared.stores.Store.{Store}
 use Rattle.object_cells.specs.Contents.{next_at}
 use Rattle.object_cells.specs.FilledRuns.{run_words, FillsRun}
 use Rattle.object_cells.specs.Made.{IsStoreAt, store_content, content_word, with_content, begun_store}
-use Rattle.object_cells.proofs.FilledRuns.{IsUnusedRun, next_run, makes_store, FilledRow, filled_row}
-use Rattle.object_cells.proofs.MadeBoxes.{with_content_set}
+use Rattle.object_cells.proofs.FilledRuns.{makes_store, FilledRow, filled_row}
+use Rattle.object_cells.proofs.MadeBoxes.{made_boxes, with_content_set}
 use Rattle.object_cells.proofs.NewStores.{store_cell, store_is_long}
 use Rattle.object_cells.proofs.OwnCells.{cell_below_layouts}
+use Rattle.object_cells.proofs.OwnPlaces.{plain_is_object}
+use Rattle.object_cells.proofs.RunCells.{AreOfRegion}
 use Rattle.object_cells.proofs.SlotsNow.{plain_cell_size}
 use Rattle.object_cells.proofs.StoreRuns.{filled_run, fills_run, own_put}
 use Rattle.object_cells.proofs.StoreWords.{MakesStore}
+use Rattle.object_cells.proofs.TouchedCells.{IsBeside}
+use Rattle.object_cells.proofs.UnusedWords.{IsUnusedRun, next_run, run_beside}
 use Rattle.shape_change.specs.Additions.{AddsToNewStore, added_path, count_of, behind_cap}
 use Rattle.shape_change.specs.Deletions.{shaped_bits}
 use Rattle.shape_change.proofs.AddedWords.{PutsOver, over_sized, over_space}
@@ -41,19 +46,30 @@ pub record StoreGrowing (old new : Mutator) (graph : Graph) (plain : PlainObject
 module _ {old new : Mutator} {graph : Graph} {plain : PlainObject} {object : ℕ} {header : Header} {name : ℕ}
     {value : Held} {what : Value} {store : Store}
     (growing : StoreGrowing old new graph plain object header name value what store) where
-  -- the store that is made, and the address of the box
+  -- the store that is made, the address of the box,
   abbrev pub new_store : Cell
   new_store = store_cell (next_at old) (grown store.capacity)
 
   abbrev pub box : ℕ
   box = next_at old + (store_head + grown store.capacity)
 
+  -- and the cells that are made
+  abbrev pub made : List Cell
+  made = new_store ∷ made_boxes (store_content value) box
+
   -- how many words are reserved
   abbrev pub need : ℕ
   need = run_words new_store (store_content value)
 
   pub run : IsUnusedRun (heap_of old) (next_at old) need
-  run = next_run old need growing.known.can.tied growing.adds.room
+  run = next_run old need growing.known.can.tied growing.known.shows.shows.whole.rows growing.adds.room
+
+  -- no word of the object's cell is one of them
+  pub beside_run : {at : ℕ} → IsOfCell growing.known.cell at → IsBeside (next_at old) (next_at old + need) at
+  beside_run {at} of_cell =
+      let known = growing.known in
+      run_beside at run (object_is_no_filler known.cell.layout.kind (plain_is_object known.shown.of_kind)) known.has
+      of_cell
 
   -- the header and the slot for the store are words of the object's cell
   of_header : IsOfCell growing.known.cell object
@@ -75,6 +91,7 @@ module _ {old new : Mutator} {graph : Graph} {plain : PlainObject} {object : ℕ
   makes =
       makes_store object object run growing.known.shows.shows.whole growing.known.has
       (growing.adds.path.sized.words ∙ ap (λ (s : Space). marks_start s) growing.adds.path.beside.space) growing.is
+      (object_is_no_filler growing.known.cell.layout.kind (plain_is_object growing.known.shown.of_kind))
       (omega (arith, few)) of_slot of_header (λ same. omega (arith, same))
 
   -- the words are those with the run filled, and the header
@@ -131,5 +148,4 @@ module _ {old new : Mutator} {graph : Graph} {plain : PlainObject} {object : ℕ
       let space = over_space over in
       filled_row (heap_of new) (over_sized over)
       (store_is_long (next_at old) (grown store.capacity) (omega (arith, few)))
-      fills (omega (arith, ap (λ (s : Space). eden_start s) space))
-      (omega (arith, run.ends, ap (λ (s : Space). segments_start s) space))
+      fills (subst (λ (s : Space). AreOfRegion s (next_at old) (next_at old + need)) (sym space) run.region)

@@ -4,6 +4,7 @@ mod FieldsSet
 mod SettingNeeds
 mod ContentsShown
 mod FieldsAlike
+mod RunTouches
 mod TouchedSlots
 mod FilledSlots
 mod FoundPlaces

@@ -59,7 +59,7 @@ one_adding {old} {mid} {new} {plain = plain} {header = header} {name} {value} {w
     let cell : Cell = known.cell in
     let whole = known.shows.shows.whole in
     let kind = known.shown.of_kind in
-    let one = over_writes_one made over row in
+    let one = over_writes_one made whole over row in
     let path = path_after known over in
     let place = slot_place (length plain.fields) at whole known.has kind known.sound.has numbered in
     let writes = writes_cells cell next at word place.0 made whole known.has kind (shape_after over)

@@ -47,6 +47,7 @@ use Rattle.object_cells.proofs.FilledSlots.{reserved_none}
 use Rattle.object_cells.proofs.NothingUsed.{room_for_none}
 use Rattle.object_cells.proofs.TouchedFields.{TouchesObject}
 use Rattle.shape_change.proofs.AddedShown.{Adding, added_shows}
+use Rattle.shape_change.proofs.RunTouches.{touches_alone}
 use Rattle.shape_change.proofs.OneAdding.{OneAdding, one_adding, path_after}
 use Rattle.shape_change.proofs.TouchedSlots.{content_touches}
 use Rattle.shape_change.proofs.AddedTouches.{path_touches, one_remembered}
@@ -143,12 +144,12 @@ module _ {old : Mutator} {graph : Graph} {plain : PlainObject} {object : ℕ} {h
       let shows : ShowsField (heap_of new) true word (rep_of what) what =
       content_shows (length graph.objects) 0 holds places known.fits
       (λ v boxed. absurd (own_holds_no_box v holds boxed)) in
-      added_shows 0 known over.adds over.puts one.writes
+      added_shows 0 known over.room over.adds over.puts (row_of_none (heap_of new) (next_at old)) one.writes
       (one_adds one.adds (subst (λ o. ShowsField (heap_of new) o word (rep_of what) what) (sym test) shows)
       (λ tagged. content_comes (HasTagged known.cell one.adds.sound.slots) [] slot slot 0 holds places
       (λ is_own wide. own_not_tagged adds tagged wide) (λ v boxed. absurd (own_holds_no_box v holds boxed)))
       (λ other there. absurd (none_in other there)) (λ other there. absurd (none_in other there)))
-      (one_remembered one.adds (own_touches adds))
+      (one_remembered one.adds (touches_alone (own_touches adds)))
 
   -- each property store has as many slots as before
   pub own_keeps : {new : Mutator} → AddsOwn old new object header name value

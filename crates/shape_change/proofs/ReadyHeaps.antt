@@ -1,6 +1,6 @@
 -- How a heap becomes ready for one word to be put: words are allocated, paths added, and a box made.
 use Rattle.std.proofs.Common.{◌≡◌, ℕ, ◌+◌, ◌<◌, ◌≤◌, inl, inr, List, [], ◌++◌, length}
-use Rattle.std.proofs.Common.{refl, sym, ◌∙◌, ap, subst, arith, append-nil, add-zero}
+use Rattle.std.proofs.Common.{refl, sym, ◌∙◌, ap, subst, arith, append-nil}
 use Rattle.std.specs.Prelude.{ℤ}
 use Rattle.tagged_word.specs.Headers.{header_bits}
 use Rattle.heap_model.specs.Types.{Path}
@@ -18,7 +18,8 @@ use Rattle.object_cells.specs.declared.content.SlotWrite.{SlotWrite}
 use Rattle.object_cells.specs.declared.content.SlotWrite.TheVariants as filling
 use Rattle.object_cells.specs.Contents.{next_at, with_box, AllocatesBox, filling_need}
 use Rattle.shape_change.specs.Fillings.{with_paths}
-use Rattle.object_cells.proofs.OneWord.{IsReady, still_new}
+use Rattle.object_cells.proofs.OneWord.{IsReady}
+use Rattle.object_cells.proofs.TakenRuns.{bumped_none}
 use Rattle.object_cells.proofs.UnusedWords.{next_before_segments}
 use Rattle.object_cells.proofs.WordsPut.{PutsTwo, puts_no_slot, puts_two, sizes_put}
 
@@ -39,9 +40,7 @@ ready_reserved old need sized room = record {
 -- nothing has changed
 ready_same : (old new : Mutator) → HasSizes (heap_of old) → HasRoom old.young 0 → new ≡ old → IsReady old new 0
 ready_same old new sized room same =
-    let young : Young = record old.young { used = old.young.used + 0 } in
-    let none : old.young ≡ young = ap (λ n. record old.young { used = n }) (sym (add-zero old.young.used)) in
-    let as_before : reserved old 0 ≡ old = ap (λ (y : Young). record old { young = y }) (sym none) in
+    let as_before : reserved old 0 ≡ old = ap (λ (y : Young). record old { young = y }) (bumped_none old.young) in
     subst (λ (main : Mutator). IsReady old main 0) (as_before ∙ sym same) (ready_reserved old 0 sized room)
 
 -- the words that a slot needs are used
@@ -65,22 +64,17 @@ ready_laid {old} {between} {laid} need more ready changes sized added = record {
   more = more;
   paths = added;
   sized = sized;
-  stay = λ a below not_new. changes.beside a (inl below) ∙ ready.stay a below (λ is_new.
-      let used : laid.young.used ≡ between.young.used = ap (λ (y : Young). y.used) changes.young in
-      not_new (record { from = is_new.from; below = omega (arith, is_new.below, used) }));
+  stay = λ a below not_new. changes.beside a (inl below) ∙ ready.stay a below not_new;
 }
 
--- two newly used words are put
+-- two of the words that were taken are put
 ready_put : {old mid new : Mutator} {first head second word need : ℕ} → IsReady old mid need
     → PutsTwo mid new first head second word → next_at old ≤ first → first < next_at old + need → next_at old ≤ second
     → second < next_at old + need → next_at old + need ≤ layouts_start old.seat.space → IsReady old new need
 ready_put {old} {mid} {new} {first} {head} {second} {word} {need} ready puts first_from first_below second_from
     second_below within =
-    let used : mid.young.used ≡ old.young.used + need = ap (λ (y : Young). y.used) ready.young in
     let below = λ (a : ℕ) (is : a < layouts_start old.seat.space).
     subst (λ (s : Space). a < layouts_start s) (sym ready.space) is in
-    let is_new = λ (a : ℕ) (from : next_at old ≤ a) (before : a < next_at old + need).
-    still_new a ready puts (record { from = from; below = omega (arith, before, used) }) in
     record {
       space = puts.beside.space ∙ ready.space;
       phase = puts.beside.phase ∙ ready.phase;
@@ -91,9 +85,9 @@ ready_put {old} {mid} {new} {first} {head} {second} {word} {need} ready puts fir
       sized = sizes_put mid new first head second word ready.sized (below first (omega arith))
           (below second (omega arith)) puts;
       stay = λ a is not_new.
-          puts.stay a (λ same. not_new (is_new a (omega (arith, same)) (omega (arith, same))))
-          (λ same. not_new (is_new a (omega (arith, same)) (omega (arith, same))))
-          ∙ ready.stay a is (λ before. not_new (still_new a ready puts before));
+          puts.stay a (λ same. not_new (omega (arith, same)) (omega (arith, same)))
+          (λ same. not_new (omega (arith, same)) (omega (arith, same)))
+          ∙ ready.stay a is not_new;
     }
 
 -- the words of a box are put

@@ -2,8 +2,8 @@
 use Rattle.tagged_word.specs.Headers.{header_bits}
 use Rattle.tagged_word.specs.Cells.{store_slot}
 use Rattle.page_space.specs.Extents.{layouts_start}
-use Rattle.nursery.specs.Young.{Young}
 use Rattle.cell_layout.specs.Cells.{IsRow}
+use Rattle.cell_layout.proofs.Rows.{cell_within}
 use Rattle.shape_tree.specs.Shapes.{IsShapeOf}
 use Rattle.object_graph.specs.Paths.{path_of, with_path}
 use Rattle.object_graph.specs.Objects.{with_field, revalued}
@@ -19,7 +19,7 @@ use Rattle.write_barrier.specs.MutatorState.{Mutator, heap_of}
 use Rattle.write_barrier.specs.Recording.{Remembers}
 use Rattle.object_cells.specs.PlainObjects.{ShowsRefilled}
 use Rattle.object_cells.specs.Refills.{AreNewFields}
-use Rattle.object_cells.specs.Uses.{KeepsRegions}
+use Rattle.object_cells.specs.Uses.{TakesRun}
 use Rattle.object_cells.specs.Capacities.{ChangesObject}
 use Rattle.object_cells.specs.Contents.{next_at}
 use Rattle.object_cells.specs.CellWrites.{reshaped}
@@ -63,7 +63,7 @@ module _ {old : Mutator} {graph : Graph} {object slot : ℕ} {plain : PlainObjec
           let whole = s.shows.shows.whole in
           let cap = ap (λ (p : Path). p.cap) shape.is_shape.of_path ∙ sym s.cap in
           let one = writes_two s.cell.at (header_bits (record s.cell.header { shape = next })) at word need made
-          s.shows.tied ready (cell_below_layouts whole s.has (first_of_cell s.has)) below puts row in
+          s.shows.tied whole.rows ready (cell_below_layouts whole s.has (first_of_cell s.has)) below puts row in
           let writes = writes_cells s.cell next at word others made whole s.has s.shown.of_kind shape.is_shape.is_shape
           cap own one in
           let puts_own : PutsOwn (heap_of old) (heap_of new) s.cell next at word others made = record {
@@ -87,8 +87,9 @@ module _ {old : Mutator} {graph : Graph} {object slot : ℕ} {plain : PlainObjec
       pub field_shown : {others made : List Cell} {head : ℕ} → PutsTwo mid new s.cell.at head at word
           → (sets : SetsOne (heap_of old) (heap_of new) s.cell next at word slot others made plain.fields
           (revalued s.field what)) → FillsOne sets
-          → Remembers old new (s.cell ∷ others) (reshaped new.paths s.cell next ∷ others) → ShowsSet new
-      field_shown {others} {made} puts sets fills remembers =
+          → IsRow new.seat.space (heap_words new.seat) (next_at old) (next_at old + need) made
+          → Remembers old new (s.cell ∷ others) (reshaped new.paths s.cell next ∷ others) made → ShowsSet new
+      field_shown {others} {made} puts sets fills row remembers =
           let heap = heap_of old in
           let same : with_field plain.fields name what ≡ fields = fields_are s in
           let new_fields = subst (AreNewFields graph) same (fields_are_new s) in
@@ -96,15 +97,18 @@ module _ {old : Mutator} {graph : Graph} {object slot : ℕ} {plain : PlainObjec
           let added =
           ap (λ paths. with_path (Some paths_most) paths (path_of plain.cap fields)) (sym s.shows.shows.paths)
           ∙ shape.added in
-          let regions : KeepsRegions old new = record {
+          let takes : TakesRun old new made = record {
             space = puts.beside.space ∙ ready.space;
             phase = puts.beside.phase ∙ ready.phase;
-            of_young = ap (λ (y : Young). y.space) (puts.young ∙ ready.young);
-            half = ap (λ (y : Young). y.half) (puts.young ∙ ready.young);
+            need = need;
+            room = ready.room;
+            young = puts.young ∙ ready.young;
+            within = λ cell among.
+                cell_within new.seat.space (heap_words new.seat) (next_at old) (next_at old + need) made cell row among;
           } in
           record {
             shows = subst (ShowsRefilled new graph plain) (sym same)
                 (written_fields_show old new graph plain s.cell next others made fields s.shows s.is.object s.carries
-                s.cap shown new_fields added regions sets.puts.writes (refills_slots sets fills) remembers);
+                s.cap shown new_fields added takes sets.puts.writes (refills_slots sets fills) remembers);
             changes = one_keeps sets.puts fills.belong fills.kinds;
           }

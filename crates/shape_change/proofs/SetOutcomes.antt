@@ -1,10 +1,10 @@
 -- What came of setting a field that is there.
-use Rattle.std.proofs.Common.{◌≡◌, ℕ, ◌+◌, List, ◌++◌, length, Some, slice_get, set, refl, sym, ◌∙◌, ap, subst, arith}
+use Rattle.std.proofs.Common.{◌≡◌, ℕ, ◌+◌, List, ◌++◌, length, Some, slice_get, set, refl, sym, ◌∙◌, ap, subst}
 use Rattle.std.proofs.Common.{inl, inr, nat_lt}
 use Rattle.std.proofs.lemmas.Option.{cond_some}
 use Rattle.tagged_word.specs.Headers.{header_bits}
 use Rattle.page_space.specs.Sizes.{AreWithin}
-use Rattle.nursery.specs.Young.{Young, HasRoom}
+use Rattle.nursery.specs.Young.{HasRoom}
 use Rattle.shape_tree.specs.Shapes.{IsShapeOf}
 use Rattle.object_graph.specs.Paths.{path_of, with_path, missing, may_have}
 use Rattle.object_graph.specs.Objects.{revalued}
@@ -16,6 +16,7 @@ use Rattle.heap_model.specs.Heaps.{Heap, words_of_cell}
 use Rattle.heap_model.specs.Needs.{capacity_at}
 use Rattle.heap_model.specs.Rooms.{on_found, field_need, set_need, set_need_by, set_capacity, set_capacity_by}
 use Rattle.heap_model.proofs.CellsApart.{first_of_cell, has_is_cell}
+use Rattle.heap_model.proofs.CellOutcomes.{object_is_no_filler}
 use Rattle.write_barrier.specs.MutatorState.{Mutator, heap_of, with_word}
 use Rattle.object_cells.specs.declared.content.SlotContent.{SlotContent}
 use Rattle.object_cells.specs.declared.content.SlotWrite.{SlotWrite}
@@ -28,7 +29,8 @@ use Rattle.object_cells.proofs.NothingUsed.{room_for_none}
 use Rattle.object_cells.proofs.OneWord.{IsReady}
 use Rattle.object_cells.proofs.OwnCells.{cell_below_layouts}
 use Rattle.object_cells.proofs.PlainFields.{plain_sound, names_distinct}
-use Rattle.object_cells.proofs.UnusedWords.{cell_is_used, next_before_segments}
+use Rattle.object_cells.proofs.UnusedWords.{next_run, run_beside}
+use Rattle.object_cells.proofs.OwnPlaces.{plain_is_object}
 use Rattle.object_cells.proofs.WordsPut.{HasHead}
 use Rattle.object_cells.proofs.TouchedFields.{TouchesObject, object_free}
 use Rattle.shape_change.specs.declared.slots.Place.{Place}
@@ -71,7 +73,7 @@ head_rest before old new object head (inr is) = (
   ap (λ (main : Mutator). main.paths) is,
 )
 
--- so many words of eden more are used
+-- so many words were taken
 uses_more : {old mid new : Mutator} {need : ℕ} (object head at : ℕ) (filling : SlotWrite) → IsReady old mid need
     → RestStays old.seat new.seat → HasHead mid (filled mid at filling) new object head → new.free ≡ old.free
     → UsesMore old new need
@@ -112,10 +114,9 @@ module _ {old : Mutator} {graph : Graph} {object slot : ℕ} {plain : PlainObjec
   head_was {mid} {need} ready =
       let whole = s.shows.shows.whole in
       let first = first_of_cell s.has in
-      let used : mid.young.used ≡ old.young.used + need = ap (λ (y : Young). y.used) ready.young in
-      ready.stay s.cell.at (cell_below_layouts whole s.has first) (λ is_new.
-      cell_is_used whole.rows s.has first is_new.from
-      (omega (arith, is_new.below, used, next_before_segments old need s.shows.tied ready.room)))
+      let run = next_run old need s.shows.tied whole.rows ready.room in
+      ready.stay s.cell.at (cell_below_layouts whole s.has first)
+      (run_beside s.cell.at run (object_is_no_filler s.cell.layout.kind (plain_is_object s.shown.of_kind)) s.has first)
       ∙ (has_is_cell s.has).reads.first
 
   -- where the representation stays, the shape does

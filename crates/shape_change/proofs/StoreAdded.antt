@@ -1,5 +1,5 @@
 -- A field that comes to a slot that the property store has is shown, in a box where it needs one.
-use Rattle.std.proofs.Common.{◌≡◌, ◌≢◌, ℕ, ◌+◌, ◌≤◌, ◌<◌, false, List, ◌∷◌, length, sym}
+use Rattle.std.proofs.Common.{◌≡◌, ℕ, ◌+◌, ◌≤◌, ◌<◌, false, List, ◌∷◌, length, sym}
 use Rattle.std.proofs.Common.{◌∙◌, ap, subst, arith, inl, inr, nat_lt, slice_get, Some, Contains}
 use Rattle.std.specs.Prelude.{ℤ, slice_set}
 use Rattle.std.proofs.lemmas.Bool.{false≢true}
@@ -10,11 +10,13 @@ use Rattle.tagged_word.specs.Cells.{store_head, store_slot}
 use Rattle.object_graph.specs.Values.{rep_of}
 use Rattle.object_graph.specs.Objects.{with_field}
 use Rattle.object_graph.specs.Graphs.{Graph, PlainObject}
-use Rattle.page_space.specs.Extents.{Space, eden_start, segments_start, marks_start}
+use Rattle.page_space.specs.Extents.{Space, marks_start}
 use Rattle.shape_tree.specs.Shapes.{shape_path}
+use Rattle.cell_layout.specs.Cells.{IsRow}
 use Rattle.heap_table.specs.Seats.{heap_words}
 use Rattle.heap_model.specs.Heaps.{HasCell, words_of_cell}
 use Rattle.heap_model.specs.Showing.{ShowsField}
+use Rattle.heap_model.proofs.CellOutcomes.{object_is_no_filler}
 use Rattle.heap_model.proofs.CellsApart.{IsOfCell, first_of_cell}
 use Rattle.write_barrier.specs.MutatorState.{Mutator, heap_of}
 use Rattle.write_barrier.specs.Recording.{touched_one, touched_then}
@@ -39,22 +41,24 @@ use Rattle.object_cells.specs.Capacities.{ChangesObject}
 use Rattle.object_cells.proofs.OwnCapacities.{one_keeps}
 use Rattle.object_cells.proofs.OwnSteps.{written_places_stay}
 use Rattle.object_cells.proofs.OwnerWrites.{plain_owns}
-use Rattle.object_cells.proofs.UnusedWords.{next_before_marks, next_before_segments, cell_is_used}
+use Rattle.object_cells.proofs.RunCells.{AreOfRegion}
+use Rattle.object_cells.proofs.UnusedWords.{IsUnusedRun, next_before_marks, next_run, run_beside}
 use Rattle.object_cells.proofs.HeldNeeds.{new_value_held}
 use Rattle.shape_change.proofs.AddedContents.{content_shows}
 use Rattle.object_cells.specs.SlotChanges.{HasTagged}
 use Rattle.object_cells.proofs.ContentValues.{content_comes, is_made_box}
 use Rattle.shape_change.proofs.AddedFields.{new_field}
-use Rattle.shape_change.proofs.AddedWords.{PutsOver, over_last, over_sized, over_space, last_stays}
+use Rattle.shape_change.proofs.AddedWords.{PutsOver, over_last, over_sized, over_space, over_run, last_stays}
 use Rattle.shape_change.proofs.AddedShown.{Adding, added_shows}
 use Rattle.object_cells.proofs.MadeBoxes.{made_boxes, BoxStands, made_row, made_box, boxed_integer, refers_to_made}
 use Rattle.object_cells.proofs.MadeBoxes.{made_boxed}
 use Rattle.object_cells.proofs.MadeBoxes.{made_sound, length-with_content, with_content_stays, put_box}
 use Rattle.object_cells.proofs.NewBoxes.{box_cell}
-use Rattle.object_cells.proofs.FittingCells.{content_kept}
-use Rattle.object_cells.proofs.TouchedCells.{young_then}
-use Rattle.object_cells.proofs.TouchedFields.{TouchesObject, object_alike}
+use Rattle.object_cells.proofs.OwnPlaces.{plain_is_object}
+use Rattle.object_cells.proofs.TouchedCells.{IsBeside}
+use Rattle.object_cells.proofs.TouchedFields.{TouchesObject}
 use Rattle.shape_change.proofs.OneAdded.{one_adds}
+use Rattle.shape_change.proofs.RunTouches.{TouchesWith, numbered_beside, touches_box}
 use Rattle.shape_change.proofs.OneAdding.{OneAdding, one_adding}
 use Rattle.shape_change.proofs.AddedTouches.{path_touches, one_remembered}
 
@@ -131,18 +135,23 @@ module _ {old new : Mutator} {graph : Graph} {plain : PlainObject} {object : ℕ
       (cell_below_layouts whole known.has (first_of_cell known.has))
       (cell_below_layouts whole there.found.refers.has of_store)
 
-  -- no address of a cell is one of the words that are reserved
-  apart_from_run : {cell : Cell} {words : List ℕ} (a b : ℕ) → HasCell (heap_of old) cell words → IsOfCell cell a
-      → next_at old ≤ b → b < next_at old + content_need (store_content value) → b ≢ a
-  apart_from_run a b has of_cell from below same =
-      cell_is_used adding.known.shows.shows.whole.rows has of_cell (omega (arith, from, same))
-      (omega (
-        arith,
-        below,
-        same,
-        next_before_segments old (content_need (store_content value)) adding.known.can.tied
-            adding.adds.room,
-      ))
+  -- the words that are reserved
+  run : IsUnusedRun (heap_of old) (next_at old) (content_need (store_content value))
+  run =
+      next_run old (content_need (store_content value)) adding.known.can.tied adding.known.shows.shows.whole.rows
+      adding.adds.room
+
+  -- no word of the object or of its store is one of them
+  apart_from_object : (at : ℕ) → IsOfCell adding.known.cell at
+      → IsBeside (next_at old) (next_at old + content_need (store_content value)) at
+  apart_from_object at of_cell =
+      let known = adding.known in
+      run_beside at run (object_is_no_filler known.cell.layout.kind (plain_is_object known.shown.of_kind)) known.has
+      of_cell
+
+  apart_from_store : IsBeside (next_at old) (next_at old + content_need (store_content value))
+      (store_place old header store)
+  apart_from_store = numbered_beside run adding.known.has adding.known.shown.of_kind numbered
 
   -- a word of a box that is made stands in the new heap
   run_word : (b : ℕ) → next_at old ≤ b → b < next_at old + content_need (store_content value)
@@ -153,28 +162,32 @@ module _ {old new : Mutator} {graph : Graph} {plain : PlainObject} {object : ℕ
       ap (λ all. slice_get all b) adds.words.heap
       ∙ last_stays (boxed_words old adds.mid value) (store_place old header store) (store_word old value) object header
       adds.next b
-      (λ same. apart_from_run known.cell.at b known.has (first_of_cell known.has) from below (same ∙ sym known.stands))
-      (apart_from_run (store_place old header store) b there.found.refers.has of_store from below)
+      (λ same. apart_from_object known.cell.at (first_of_cell known.has) (omega (arith, from, same, known.stands))
+      (omega (arith, below, same, known.stands)))
+      (λ same. apart_from_store (omega (arith, from, same)) (omega (arith, below, same)))
 
   -- the box stands there
   box_stands : BoxStands (heap_of new) (store_content value) (next_at old)
   box_stands =
       let adds = adding.adds in
       let space : new.seat.space ≡ old.seat.space = over_space over in
-      let ends = next_before_segments old (content_need (store_content value)) adding.known.can.tied adds.room in
       let count = adds.path.sized.words ∙ ap (λ (s : Space). marks_start s) adds.path.beside.space in
       let marks = next_before_marks old (content_need (store_content value)) adding.known.can.tied adds.room in
       put_box (heap_of new) (heap_words adds.mid.seat) (store_content value) (next_at old) (omega (arith, count, marks))
-      (omega (arith, ap (λ (s : Space). eden_start s) space))
-      (omega (arith, ends, ap (λ (s : Space). segments_start s) space)) run_word
+      (subst (λ (s : Space). AreOfRegion s (next_at old) (next_at old + content_need (store_content value))) (sym space)
+      run.region) run_word
+
+  -- it fills the words that are reserved
+  row : IsRow new.seat.space (heap_words new.seat) (next_at old)
+      (next_at old + content_need (store_content value)) (made_boxes (store_content value) (next_at old))
+  row = made_row (heap_of new) (store_content value) (next_at old) (over_sized over) box_stands
 
   -- so the field is added
   one : OneAdding (heap_of old) (heap_of new) adding.known.cell adding.adds.next (store_place old header store)
       (store_word old value) (made_boxes (store_content value) (next_at old)) plain.fields (new_field name what)
   one =
       let known = adding.known in
-      one_adding (made_boxes (store_content value) (next_at old)) known over
-      (made_row (heap_of new) (store_content value) (next_at old) (over_sized over) box_stands) numbered
+      one_adding (made_boxes (store_content value) (next_at old)) known over row numbered
       (omega (
         arith,
         known.count,
@@ -194,27 +207,26 @@ module _ {old new : Mutator} {graph : Graph} {plain : PlainObject} {object : ℕ
       one.adds.puts.cells.comes cell
       (Contains-append_right came (made_boxes (store_content value) (next_at old)) cell there)
 
-  -- of pages only the slot and the header were touched
-  touches : TouchesObject old new adding.known.cell.at
+  -- the words of the box, the slot and the header were touched
+  touches : TouchesWith old new adding.known.cell (made_boxes (store_content value) (next_at old))
       (touched_one (field_touch (nat_lt (length plain.fields) adding.known.cell.layout.cap)
       (Some (record { name = name; rep = rep_of what }))) (store_place old header store))
   touches =
       let known = adding.known in
-      let eden : ℕ = old.recorded.bound in
       let place : ℕ = store_place old header store in
       let slot : ℕ = length plain.fields in
       let from : known.cell.layout.cap ≤ slot = omega (arith, known.count, known.cap, adding.behind) in
       let test : nat_lt slot known.cell.layout.cap ≡ false = grind (arith, nat_tests) in
-      let boxed = content_touch (store_content value) (next_at old) in
-      let put = touched_one Touch.Stored place in
-      let all : TouchesObject old new object (touched_then boxed put) =
+      let made = made_boxes (store_content value) (next_at old) in
+      let all : TouchesObject old new object
+      (touched_then (content_touch (store_content value) (next_at old)) (touched_one Touch.Stored place)) =
       path_touches (content_need (store_content value)) adding.adds.path known.shows.bounded adding.adds.touches in
-      let one : TouchesObject old new object put =
-      object_alike (young_then eden boxed put (λ at below.
-      content_kept (store_content value) eden (next_at old) at (omega (arith, known.shows.bounded)) below)) all in
-      subst (λ o. TouchesObject old new known.cell.at
-      (touched_one (field_touch o (Some (record { name = name; rep = rep_of what }))) place)) (sym test)
-      (subst (λ a. TouchesObject old new a put) (sym known.stands) one)
+      let one : TouchesWith old new known.cell made (touched_one Touch.Stored place) =
+      touches_box Touch.Stored (store_content value) (over_run over) row (subst (λ a. TouchesObject old new a
+      (touched_then (content_touch (store_content value) (next_at old)) (touched_one Touch.Stored place)))
+      (sym known.stands) all) apart_from_object apart_from_store in
+      subst (λ o. TouchesWith old new known.cell made
+      (touched_one (field_touch o (Some (record { name = name; rep = rep_of what }))) place)) (sym test) one
 
   -- and the graph is shown in which the object has the field
   pub store_shown : ShowsRefilled new graph plain (with_field plain.fields name what)
@@ -234,7 +246,7 @@ module _ {old new : Mutator} {graph : Graph} {plain : PlainObject} {object : ℕ
       (made_has (box_cell box) (made_box holds_all box v boxed)) in
       let shows : ShowsField (heap_of new) false word (rep_of what) what =
       content_shows count box holds places known.fits refers in
-      added_shows (content_need holds_all) known over.adds over.puts one.writes
+      added_shows (content_need holds_all) known over.room over.adds over.puts row one.writes
       (one_adds one.adds (subst (λ o. ShowsField (heap_of new) o word (rep_of what) what) (sym test) shows)
       (λ tagged. content_comes (HasTagged known.cell one.adds.sound.slots) (made_boxes holds_all box) slot slot box
       holds places (λ is_own wide. false≢true is_own) (λ v boxed. is_made_box box (made_box holds_all box v boxed)))

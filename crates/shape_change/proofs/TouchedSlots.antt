@@ -32,8 +32,9 @@ use Rattle.object_cells.proofs.OneField.{SetsOne}
 use Rattle.object_cells.proofs.PlainFields.{plain_sound}
 use Rattle.object_cells.proofs.TouchedFields.{Refields, refields, own_of_cell, own_stored, own_wiped}
 use Rattle.object_cells.proofs.TouchedFields.{beside_fits, box_fits}
-use Rattle.object_cells.proofs.TouchedFields.{store_slot_fits, TouchesObject, fields_remembered}
+use Rattle.object_cells.proofs.TouchedFields.{store_slot_fits}
 use Rattle.shape_change.specs.Shifts.{rep_touch, field_touch}
+use Rattle.shape_change.proofs.RunTouches.{TouchesWith, fields_with_remembered}
 use Rattle.shape_change.proofs.SlotTouches.{field_is_touched}
 
 -- the slot of a field that is not wide is touched by a slot's word
@@ -134,8 +135,8 @@ pub slot_remembered : {old new : Mutator} {cell : Cell} {next : ℕ} {others mad
     → IsNumbered (heap_of old) cell (words_of_cell (heap_of old) cell) slot at
     → IsSlotPlace (heap_of old) cell store at others → slice_get after.fields slot ≡ Some field
     → ((number : ℕ) → number ≢ slot → AreAlike before after number)
-    → TouchesObject old new cell.at (touched_one (field_touch (nat_lt slot cell.layout.cap) (Some field)) at)
-    → Remembers old new (cell ∷ others) (reshaped new.paths cell next ∷ others)
+    → TouchesWith old new cell made (touched_one (field_touch (nat_lt slot cell.layout.cap) (Some field)) at)
+    → Remembers old new (cell ∷ others) (reshaped new.paths cell next ∷ others) made
 slot_remembered {old} {new} {cell} {next} {others} {slot = slot} {at} field r whole plain numbered place there alike
     touches =
     let own : Bool = nat_lt slot cell.layout.cap in
@@ -143,8 +144,8 @@ slot_remembered {old} {new} {cell} {next} {others} {slot = slot} {at} field r wh
     let came : List Cell = reshaped new.paths cell next ∷ others in
     let fits = numbered_fits r field whole plain numbered place there in
     let cap = ap (λ (layout : LayoutWord). layout.cap) r.was in
-    fields_remembered (touched_one how at) r touches (λ a below. fits_one (cell ∷ others) came how at a fits)
-    (λ number few below kept. elim (cases_eq number slot) [
+    fields_with_remembered r touches (λ a. fits_one (cell ∷ others) came how at a fits)
+    (λ number few kept. elim (cases_eq number slot) [
       | inl same ↦
           let place_at : ℕ = cell.at + (plain_head + number) in
           let of_slot : IsNumbered (heap_of old) cell (words_of_cell (heap_of old) cell) slot place_at =
@@ -160,19 +161,19 @@ word_remembered : {old new : Mutator} {cell : Cell} {next : ℕ} {others made : 
     (how : Touch) (at : ℕ) (r : Refields (heap_of old) (heap_of new) cell next others made before after)
     → FitsTouch (cell ∷ others) (reshaped new.paths cell next ∷ others) at how
     → ((number : ℕ) → number < before.cap → AreAlike before after number)
-    → TouchesObject old new cell.at (touched_one how at)
-    → Remembers old new (cell ∷ others) (reshaped new.paths cell next ∷ others)
+    → TouchesWith old new cell made (touched_one how at)
+    → Remembers old new (cell ∷ others) (reshaped new.paths cell next ∷ others) made
 word_remembered {new = new} {cell} {next} {others} how at r fits alike touches =
-    fields_remembered (touched_one how at) r touches
-    (λ a below. fits_one (cell ∷ others) (reshaped new.paths cell next ∷ others) how at a fits)
-    (λ number few below kept. alike number few)
+    fields_with_remembered r touches
+    (λ a. fits_one (cell ∷ others) (reshaped new.paths cell next ∷ others) how at a fits)
+    (λ number few kept. alike number few)
 
 -- so it is where the integer of a box was put
 pub box_remembered : {old new : Mutator} {cell : Cell} {next : ℕ} {made : List Cell} {before after : Path} (box : Cell)
     (r : Refields (heap_of old) (heap_of new) cell next (box ∷ []) made before after) → box.layout.kind ≡ kind.Boxed
     → ((number : ℕ) → number < before.cap → AreAlike before after number)
-    → TouchesObject old new cell.at (touched_one Touch.Wiped (box.at + 1))
-    → Remembers old new (cell ∷ box ∷ []) (reshaped new.paths cell next ∷ box ∷ [])
+    → TouchesWith old new cell made (touched_one Touch.Wiped (box.at + 1))
+    → Remembers old new (cell ∷ box ∷ []) (reshaped new.paths cell next ∷ box ∷ []) made
 box_remembered box r of_kind alike touches =
     word_remembered Touch.Wiped (box.at + 1) r (box_fits r box (first_in box []) of_kind) alike touches
 
@@ -180,7 +181,7 @@ box_remembered box r of_kind alike touches =
 pub store_remembered : {old new : Mutator} {cell : Cell} {next : ℕ} {others made : List Cell} {before after : Path}
     (r : Refields (heap_of old) (heap_of new) cell next others made before after)
     → ((number : ℕ) → number < before.cap → AreAlike before after number)
-    → TouchesObject old new cell.at (touched_one Touch.Stored (cell.at + store_slot))
-    → Remembers old new (cell ∷ others) (reshaped new.paths cell next ∷ others)
+    → TouchesWith old new cell made (touched_one Touch.Stored (cell.at + store_slot))
+    → Remembers old new (cell ∷ others) (reshaped new.paths cell next ∷ others) made
 store_remembered {cell = cell} r alike touches =
     word_remembered Touch.Stored (cell.at + store_slot) r (store_slot_fits r) alike touches

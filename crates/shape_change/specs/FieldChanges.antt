@@ -54,7 +54,8 @@ SetsField old new graph at plain name value (Err (stop.ShapesFull full)) =
     (LacksFields plain name → ⊥) × IsFullOfPaths graph plain (with_field plain.fields name value) full × (new ≡ old)
 SetsField old new graph at plain name value (Err (stop.Full room)) =
     (LacksFields plain name → ⊥) × (LacksPaths graph plain (with_field plain.fields name value) → ⊥)
-    × (room.need ≡ set_need (capacity_at (heap_of old) at) plain name value) × (HasRoom old.young room.need → ⊥) × (new ≡ old)
+    × (room.need ≡ set_need (capacity_at (heap_of old) at) plain name value) × (HasRoom old.young room.need → ⊥)
+    × (new ≡ old)
 
 -- How a field is taken out: the heap shows the graph in which the object lacks it, and nothing changes where it lacked
 -- it before. Only words of the object change, and each property store stays.

@@ -13,6 +13,8 @@ mod heaps;
 #[cfg(test)]
 mod kinds;
 #[cfg(test)]
+mod lists;
+#[cfg(test)]
 mod loads;
 #[cfg(test)]
 mod places;

@@ -34,6 +34,72 @@ fn eden_fills_to_its_last_word_and_survivors_change_halves(rt: HostRuntime) {
 }
 
 #[test]
+fn cells_are_made_in_what_is_granted_until_it_is_used_up(rt: HostRuntime) {
+    // Eden begins behind one page of 2,048 words, and has 64.
+    let sizes = Sizes {
+        pages: 1,
+        young: 64,
+        helpers: 0,
+    };
+    let mut nursery = Nursery::new(&Regions::new(sizes, 1));
+    assert!(rt; nursery.granted().words == 0);
+    assert!(rt; nursery.bump(60) == Some(2_048));
+    // A run that ends with the page. Eden has only 4 words more, and the run has 9.
+    nursery.grant(Run {
+        at: 2_039,
+        words: 9,
+    });
+    assert!(rt; nursery.has_room(9) && !nursery.has_room(10));
+    assert!(rt; nursery.bump(10).is_none());
+    assert!(rt; nursery.bump(4) == Some(2_039));
+    assert!(rt;
+        nursery.granted()
+            == Run {
+                at: 2_043,
+                words: 5
+            }
+    );
+    // What is left is a word short, and stays.
+    assert!(rt; nursery.bump(6).is_none());
+    assert!(rt;
+        nursery.granted()
+            == Run {
+                at: 2_043,
+                words: 5
+            }
+    );
+    assert!(rt; nursery.used() == 60);
+    // It is exactly as long, and then cells are made in eden again.
+    assert!(rt; nursery.bump(5) == Some(2_043));
+    assert!(rt; nursery.granted().words == 0);
+    assert!(rt; !nursery.has_room(5));
+    assert!(rt; nursery.bump(4) == Some(2_108));
+    assert!(rt; nursery.used() == 64);
+}
+
+#[test]
+fn a_turn_drops_what_was_granted(rt: HostRuntime) {
+    // Eden begins behind one page of 2,048 words, and has 64.
+    let sizes = Sizes {
+        pages: 1,
+        young: 64,
+        helpers: 0,
+    };
+    let mut nursery = Nursery::new(&Regions::new(sizes, 1));
+    nursery.grant(Run { at: 0, words: 100 });
+    assert!(rt; nursery.bump(70) == Some(0));
+    nursery.turn(10);
+    assert!(rt; nursery.granted().words == 0);
+    assert!(rt; nursery.half() == 1 && nursery.used() == 0 && nursery.survivors() == 10);
+    assert!(rt; nursery.bump(30) == Some(2_048));
+    // A run in place of another.
+    nursery.grant(Run { at: 7, words: 3 });
+    nursery.grant(Run { at: 20, words: 2 });
+    assert!(rt; nursery.bump(3).is_none());
+    assert!(rt; nursery.bump(2) == Some(20));
+}
+
+#[test]
 fn slots_are_found_in_order_until_they_are_forgotten(rt: HostRuntime) -> Result<(), Fail> {
     let mut set = Remembered::new(rt.alloc(), 2)?;
     assert!(rt; set.next(0).is_none());

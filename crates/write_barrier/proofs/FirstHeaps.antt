@@ -32,7 +32,7 @@ use Rattle.heap_model.specs.Remembered.{IsSlotOf, AreRemembered}
 use Rattle.heap_model.proofs.StaysCollectable.{half_behind}
 use Rattle.heap_model.specs.Showing.{Shows, ShowsHeld}
 use Rattle.heap_model.specs.Showing.ShowsHeld.{unbound}
-use Rattle.write_barrier.specs.MutatorState.{Mutator, MainShows, IsOpened, heap_of}
+use Rattle.write_barrier.specs.MutatorState.{Mutator, IsTied, MainShows, IsOpened, heap_of}
 use Rattle.write_barrier.specs.Opening.{IsStarted}
 use Rattle.write_barrier.proofs.FirstCells.{page_gap, first_row, first_end, first_row_stands, has_gaps}
 use Rattle.write_barrier.proofs.FirstCells.{begins_below_eden}
@@ -164,17 +164,29 @@ first_are_remembered main is at = (
       absurd (gap_no_slot slot.cell gap.0 at gap.1 slot.slot),
 )
 
+-- nothing is granted
+nothing_granted : (main : Mutator) → IsStarted main → main.young.granted.words ≡ 0
+nothing_granted main is = ap (λ (young : Young). young.granted.words) is.young
+
+-- the parts agree
+first_is_tied : (main : Mutator) → IsStarted main → IsTied main
+first_is_tied main is = record {
+  space = ap (λ (young : Young). young.space) is.young;
+  granted = λ some. absurd (omega (arith, some, nothing_granted main is));
+}
+
 -- a heap that was just opened
 pub started_shows : (main : Mutator) → IsStarted main → MainShows main start × IsOpened main
 started_shows main is = (
   record {
-    tied = ap (λ (young : Young). young.space) is.young;
+    tied = first_is_tied main is;
     is_graph = start_is;
     quiet = is.beside.phase;
     shows = first_shows main is;
     counts = λ number at entries there marked place. absurd (none-some (Weak entries) there);
     collectable = first_is_collectable main (other_half main.young.half) is;
     free = first_are_free main is;
+    apart = λ row run there among begins ends. absurd (omega (arith, begins, ends, nothing_granted main is));
     bounded = ap (λ (recorded : Recorded). recorded.bound) is.recorded;
     remembered = first_are_remembered main is;
   },

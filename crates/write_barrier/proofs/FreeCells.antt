@@ -182,7 +182,7 @@ shapes_have_free space words paths say = record {
 }
 
 -- a filler stands where its header does
-filler_there : (space : Space) (words : List ℕ) (at end : ℕ) → HasFreeLayouts space words → CellsEndAt space at end
+pub filler_there : (space : Space) (words : List ℕ) (at end : ℕ) → HasFreeLayouts space words → CellsEndAt space at end
     → at + 1 ≤ end → at + 1 ≤ length words → slice_get words at ≡ Some (header_bits filler_header)
     → IsCell space words (free_cell_by true at 1)
 filler_there space words at end has stands within long header = record {

@@ -13,3 +13,6 @@ pub mod Recording
 pub mod WipedAgain
 pub mod FreeCells
 pub mod ShownHeld
+pub mod PutRanges
+pub mod StretchTouches
+pub mod StoredRanges

@@ -1,9 +1,10 @@
 -- Where runs, layout words and root words stand among the words before the marks.
 use Rattle.std.proofs.Common.{◌≡◌, ◌∙◌, ℕ, ◌+◌, ◌<◌, ◌≤◌, length, refl, sym, ap, subst, arith}
 use Rattle.std.proofs.Common.{length-set}
-use Rattle.page_space.specs.Extents.{Space, eden_start, layouts_start, marks_start, words_count}
+use Rattle.page_space.specs.Extents.{Space, eden_start, segments_start, layouts_start, marks_start, words_count}
+use Rattle.std.proofs.lemmas.Bool.Decides.{nat_tests}
 use Rattle.page_space.proofs.Starts.{roots_start_is, layouts_start_is, marks_start_is, board_start_is, words_count_is}
-use Rattle.nursery.specs.Young.{Young, HasRoom}
+use Rattle.nursery.specs.Young.{Young, IsYoung, HasRoom, next_of}
 use Rattle.shape_tree.specs.Shapes.{AreShapes}
 use Rattle.shape_tree.specs.ShapeLayouts.{IsInUse}
 use Rattle.heap_model.specs.Types.{Path, Held}
@@ -14,15 +15,29 @@ use Rattle.heap_table.specs.Seats.{Seat, heap_words}
 use Rattle.heap_table.proofs.HeapWords.{slice_get-heap_words, heap_words-put}
 use Rattle.write_barrier.specs.MutatorState.{IsNextRun}
 
--- words that eden has room for end in eden, so before the marks
-pub next_run : (young : Young) (n at : ℕ) → at ≡ eden_start young.space + young.used → HasRoom young n
-    → IsNextRun young.space young.used n (record { at = at; words = n })
-next_run young n at is room = record {
-  at = is;
-  words = refl;
-  in_eden = omega arith;
-  before_marks = omega (arith, roots_start_is young.space, layouts_start_is young.space, marks_start_is young.space);
-}
+-- words that there is room for end before the segments, so before the marks
+pub next_run : (young : Young) (n at : ℕ) → IsYoung young → at ≡ next_of young → HasRoom young n
+    → IsNextRun young n (record { at = at; words = n })
+next_run young n at is_young is room =
+    let in_cells : at + n ≤ segments_start young.space =
+    grind (arith, nat_tests, is_young.granted, is_young.fits, is, room) in
+    record {
+      at = is;
+      words = refl;
+      in_cells = in_cells;
+      before_marks = omega (
+        arith,
+        in_cells,
+        roots_start_is young.space,
+        layouts_start_is young.space,
+        marks_start_is young.space,
+      );
+    }
+
+-- what ends where eden begins, or before, ends before the marks
+pub page_run : (space : Space) (end : ℕ) → end ≤ eden_start space → end ≤ marks_start space
+page_run space end below =
+    omega (arith, below, roots_start_is space, layouts_start_is space, marks_start_is space)
 
 -- the layout word of a shape in use stands before the marks
 pub layout_before_marks : (space : Space) (paths : List Path) (shape : ℕ) → AreShapes paths → IsInUse paths shape

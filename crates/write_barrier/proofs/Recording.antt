@@ -10,17 +10,17 @@ use Rattle.remembered_set.specs.Recorded.{Recorded, IsBetween}
 use Rattle.heap_table.specs.Seats.{heap_words}
 use Rattle.heap_table.proofs.HeapWords.{heap_words-put}
 use Rattle.heap_model.specs.Types.{Cell}
-use Rattle.heap_model.specs.Wholeness.{Whole}
+use Rattle.heap_model.specs.Wholeness.{HasRows, Whole}
 use Rattle.heap_model.specs.Changes.{CellsChange}
 use Rattle.heap_model.specs.Remembered.{RefersToYoung, AreRemembered, Touch, IsRecordedBy, Records}
 use Rattle.heap_model.proofs.RememberedStays.{changes_stay_remembered}
 use Rattle.write_barrier.specs.MutatorState.{Mutator, heap_of, put_word, wiped, forgets, is_young}
-use Rattle.write_barrier.specs.MutatorState.{with_word, with_slot, with_table}
+use Rattle.write_barrier.specs.MutatorState.{with_word, with_slot, with_table, judged}
 use Rattle.write_barrier.specs.Recording.{Touches, untouched, touched, touched_one, touched_again, touched_then}
 use Rattle.write_barrier.specs.Recording.{Remembers}
 use Rattle.write_barrier.proofs.JudgedSlots.{wiped_behind, wiped_bound, wiped_was, wiped_none, wiped_others}
 use Rattle.write_barrier.proofs.TouchedRanges.{touched_inside, touched_outside, touched_here, touched_other}
-use Rattle.write_barrier.proofs.JudgedSlots.{told_young, young_there, judges_one, judged_behind}
+use Rattle.write_barrier.proofs.JudgedSlots.{JudgesOne, told_young, young_there, judges_one, judged_behind}
 
 -- where words of pages, their free runs and the record are the same, nothing was touched
 pub same_touch : (old new : Mutator) → new.free ≡ old.free → new.recorded ≡ old.recorded
@@ -210,7 +210,7 @@ young_slot main at word behind =
     (judged_behind main.recorded at word behind)
 
 -- the word that a slot has now refers to a young cell exactly where the test says so
-refers_as_told : (eden at word : ℕ) (words : List ℕ) → slice_get words at ≡ Some word
+pub refers_as_told : (eden at word : ℕ) (words : List ℕ) → slice_get words at ≡ Some word
     → (is_young eden (reference_in word) ≡ true) ↔ RefersToYoung eden words at
 refers_as_told eden at word words stands = (
   λ young.
@@ -228,37 +228,45 @@ refers_as_told eden at word words stands = (
       (told_young eden (reference_in word) refers.cell found).1 refers.young,
 )
 
--- the word of a slot of a page is stored there
-page_slot_touch : (main : Mutator) (at word : ℕ) → length (heap_words main.seat) ≡ marks_start main.seat.space
-    → at < marks_start main.seat.space → at < main.recorded.bound
-    → Touches main (with_slot main at word) (touched_one Touch.Stored at)
-page_slot_touch main at word counted before of_page =
-    let new : Mutator = with_slot main at word in
+-- where the word at an address of a page was judged, and no other word has changed, it was stored there
+pub judged_touch : (main new : Mutator) (at word : ℕ) → at < main.recorded.bound → new.free ≡ main.free
+    → new.recorded ≡ judged main.recorded at word → slice_get (heap_words new.seat) at ≡ Some word
+    → ((other : ℕ) → other ≢ at → slice_get (heap_words new.seat) other ≡ slice_get (heap_words main.seat) other)
+    → Touches main new (touched_one Touch.Stored at)
+judged_touch main new at word of_page free is stands others =
     let eden = main.recorded.bound in
-    let judges = judges_one main.recorded at word of_page in
+    let judges = subst (λ (one : Recorded). JudgesOne main.recorded one at
+    (is_young eden (reference_in word) ≡ true)) (sym is) (judges_one main.recorded at word of_page) in
     let By : ℕ → Touch → Type 0 = λ other touch. IsRecordedBy eden (heap_words main.seat) (heap_words new.seat)
     main.recorded.slots new.recorded.slots other touch in
-    let stands : slice_get (heap_words new.seat) at ≡ Some word =
-    ap (λ words. slice_get words at) (heap_words-put main.seat at word before)
-    ∙ slice_get-set_same (heap_words main.seat) at word (omega (arith, counted, before)) in
     let told = refers_as_told eden at word (heap_words new.seat) stands in
     let here : By at Touch.Stored =
     (λ there. told.0 (judges.here.0 there), λ refers. judges.here.1 (told.1 refers)) in
     record {
-      free = refl;
+      free = free;
       bound = judges.bound;
       records = record {
         each = λ other below. elim (cases_eq other at) [
           | inl same ↦ subst (λ (one : ℕ). By one (touched_one Touch.Stored at one)) (sym same)
               (subst (By at) (sym (touched_here Touch.Stored at)) here)
           | inr apart ↦ subst (By other) (sym (touched_other Touch.Stored at other apart))
-              (put_other main at word other before apart, judges.others other apart)
+              (others other apart, judges.others other apart)
         ];
         beyond = λ other behind there.
             let apart : other ≢ at = λ same. omega (arith, same, behind, of_page) in
             (judges.others other apart).0 there;
       };
     }
+
+-- the word of a slot of a page is stored there
+page_slot_touch : (main : Mutator) (at word : ℕ) → length (heap_words main.seat) ≡ marks_start main.seat.space
+    → at < marks_start main.seat.space → at < main.recorded.bound
+    → Touches main (with_slot main at word) (touched_one Touch.Stored at)
+page_slot_touch main at word counted before of_page =
+    judged_touch main (with_slot main at word) at word of_page refl refl
+    (ap (λ words. slice_get words at) (heap_words-put main.seat at word before)
+    ∙ slice_get-set_same (heap_words main.seat) at word (omega (arith, counted, before)))
+    (λ other apart. put_other main at word other before apart)
 
 -- the word of a slot is stored there
 pub slot_touch : (main : Mutator) (at word : ℕ) → length (heap_words main.seat) ≡ marks_start main.seat.space
@@ -271,13 +279,14 @@ slot_touch main at word counted before =
           (young_touch main at word behind before))
     ]
 
--- where a change of objects is remembered, recorded are the slots of pages that refer to young cells
-pub remembers_heap : (old new : Mutator) (gone came made : List Cell) → Remembers old new gone came → old.recorded.bound ≡ eden_start old.seat.space → Whole (heap_of old)
+-- where a change of cells is remembered, recorded are the slots of pages that refer to young cells
+pub remembers_heap : (old new : Mutator) (gone came made : List Cell) → Remembers old new gone came made
+    → old.recorded.bound ≡ eden_start old.seat.space → Whole (heap_of old) → HasRows (heap_of new)
     → CellsChange (heap_of old) (heap_of new) gone came made
     → AreRemembered (heap_of old) old.recorded.slots → AreRemembered (heap_of new) new.recorded.slots
-remembers_heap old new gone came made remembers bounded whole change were =
-    changes_stay_remembered (heap_of old) (heap_of new) gone came made old.recorded.slots new.recorded.slots remembers.touch whole
-    change
+remembers_heap old new gone came made remembers bounded whole rows change were =
+    changes_stay_remembered (heap_of old) (heap_of new) gone came made old.recorded.slots new.recorded.slots
+    remembers.touch whole rows change
     (subst (λ (eden : ℕ). Records eden (heap_words old.seat) (heap_words new.seat) old.recorded.slots
     new.recorded.slots remembers.touch) bounded remembers.touches.records)
     remembers.cells were

@@ -1,6 +1,6 @@
 -- The mutator's side of a heap as those above it see it.
 use Rattle.std.specs.Prelude.{◌≡◌, ℕ, ◌+◌, ◌*◌, ◌<◌, ◌≤◌, Bool, false, not, nat_lt, if◌then◌else◌}
-use Rattle.std.specs.Prelude.{List, [], Option, Some, None, slice_get, slice_set}
+use Rattle.std.specs.Prelude.{List, [], Contains, Option, Some, None, slice_get, slice_set}
 use Rattle.heap_model.specs.Types.{Path, Header, Run, Held}
 use Rattle.object_graph.specs.Graphs.{Graph}
 use Rattle.object_graph.specs.Invariants.{IsGraph}
@@ -11,7 +11,7 @@ use Rattle.tagged_word.specs.Cells.{length_offset}
 use Rattle.page_space.specs.Sizes.{page_words}
 use Rattle.page_space.specs.Extents.{Space, eden_start, segments_start, marks_start}
 use Rattle.handle_roots.specs.Roots.{with_root}
-use Rattle.nursery.specs.Young.{Young, new_young, other_half}
+use Rattle.nursery.specs.Young.{Young, new_young, next_of, bumped, other_half}
 use Rattle.free_runs.specs.FreeRuns.{whole_rows}
 use Rattle.remembered_set.specs.Recorded.{Recorded, noted, forgotten}
 use Rattle.heap_table.specs.declared.phase.Phase.TheVariants.{Quiet}
@@ -19,6 +19,7 @@ use Rattle.heap_table.specs.Seats.{Seat, RestStays, fresh, heap_words}
 use Rattle.heap_model.specs.Heaps.{Heap}
 use Rattle.heap_model.specs.Showing.{Shows}
 use Rattle.heap_model.specs.Counting.{CountsEntries}
+use Rattle.heap_model.specs.Changes.{AreFillers}
 use Rattle.heap_model.specs.Collectable.{IsCollectable, AreFreeRuns}
 use Rattle.heap_model.specs.Remembered.{AreRemembered}
 
@@ -40,13 +41,24 @@ heap_of main = record {
   words = heap_words main.seat;
 }
 
--- the seat and the nursery are of the same regions
-abbrev pub IsTied : Mutator → Type 0
-IsTied main = main.young.space ≡ main.seat.space
+-- each granted word is a filler of one page, where there are any
+abbrev pub AreGranted : Heap → Run → Type 0
+AreGranted heap run = 0 < run.words → AreFillers heap run.at (run.at + run.words)
+
+-- no free run begins in this run
+abbrev pub AvoidsFree : Run → List (List Run) → Type 0
+AvoidsFree run rows =
+    (row : List Run) (one : Run) → Contains rows row → Contains row one → run.at ≤ one.at
+    → one.at < run.at + run.words → ⊥
+
+-- the seat and the nursery are of the same regions, and what is granted are fillers
+pub record IsTied (main : Mutator) : Type 0 where
+  pub space : main.young.space ≡ main.seat.space
+  pub granted : AreGranted (heap_of main) main.young.granted
 
 -- The parts agree, only the mutator runs, and the heap shows the graph, which is one that a script makes. No entry of a
 -- weak map was cleared. A scavenge may come: the half that the survivors are not in is empty, each free run is one free
--- cell, and recorded are exactly the slots of pages that refer to young cells.
+-- cell, no such begins in what is granted, and recorded are exactly the slots of pages that refer to young cells.
 pub record MainShows (main : Mutator) (graph : Graph) : Type 0 where
   pub tied : IsTied main
   pub is_graph : IsGraph graph
@@ -55,6 +67,7 @@ pub record MainShows (main : Mutator) (graph : Graph) : Type 0 where
   pub counts : CountsEntries (heap_of main) graph
   pub collectable : IsCollectable (heap_of main) (other_half main.young.half)
   pub free : AreFreeRuns (heap_of main) main.free
+  pub apart : AvoidsFree main.young.granted main.free
   pub bounded : main.recorded.bound ≡ eden_start main.seat.space
   pub remembered : AreRemembered (heap_of main) main.recorded.slots
 
@@ -90,16 +103,16 @@ with_word main at word = put_word (forgets main at (at + 1)) at word
 abbrev pub with_slot : Mutator → ℕ → ℕ → Mutator
 with_slot main at word = put_word (record main { recorded = judged main.recorded at word }) at word
 
--- so many words more are used
+-- so many words more are used: of eden, or of what is granted
 abbrev pub reserved : Mutator → ℕ → Mutator
-reserved main more = record main { young = record main.young { used = main.young.used + more } }
+reserved main more = record main { young = bumped main.young more }
 
--- The run is the next so many words of eden: it stands behind the used ones, and ends in eden, so before the marks.
-pub record IsNextRun (space : Space) (used n : ℕ) (run : Run) : Type 0 where
-  pub at : run.at ≡ eden_start space + used
+-- The run is the next so many words in which cells are made: it ends before the segments, and before the marks.
+pub record IsNextRun (young : Young) (n : ℕ) (run : Run) : Type 0 where
+  pub at : run.at ≡ next_of young
   pub words : run.words ≡ n
-  pub in_eden : run.at + run.words ≤ segments_start space
-  pub before_marks : run.at + run.words ≤ marks_start space
+  pub in_cells : run.at + run.words ≤ segments_start young.space
+  pub before_marks : run.at + run.words ≤ marks_start young.space
 
 -- the table has other words
 abbrev pub with_table : Mutator → List ℕ → Mutator

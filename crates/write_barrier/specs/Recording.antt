@@ -1,11 +1,10 @@
 -- What becomes of the recorded addresses where the mutator puts words.
 use Rattle.std.specs.Prelude.{◌≡◌, ℕ, ◌+◌, if◌then◌else◌, List}
 use Rattle.remembered_set.specs.Recorded.{is_between}
-use Rattle.page_space.specs.Extents.{eden_start}
 use Rattle.heap_table.specs.Seats.{heap_words}
 use Rattle.heap_model.specs.Types.{Cell}
 use Rattle.heap_model.specs.Remembered.{Touch, Records, TouchesCells}
-use Rattle.write_barrier.specs.MutatorState.{Mutator}
+use Rattle.write_barrier.specs.MutatorState.{Mutator, heap_of}
 
 -- From one mutator to another each address of a page was touched so. There are as many pages, and their free runs are
 -- the same.
@@ -37,8 +36,9 @@ touched_again first Touch.Wiped = Touch.Wiped
 abbrev pub touched_then : (ℕ → Touch) → (ℕ → Touch) → ℕ → Touch
 touched_then first next at = touched_again (first at) (next at)
 
--- What was recorded follows a change of cells: touched were words of those that went and slots of those that came.
-pub record Remembers (old new : Mutator) (gone came : List Cell) : Type 0 where
+-- What was recorded follows a change of cells: words of those that went, of those that came in their place and of those
+-- that were made were touched so.
+pub record Remembers (old new : Mutator) (gone came made : List Cell) : Type 0 where
   pub touch : ℕ → Touch
   pub touches : Touches old new touch
-  pub cells : TouchesCells (eden_start old.seat.space) gone came touch
+  pub cells : TouchesCells (heap_of old) gone came made touch

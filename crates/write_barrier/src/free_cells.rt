@@ -16,7 +16,7 @@ use tagged_word::cell::LENGTH;
 use tagged_word::{Header, shape};
 
 /// The header of a filler.
-const FILLER: Header = Header {
+pub(crate) const FILLER: Header = Header {
     shape: shape::FILLER,
     object: 0,
 };

@@ -40,7 +40,7 @@ impl Main {
 
     /// Whether a word refers to a young cell.
     #[inline(always)]
-    fn is_young(&self, word: Word) -> bool
+    pub(crate) fn is_young(&self, word: Word) -> bool
         ensures { result ≡ is_young self.now.recorded.bound (reference_in word.0) }
     {
         match word.address() {
@@ -53,7 +53,7 @@ impl Main {
     /// where it does not.
     #[cold]
     #[inline(never)]
-    fn judge(&mut self, slot: u32, word: Word)
+    pub(crate) fn judge(&mut self, slot: u32, word: Word)
         requires of_page { slot < self.old.recorded.bound }
         requires few { slot + 1 < 2 ^ 32 }
         ensures { self.new ≡ record self.old { recorded = judged self.old.recorded slot word.0 } }

@@ -68,8 +68,8 @@ returns c =
     let at : ℕ = store.at + (2 + c.args.kept) in
     let same : store.at + 2 + c.args.kept ≡ at = omega arith in
     let all = covers_then at free counted
-    (subst (λ n. PutsWords c.write_slot-2.new.self new (with_free_cell (heap_words c.write_slot-2.new.self.seat) n free))
-    same (record {
+    (subst (λ n. PutsWords c.write_slot-2.new.self new
+    (with_free_cell (heap_words c.write_slot-2.new.self.seat) n free)) same (record {
       beside = c.put_free_cell.ensures.beside;
       paths = c.put_free_cell.ensures.paths;
       young = c.put_free_cell.ensures.young;

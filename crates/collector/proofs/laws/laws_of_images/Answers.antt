@@ -1,6 +1,7 @@
 use Rattle.collector.proofs.ImagesShow.{images_show, images_are_blank}
 use Rattle.collector.proofs.ImageStores.{images_keep_stores, images_have_rooms}
 use Rattle.collector.proofs.ImagesTight.{images_are_tight}
+use Rattle.collector.proofs.ImagesFree.{images_keep_free}
 use Rattle.collector.proofs.laws.laws_of_images.Goals as goal
 
 pub returns : goal.returns
@@ -10,4 +11,5 @@ returns c = record {
   stores = images_keep_stores;
   rooms = images_have_rooms;
   tight = images_are_tight;
+  free = images_keep_free;
 }

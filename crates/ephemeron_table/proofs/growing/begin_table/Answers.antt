@@ -1,7 +1,7 @@
--- The header and the capacity are put before the marks, and then the pairs are filled; nothing is recorded of any.
+-- The header and the capacity are put before the marks, and then holes are stored in the pairs.
 use Rattle.std.proofs.Common.{◌*◌}
 use Rattle.tagged_word.specs.Headers.{header_bits}
-use Rattle.object_cells.proofs.HeadedHoles.{PutsHeaded, headed_puts, headed_wiped}
+use Rattle.object_cells.proofs.HeadedHoles.{PutsHeaded, headed_puts, headed_touch}
 use Rattle.ephemeron_table.specs.Puttings.{table_header}
 use Rattle.ephemeron_table.proofs.growing.begin_table.Goals as goal
 
@@ -22,4 +22,4 @@ pub returns-clause-puts : goal.returns-clause-puts
 returns-clause-puts c = headed_puts (headed c)
 
 pub returns-clause-touches : goal.returns-clause-touches
-returns-clause-touches c = headed_wiped (headed c)
+returns-clause-touches c = headed_touch (headed c) c.fill_holes.ensures.touches

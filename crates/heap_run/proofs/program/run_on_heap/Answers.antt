@@ -6,6 +6,7 @@ use Rattle.write_barrier.specs.MutatorState.{heap_of}
 use Rattle.collector.proofs.ImagesShow.{images_show, images_are_blank}
 use Rattle.collector.proofs.ImageStores.{images_keep_stores, images_have_rooms}
 use Rattle.collector.proofs.ImagesTight.{images_are_tight}
+use Rattle.collector.proofs.ImagesFree.{images_keep_free}
 use Rattle.heap_run.proofs.Concluding.{IsKeepable, Runs-finished}
 use Rattle.heap_run.proofs.Imaged.{Laws, finishes_imaged}
 use Rattle.heap_run.proofs.program.run_on_heap.Goals as goal
@@ -25,6 +26,7 @@ returns g c = λ bytes is.
       stores = images_keep_stores;
       rooms = images_have_rooms;
       tight = images_are_tight;
+      free = images_keep_free;
     } in
     let finishes = finishes_imaged finished _ _ _ _ laws imaged ran.finishes in
     let keepable : IsKeepable space.sizes script image = record {

@@ -1,7 +1,8 @@
 use Rattle.std.proofs.Common.{◌≡◌, ◌∙◌, refl}
 use Rattle.mutator.specs.declared.stop.Stop.TheVariants.{NoRoom}
-use Rattle.heap_script.proofs.Retrying.{IsReady, ready_shows, ready_space, was_first, refused_always, unchanged_first}
-use Rattle.heap_script.proofs.Retrying.{scavenged_for, made_room, fewer_tries, gives_up, carried_at}
+use Rattle.heap_script.proofs.Retrying.{IsReady, ready_shows, ready_space, ready_spare, was_first}
+use Rattle.heap_script.proofs.Retrying.{refused_always, unchanged_first, scavenged_for, made_room, fewer_tries}
+use Rattle.heap_script.proofs.Retrying.{gives_up, carried_at}
 use Rattle.heap_script.proofs.execute.carry_out.Goals.{then-again-via-then-again}
 use Rattle.heap_script.proofs.execute.carry_out.Goals.{then-again-via-else-again+then-not-ensure_room}
 use Rattle.heap_script.proofs.execute.carry_out.Goals as goal
@@ -47,7 +48,7 @@ tries-preserved c =
     let scavenged = scavenged_for same one gone.scavenged gone.shows gone.rooms gone.spare in
     let (text, tries, out-is) = c.in-Err.ensures.carried graph (ready_shows now.ready shown) (now.objects ∙ made) in
     record {
-      ready = IsReady.again (made_room scavenged one.apart told (gone.room.0 c.if-not-ensure_room.false));
+      ready = IsReady.again (made_room scavenged one.apart told (gone.room c.if-not-ensure_room.false));
       objects = c.in-Err.ensures.uncounted refl ∙ now.objects;
       out = out-is ∙ now.out;
     }
@@ -70,9 +71,8 @@ returns-then-again-clause-carried c = λ graph shown made.
       | then-again-via-then-again w ↦ let none = first.1 in let some = w.if-again.true in absurd (cc)
       | then-again-via-else-again+then-not-ensure_room w ↦
           let gone = w.ensure_room.ensures in
-          let refused = w.if-not-ensure_room.true in
           let scavenged = scavenged_for same one gone.scavenged gone.shows gone.rooms gone.spare in
-          let kept = gives_up scavenged shown one tries c.in-NoRoom.is (λ has. let granted = gone.room.1 has in cc) in
+          let kept = gives_up scavenged shown one tries c.in-NoRoom.is (gone.full w.if-not-ensure_room.true) in
           (text, rw w.heap-is kept, out-is ∙ now.out)
     ]
 
@@ -91,3 +91,17 @@ returns-in_default-stop-clause-carried c = λ graph shown made.
           (λ need is. let same : c.in-Err.stop ≡ NoRoom need = cc in c.in_default-stop.not-NoRoom need same) tries,
       out-is ∙ now.out,
     )
+
+pub returns-in_default-clause-spare : goal.returns-in_default-clause-spare
+returns-in_default-clause-spare c = c.in_default.ensures.spare ∙ ready_spare c.tries.invariant.ready
+
+pub returns-in_default-stop-clause-spare : goal.returns-in_default-stop-clause-spare
+returns-in_default-stop-clause-spare c = c.in-Err.ensures.spare ∙ ready_spare c.tries.invariant.ready
+
+pub returns-then-again-clause-spare : goal.returns-then-again-clause-spare
+returns-then-again-clause-spare c =
+    let tried = c.in-Err.ensures.spare ∙ ready_spare c.tries.invariant.ready in
+    elim c.then-again.branch [
+      | then-again-via-then-again w ↦ rw w.heap-is tried
+      | then-again-via-else-again+then-not-ensure_room w ↦ rw w.heap-is (w.ensure_room.ensures.spare ∙ tried)
+    ]

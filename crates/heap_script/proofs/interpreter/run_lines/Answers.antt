@@ -5,6 +5,7 @@ use Rattle.object_graph.specs.Run.{lines_most}
 use Rattle.script_text.specs.Unrolled.{executed_lines}
 use Rattle.script_text.proofs.Left.{at_most_four}
 use Rattle.write_barrier.specs.MutatorState.{heap_of}
+use Rattle.heap_script.specs.Stages.{stage_of}
 use Rattle.heap_script.proofs.Ways.{goes_on, past_end}
 use Rattle.heap_script.specs.Runs.{OutputHolds, IsDue}
 use Rattle.heap_script.proofs.Handing.{CutsOff-handed}
@@ -47,8 +48,9 @@ returns-then-executed-eq-LINES_MOST-clause-pauses g c =
     record {
       reached = r.reached;
       spends = r.spends;
+      free = r.shown.main.free;
       halts = (
-        EndsRun-limit script (heap_of c.loop-at.heap.main) _ c.loop-at.executed line.number _ _ r.reached goes
+        EndsRun-limit script (stage_of c.loop-at.heap.main) _ c.loop-at.executed line.number _ _ r.reached goes
             c.if-executed-eq-LINES_MOST.true,
         r.handed,
         c.loop-at.invariant.steady,
@@ -71,8 +73,9 @@ returns-clause-pauses g c =
     record {
       reached = r.reached;
       spends = r.spends;
+      free = r.shown.main.free;
       halts = (
-        EndsRun-end c.args.script.now (heap_of c.loop-at.heap.main) c.loop-at.at c.loop-at.executed c.loop-at.turns
+        EndsRun-end c.args.script.now (stage_of c.loop-at.heap.main) c.loop-at.at c.loop-at.executed c.loop-at.turns
             r.reached r.left past,
         r.handed,
         c.loop-at.invariant.steady,
@@ -99,6 +102,7 @@ returns-in_default g c =
       pauses = record {
         reached = r.reached;
         spends = r.spends;
+        free = r.shown.main.free;
         halts = (
           (refl, refl, due),
           CutsOff-handed r.handed c.in_default.ensures.stopped,

@@ -27,7 +27,8 @@ returns-in-Ok c graph one what shows is holds =
     let shown = list_shown shows is in
     let fits : FitsHeld c.args.value = search rules in
     let counted = c.count_of-count.ensures.counted ∙ count_shown shown in
-    has_pushed (changing c.args.value shows is holds fits) counted (omega (arith, counted)) c.addresses_fit.ensures.within c.in-Ok.ensures.ok
+    has_pushed (changing c.args.value shows is holds fits) counted (omega (arith, counted))
+    c.addresses_fit.ensures.within c.in-Ok.ensures.ok
 
 pub returns-in-Err : goal.returns-in-Err
 returns-in-Err c graph one what shows is holds =

@@ -8,7 +8,7 @@ use Rattle.heap_model.specs.Needs.{grown_list}
 use Rattle.heap_model.specs.Remembered.{Touch}
 use Rattle.heap_table.specs.Seats.{RestStays}
 use Rattle.heap_table.specs.Staying.{rest_stays_again}
-use Rattle.write_barrier.specs.MutatorState.{Mutator}
+use Rattle.write_barrier.specs.MutatorState.{Mutator, heap_of}
 use Rattle.write_barrier.specs.Recording.{Touches, touched_one, touched_then}
 use Rattle.write_barrier.proofs.Recording.{then_touch}
 use Rattle.object_cells.specs.Made.{content_need, content_touch, store_content, store_touch}
@@ -16,7 +16,7 @@ use Rattle.object_cells.specs.declared.content.SlotContent.{SlotContent}
 use Rattle.object_cells.proofs.FilledTouches.{reserved_touch}
 use Rattle.object_cells.proofs.TouchedWords.{rest_counted, then_stored, then_wiped}
 use Rattle.object_cells.proofs.RestOfWords.{same_rest, put_rest, reserved_rest}
-use Rattle.object_cells.proofs.UnusedWords.{run_before_marks, run_apart, marks_fit}
+use Rattle.object_cells.proofs.UnusedWords.{IsUnusedRun, next_run, run_before_marks, run_apart, marks_fit}
 use Rattle.object_cells.proofs.ListCells.{count_within, slot_within}
 use Rattle.list_store.proofs.pushing.push_to_new_store.Goals as goal
 
@@ -63,9 +63,12 @@ begin_store-requires-clause-other c =
 pub begin_store-requires-clause-apart : goal.begin_store-requires-clause-apart
 begin_store-requires-clause-apart c =
     let need = 2 + c.grown-capacity.result + c.need_of.result in
-    run_apart c.args.main.now c.args.list need c.in_ok-at.at c.args.store c.requires.can.ready.tied c.requires.can.is
-    c.in_ok-at.ensures.room (c.in_ok-at.ensures.at (omega arith))
-    (omega (arith, c.grown-capacity.ensures, c.requires.few))
+    let old : Mutator = c.args.main.now in
+    let ready = c.requires.can.ready in
+    let run = subst (λ at. IsUnusedRun (heap_of old) at need) (sym (c.in_ok-at.ensures.at (omega arith)))
+    (next_run old need ready.tied ready.whole.whole.rows c.in_ok-at.ensures.room) in
+    run_apart c.args.list c.args.store run c.requires.can.is
+    (omega (arith, c.grown-capacity.ensures, c.requires.few, c.requires.full))
 
 pub begin_store-requires-clause-quiet : goal.begin_store-requires-clause-quiet
 begin_store-requires-clause-quiet c =

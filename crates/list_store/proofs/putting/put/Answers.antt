@@ -25,7 +25,8 @@ count_of-requires-clause-there c = shown_there (list_shown c.requires.shows c.re
 pub returns-in_default : goal.returns-in_default
 returns-in_default c graph one what shows is holds =
     let fits : FitsSigned w64 c.args.index = search rules in (
-      index_named c.count_of.result c.args.index c.checked_index.result (list_shown shows is) c.count_of.ensures.counted fits
+      index_named c.count_of.result c.args.index c.checked_index.result (list_shown shows is)
+          c.count_of.ensures.counted fits
           c.checked_index.ensures ∙ c.in_default.is,
       refl,
     )

@@ -1,35 +1,37 @@
 -- The new list: its cell is put and bound, or there is no room for it.
 use Rattle.std.proofs.Common.{refl, arith}
+use Rattle.tagged_word.specs.declared.layout.Kind.TheVariants as kind
+use Rattle.heap_model.specs.Types.{Header}
 use Rattle.heap_command.specs.declared.command.Command.TheVariants as command
-use Rattle.mutator.specs.Making.{empty_counted}
 use Rattle.mutator.specs.declared.stop.Stop.TheVariants.{NoRoom}
-use Rattle.mutator.proofs.EmptyCounted.{list_is_counted}
+use Rattle.mutator.proofs.EmptyCounted.{counted_cell, list_is_counted}
 use Rattle.mutator.proofs.MadeCells.{list_making, counted_made}
-use Rattle.mutator.proofs.MadeRecords.{reserved_is_young}
-use Rattle.mutator.proofs.MadeObjects.{making_carried, making_stopped, binds_made}
+use Rattle.mutator.proofs.MadeHeaps.{MakesObject, binds_made}
+use Rattle.mutator.proofs.MadeObjects.{making_carried, making_stopped}
 use Rattle.mutator.proofs.StoppedBy.{stopped_with}
 use Rattle.mutator.proofs.lists.new_list.Goals as goal
 
 pub returns : goal.returns
-returns c = record {
-  carried = λ graph names shows count.
-      making_carried shows (list_making graph c.args.x)
-      (record {
-        run = c.in_ok-run.ensures.run.at;
-        taken = c.in_ok-run.ensures.reserved;
-        put = c.fill_counted.ensures.filled
-            (reserved_is_young 3 shows c.in_ok-run.ensures.reserved c.in_ok-run.ensures.run.at);
-        heap = c.fill_counted.ensures.heap;
-        holds = record { held = c.hold.ensures.held; heap = c.hold.ensures.heap };
-      })
-      (counted_made c.args.x list_is_counted shows c.in_ok-run.ensures.room (omega arith) count)
-      c.hold.ensures.holds.fits c.requires.within names c.in_ok-run.ensures.room;
-  binds = binds_made c.args.x _ (empty_counted (record { shape = 1; object = c.args.object }))
-      c.in_ok-run.ensures.run.at refl c.in_ok-run.ensures.reserved
-      (c.fill_counted.ensures.filled
-      (reserved_is_young 3 c.requires.shown.1 c.in_ok-run.ensures.reserved c.in_ok-run.ensures.run.at))
-      c.hold.ensures.held;
-}
+returns c =
+    let header : Header = record { shape = 1; object = c.args.object } in
+    let makes : MakesObject c.args.main.now c.reserve.new.self c.fill_counted.new.main c.hold.new.self c.args.x
+    c.in_ok-run.run'.at (counted_cell kind.List header) = record {
+      run = c.in_ok-run.ensures.run.at;
+      taken = c.in_ok-run.ensures.reserved;
+      put = c.fill_counted.ensures.filled;
+      heap = c.fill_counted.ensures.heap;
+      paths = c.fill_counted.ensures.paths;
+      young = c.fill_counted.ensures.young;
+      touches = c.fill_counted.ensures.touches;
+      holds = record { held = c.hold.ensures.held; heap = c.hold.ensures.heap };
+    } in
+    record {
+      carried = λ graph names shows count.
+          making_carried shows (list_making graph c.args.x) makes
+          (counted_made c.args.x list_is_counted shows c.in_ok-run.ensures.room (omega arith) count)
+          c.in_ok-run.ensures.room (omega arith) c.hold.ensures.holds.fits c.requires.within names;
+      binds = binds_made refl makes;
+    }
 
 pub returns-in_err-run-clause-carried : goal.returns-in_err-run-clause-carried
 returns-in_err-run-clause-carried c graph names shows count =

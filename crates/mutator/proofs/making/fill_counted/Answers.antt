@@ -1,24 +1,41 @@
 -- The three words are put one by one.
-use Rattle.std.proofs.Common.{◌≡◌, ◌+◌, List, ℕ, slice_set, ◌∙◌, ap, arith}
-use Rattle.write_barrier.specs.MutatorState.{Mutator, with_word}
+use Rattle.std.proofs.Common.{◌≡◌, ◌+◌, List, ℕ, slice_set, sym, ◌∙◌, ap, subst, arith}
 use Rattle.tagged_word.specs.Headers.{header_bits}
 use Rattle.page_space.proofs.Starts.{marks_start_is, board_start_is, words_count_is}
+use Rattle.heap_model.specs.Remembered.{Touch}
 use Rattle.heap_model.specs.Slots.{undefined_word}
-use Rattle.heap_table.specs.Seats.{heap_words}
+use Rattle.heap_table.specs.Seats.{Seat, heap_words}
+use Rattle.write_barrier.specs.MutatorState.{Mutator, with_slot}
+use Rattle.write_barrier.specs.Recording.{Touches, touched}
+use Rattle.write_barrier.proofs.Recording.{word_touch}
+use Rattle.mutator.specs.Making.{new_touch}
+use Rattle.mutator.proofs.PutRows.{PutsTwo, counted_after, row_touch, two_counted, two_paths, two_seat, two_young}
 use Rattle.mutator.proofs.PutWords.{three_in_a_row}
-use Rattle.mutator.proofs.YoungWords.{three_put}
 use Rattle.mutator.proofs.making.fill_counted.Goals as goal
 
+-- the header and the slot for a store or table are put
+two : (c : goal.After-made) → PutsTwo c.args.main.now c.set_header.new.self c.store.new.self c.args.at
+    (header_bits c.args.header) undefined_word
+two c = record {
+  one = c.set_header.ensures.written;
+  two = c.store.ensures.stored
+      ∙ ap (λ (one : ℕ). with_slot c.set_header.new.self (c.args.at + 1) one) c.odd.ensures;
+  counted = counted_after c.args.main.now c.set_header.new.self c.args.at (header_bits c.args.header)
+      c.set_header.ensures.written c.set_header.ensures.heap c.addresses_fit.ensures.heap_counted;
+  within = omega (arith, c.requires.within);
+}
+
 pub returns-clause-filled : goal.returns-clause-filled
-returns-clause-filled c young =
+returns-clause-filled c =
     let main = c.args.main.now in
     let at = c.args.at in
     let space = main.seat.space in
-    let word = c.odd.result.0 in
-    let odd : word ≡ undefined_word = c.odd.ensures in
-    c.made.ensures.same
-    ∙ three_put main c.set_header.new.self c.write_slot.new.self c.write_slot-2.new.self at
-    (header_bits c.args.header) undefined_word 0 young
+    let header = header_bits c.args.header in
+    ap (λ (now : Mutator). now.seat) c.made.ensures.same
+    ∙ ap (λ (now : Mutator). now.seat) c.write_slot.ensures.written
+    ∙ ap (λ (seat : Seat). record seat { table = slice_set seat.table (at + 2) 0 }) (two_seat (two c))
+    ∙ ap (λ (table : List ℕ). record main.seat { table = table })
+    (three_in_a_row main.seat.table at header undefined_word 0
     (omega (
       arith,
       c.requires.within,
@@ -26,10 +43,7 @@ returns-clause-filled c young =
       marks_start_is space,
       board_start_is space,
       words_count_is space,
-    ))
-    c.set_header.ensures.written
-    (c.write_slot.ensures.written ∙ ap (λ (one : ℕ). with_word c.set_header.new.self (at + 1) one) odd)
-    c.write_slot-2.ensures.written
+    )))
 
 pub returns-clause-heap : goal.returns-clause-heap
 returns-clause-heap c =
@@ -37,10 +51,31 @@ returns-clause-heap c =
     let at = c.args.at in
     let header = header_bits c.args.header in
     let odd : c.odd.result.0 ≡ undefined_word = c.odd.ensures in
-    ap (λ (now : Mutator). heap_words now.seat) c.made.ensures.same ∙ c.write_slot-2.ensures.heap
+    ap (λ (now : Mutator). heap_words now.seat) c.made.ensures.same ∙ c.write_slot.ensures.heap
     ∙ ap (λ (words : List ℕ). slice_set words (at + 2) 0)
-    (c.write_slot.ensures.heap
+    (c.store.ensures.heap
     ∙ ap (λ (words : List ℕ). slice_set words (at + 1) c.odd.result.0) c.set_header.ensures.heap
     ∙ ap (λ (word : ℕ). slice_set (slice_set (heap_words main.seat) at header) (at + 1) word) odd)
     ∙ three_in_a_row (heap_words main.seat) at header undefined_word 0
     (omega (arith, c.requires.within, c.addresses_fit.ensures.heap_counted))
+
+pub returns-clause-touches : goal.returns-clause-touches
+returns-clause-touches c =
+    let at = c.args.at in
+    let next = c.store.new.self in
+    let counted = two_counted (two c) in
+    let third : Touches next c.write_slot.new.self (touched Touch.Wiped (at + 2) (at + 2 + 1)) =
+    subst (λ (now : Mutator). Touches next now (touched Touch.Wiped (at + 2) (at + 2 + 1)))
+    (sym c.write_slot.ensures.written) (word_touch next (at + 2) 0 (omega (arith, counted.1, c.requires.within))) in
+    let ends : at + 2 + 1 ≡ at + 3 = omega arith in
+    subst (λ (now : Mutator). Touches c.args.main.now now (new_touch 3 at)) (sym c.made.ensures.same)
+    (row_touch (two c) c.write_slot.new.self 3
+    (subst (λ to. Touches next c.write_slot.new.self (touched Touch.Wiped (at + 2) to)) ends third))
+
+pub returns-clause-paths : goal.returns-clause-paths
+returns-clause-paths c =
+    ap (λ (now : Mutator). now.paths) (c.made.ensures.same ∙ c.write_slot.ensures.written) ∙ two_paths (two c)
+
+pub returns-clause-young : goal.returns-clause-young
+returns-clause-young c =
+    ap (λ (now : Mutator). now.young) (c.made.ensures.same ∙ c.write_slot.ensures.written) ∙ two_young (two c)

@@ -1,49 +1,44 @@
 -- The new object: its cell is put and bound, or there is no room for it.
-use Rattle.std.proofs.Common.{[], ◌+◌, refl, ap, subst, arith}
+use Rattle.std.proofs.Common.{[], refl, subst, arith}
 use Rattle.heap_model.specs.Types.{Header}
 use Rattle.heap_command.specs.declared.command.Command.TheVariants.{New}
-use Rattle.page_space.specs.Extents.{Space}
 use Rattle.shape_tree.specs.Shapes.{IsShapeOf}
-use Rattle.mutator.specs.Making.{empty_plain}
 use Rattle.mutator.specs.declared.stop.Stop.TheVariants.{NoRoom}
-use Rattle.mutator.proofs.EmptyCells.{length-empty_plain}
+use Rattle.mutator.proofs.EmptyCells.{length-empty_plain, plain_cell}
 use Rattle.mutator.proofs.MadeCells.{plain_making, plain_made}
-use Rattle.mutator.proofs.MadeRecords.{reserved_is_young}
-use Rattle.mutator.proofs.MadeObjects.{making_carried, making_stopped, binds_made}
+use Rattle.mutator.proofs.MadeHeaps.{MakesObject, binds_made}
+use Rattle.mutator.proofs.MadeObjects.{making_carried, making_stopped}
 use Rattle.mutator.proofs.StoppedBy.{stopped_with}
 use Rattle.mutator.proofs.making.new_plain.Goals as goal
 
 pub returns : goal.returns
-returns c = record {
-  carried = λ graph names shows count.
-      let shaped = subst (λ paths. IsShapeOf paths (record { cap = c.args.cap; fields = [] }) c.root-shape.result)
-      c.shapes.ensures c.root-shape.ensures in
-      let header : Header = record { shape = c.root-shape.result; object = c.args.object } in
-      making_carried shows (plain_making graph c.args.x c.args.cap c.requires.within.1)
-      (record {
-        run = c.in_ok-run.ensures.run.at;
-        taken = c.in_ok-run.ensures.reserved;
-        put = c.fill_plain.ensures.filled
-            (reserved_is_young (2 + c.args.cap) shows c.in_ok-run.ensures.reserved c.in_ok-run.ensures.run.at);
-        heap = c.fill_plain.ensures.heap;
-        holds = record { held = c.hold.ensures.held; heap = c.hold.ensures.heap };
-      })
-      (plain_made {header = header} c.args.x shows.shows.whole.sized
-      (record {
-        shape = omega (arith, shaped.is_shape.below, shows.shows.whole.sized.shapes.few);
-        object = omega arith;
-      })
-      c.requires.within.1 shaped
-      (omega (arith, c.in_ok-run.ensures.room, ap (λ (space : Space). space.sizes.young) shows.tied)) count)
-      c.hold.ensures.holds.fits c.requires.within.0 names c.in_ok-run.ensures.room;
-  binds =
-      let header : Header = record { shape = c.root-shape.result; object = c.args.object } in
-      binds_made c.args.x _ (empty_plain header c.args.cap) c.in_ok-run.ensures.run.at
-      (length-empty_plain header c.args.cap) c.in_ok-run.ensures.reserved
-      (c.fill_plain.ensures.filled
-      (reserved_is_young (2 + c.args.cap) c.requires.shown.1 c.in_ok-run.ensures.reserved c.in_ok-run.ensures.run.at))
-      c.hold.ensures.held;
-}
+returns c =
+    let header : Header = record { shape = c.root-shape.result; object = c.args.object } in
+    let makes : MakesObject c.args.main.now c.reserve.new.self c.fill_plain.new.main c.hold.new.self c.args.x
+    c.in_ok-run.run'.at (plain_cell header c.args.cap) = record {
+      run = c.in_ok-run.ensures.run.at;
+      taken = c.in_ok-run.ensures.reserved;
+      put = c.fill_plain.ensures.filled;
+      heap = c.fill_plain.ensures.heap;
+      paths = c.fill_plain.ensures.paths;
+      young = c.fill_plain.ensures.young;
+      touches = c.fill_plain.ensures.touches;
+      holds = record { held = c.hold.ensures.held; heap = c.hold.ensures.heap };
+    } in
+    record {
+      carried = λ graph names shows count.
+          let shaped = subst (λ paths. IsShapeOf paths (record { cap = c.args.cap; fields = [] }) c.root-shape.result)
+          c.shapes.ensures c.root-shape.ensures in
+          making_carried shows (plain_making graph c.args.x c.args.cap c.requires.within.1) makes
+          (plain_made {header = header} c.args.x shows
+          (record {
+            shape = omega (arith, shaped.is_shape.below, shows.shows.whole.sized.shapes.few);
+            object = omega arith;
+          })
+          c.requires.within.1 shaped c.in_ok-run.ensures.room count)
+          c.in_ok-run.ensures.room (omega arith) c.hold.ensures.holds.fits c.requires.within.0 names;
+      binds = binds_made (length-empty_plain header c.args.cap) makes;
+    }
 
 pub returns-in_err-run-clause-carried : goal.returns-in_err-run-clause-carried
 returns-in_err-run-clause-carried c graph names shows count =

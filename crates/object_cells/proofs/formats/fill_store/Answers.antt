@@ -1,4 +1,4 @@
--- The head of the store is put, and then holes fill its slots; nothing is recorded of any of them.
+-- The head of the store is put, and then holes are stored in its slots.
 use Rattle.std.proofs.Common.{◌+◌, ◌∙◌, ap, arith, replicate, length-set}
 use Rattle.std.specs.Prelude.{List, ◌∷◌, ℕ, slice_set}
 use Rattle.tagged_word.specs.Headers.{header_bits}
@@ -6,8 +6,8 @@ use Rattle.heap_table.specs.Seats.{heap_words}
 use Rattle.heap_model.specs.Slots.{hole_word}
 use Rattle.write_barrier.specs.Values.{with_range}
 use Rattle.object_cells.specs.Formats.{store_header}
-use Rattle.object_cells.proofs.HeadedHoles.{PutsHeaded, headed_puts, headed_wiped}
-use Rattle.object_cells.proofs.PutRanges.{with_range-put}
+use Rattle.object_cells.proofs.HeadedHoles.{PutsHeaded, headed_puts, headed_touch}
+use Rattle.write_barrier.proofs.PutRanges.{with_range-put}
 use Rattle.object_cells.proofs.formats.fill_store.Goals as goal
 
 -- the head and the holes that are put
@@ -44,4 +44,4 @@ returns-clause-filled c =
     }
 
 pub returns-clause-touches : goal.returns-clause-touches
-returns-clause-touches c = headed_wiped (headed c)
+returns-clause-touches c = headed_touch (headed c) c.fill_holes.ensures.touches

@@ -14,13 +14,13 @@ returns c =
     let cell = c.args.cell.now in
     let counted = c.addresses_fit.ensures.heap_counted in
     let ends : cell.at + cell.size ≤ length (heap_words main.seat) = c.requires.is.reads.there in
-    let copies : ChangesWords main c.copy_slots.new.self =
-    copy_changes cell.at c.args.to cell.size c.copy_slots.ensures.copied c.copy_slots.ensures.heap
+    let copies : ChangesWords main c.copy_words.new.self =
+    copy_changes cell.at c.args.to cell.size c.copy_words.ensures.copied c.copy_words.ensures.heap
     c.addresses_fit.ensures.counted counted (omega (arith, ends, counted)) c.requires.room in
     let some = (cells_have_words main.seat.space (heap_words main.seat) cell c.requires.is).0 in
     let below : cell.at < marks_start main.seat.space = omega (arith, some, ends, counted) in
-    let puts : ChangesWords c.copy_slots.new.self c.write.new.self =
+    let puts : ChangesWords c.copy_words.new.self c.write.new.self =
     put_changes cell.at c.reference.result.0 c.write.ensures.written c.write.ensures.heap
     (subst (λ (space : Space). cell.at < marks_start space) (sym copies.seat.space) below) in
-    cell_copied cell c.args.to c.reference.result.0 c.copy_slots.ensures.copied c.copy_slots.ensures.heap
+    cell_copied cell c.args.to c.reference.result.0 c.copy_words.ensures.copied c.copy_words.ensures.heap
     c.write.ensures.written c.write.ensures.heap c.reference.ensures (changes_again copies puts)

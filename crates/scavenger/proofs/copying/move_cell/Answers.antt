@@ -38,6 +38,14 @@ place_for-to-requires-clause-within c =
     c.known_cell-cell.ensures in
     omega (arith, copy_before_marks found.state found.new, c.addresses_fit.ensures.fit)
 
+pub place_for-to-requires-clause-few_stayed : goal.place_for-to-requires-clause-few_stayed
+place_for-to-requires-clause-few_stayed c =
+    let found = cell_found c.args.word c.known_cell-cell.result c.requires.spaces.2 c.requires.read c.requires.unmoved
+    c.known_cell-cell.ensures in
+    let few = few_words found.state found.new in
+    let young = young_before_marks c.args.main.now.seat.space in
+    omega (arith, found.state.counted.few, few, young, c.addresses_fit.ensures.fit)
+
 pub copy_cell-requires-clause-quiet : goal.copy_cell-requires-clause-quiet
 copy_cell-requires-clause-quiet c =
     let found = cell_found c.args.word c.known_cell-cell.result c.requires.spaces.2 c.requires.read c.requires.unmoved

@@ -6,12 +6,12 @@ use Rattle.write_barrier.specs.MutatorState.{Mutator}
 use Rattle.write_barrier.specs.Recording.{Touches, touched_one, touched_then}
 use Rattle.write_barrier.proofs.Recording.{then_touch}
 use Rattle.object_cells.proofs.RestOfWords.{put_rest}
-use Rattle.object_cells.proofs.UnusedWords.{run_before_marks}
+use Rattle.object_cells.proofs.UnusedWords.{next_run, run_before_marks, run_apart}
 use Rattle.object_cells.proofs.TouchedWords.{rest_counted, then_stored, then_wiped}
 use Rattle.object_cells.specs.declared.content.SlotContent.{SlotContent}
 use Rattle.object_cells.specs.Contents.{content_of, next_at}
 use Rattle.object_cells.specs.Made.{content_need, content_touch, store_content, store_touch}
-use Rattle.std.proofs.Common.{◌≡◌, ℕ, ◌+◌, ◌<◌, false, ap, subst, ◌∙◌, arith, rules}
+use Rattle.std.proofs.Common.{◌≡◌, ℕ, ◌+◌, ◌<◌, false, inl, inr, ap, subst, ◌∙◌, arith, rules}
 use Rattle.tagged_word.specs.Cells.{store_head, store_slot}
 use Rattle.heap_model.specs.Needs.{grown}
 use Rattle.heap_model.specs.Remembered.{Touch}
@@ -26,6 +26,17 @@ make_store-requires-clause-within c =
     c.requires.can.tied
     c.in_ok-at.ensures.room (c.in_ok-at.ensures.at (omega arith)) space in
     omega (arith, before, c.grown-capacity.ensures)
+
+pub make_store-requires-clause-apart : goal.make_store-requires-clause-apart
+make_store-requires-clause-apart c =
+    let old : Mutator = c.args.main.now in
+    let need = 2 + c.grown-capacity.result + c.need_of.result in
+    let run = next_run old need c.requires.can.tied c.requires.can.whole.whole.rows c.in_ok-at.ensures.room in
+    let at : c.in_ok-at.at ≡ next_at old = c.in_ok-at.ensures.at (omega arith) in
+    elim (run_apart c.args.object c.args.store run c.requires.is (omega (arith, c.grown-capacity.ensures))) [
+      | inl before ↦ inl (omega (arith, before, at))
+      | inr behind ↦ inr (omega (arith, behind, at))
+    ]
 
 pub boxed_word-word-requires-clause-within : goal.boxed_word-word-requires-clause-within
 boxed_word-word-requires-clause-within c v boxed =

@@ -1,0 +1,99 @@
+//! A list of addresses of cells without repeats: the last one pushed is popped first.
+//!
+//! Model: a `Listing` of `specs/Listing.antt`: the bound that all addresses are below, and the
+//! listed addresses, the last first. It reads and writes no word of the heap.
+//! Invariant: no address is listed twice, and each is below the bound. So there are no more than the
+//! bound, and room for these is there from the start: no call takes memory later.
+#![tactic(auto)]
+
+ghost use Rattle.std.specs.Prelude.{◌≡◌, ◌∷◌, ◌<◌, ◌↔◌, [], if◌then◌else◌, Contains, IsTrue, IfOk, IfNone, MatchOption};
+ghost use Rattle.cell_list.specs.Listing.{IsListing, pushed};
+
+use std::alloc::Global;
+use std::marker::Model;
+use tagged_word::NoMemory;
+
+/// The listed addresses of cells.
+#[derive(Drop)]
+pub struct CellList {
+    // In the order in which they were pushed, with room for each address below the bound.
+    addresses: Vec<u32>,
+    // For each address below the bound whether it is listed: no call goes through the list.
+    listed: Vec<bool>,
+}
+
+impl Model for CellList {
+    ghost use Rattle.cell_list.specs.Listing.{Listing};
+
+    ghost Value = { Listing };
+
+    ghost use Rattle.cell_list.specs.Kept.{listing_of, IsValid};
+
+    ghost view = { listing_of };
+
+    ghost invariant = { IsValid };
+}
+
+impl CellList {
+    /// No address is listed, of those below the bound. It takes all the memory that it needs: later
+    /// calls take none.
+    pub fn new(alloc: Global, bound: u32) -> Result<CellList, NoMemory>
+        ensures { IfOk result (λ list. list ≡ record { bound = bound; addresses = [] }) }
+    {
+        let addresses = Vec::with_capacity(alloc, bound as usize)?;
+        let listed = vec![in alloc; false; bound as usize]?;
+        Ok(CellList { addresses, listed })
+    }
+
+    /// Whether no address is listed.
+    pub fn is_empty(&self) -> bool
+        ensures empty { IsTrue result ↔ (self.now.addresses ≡ []) }
+        ensures own { IsListing self.now }
+    {
+        self.addresses.is_empty()
+    }
+
+    /// Whether the address is listed.
+    pub fn contains(&self, at: u32) -> bool
+        requires { at < self.now.bound }
+        ensures { IsTrue result ↔ Contains self.now.addresses at }
+    {
+        self.listed[at as usize]
+    }
+
+    /// Lists the address, where it is not listed so far, and answers whether that was so.
+    pub fn push(&mut self, at: u32) -> bool
+        requires { at < self.old.bound }
+        ensures was_new { IsTrue result ↔ (¬ Contains self.old.addresses at) }
+        ensures value { self.new ≡ (if result then pushed self.old at else self.old) }
+        ensures bound { self.new.bound ≡ self.old.bound }
+    {
+        if self.listed[at as usize] {
+            return false;
+        }
+        self.listed[at as usize] = true;
+        if self.addresses.push(at).is_err() {
+            unreachable!();
+        }
+        true
+    }
+
+    /// Takes the address off the list that was pushed last; none where the list is empty.
+    pub fn pop(&mut self) -> Option<u32>
+        ensures last { MatchOption result
+            (self.old.addresses ≡ []) (λ at. self.old ≡ pushed self.new at) }
+        ensures unchanged { IfNone result (self.new ≡ self.old) }
+        ensures bound { self.new.bound ≡ self.old.bound }
+    {
+        let at = self.addresses.pop()?;
+        self.listed[at as usize] = false;
+        Some(at)
+    }
+
+    /// Takes all addresses off the list, in a time that goes by how many there are.
+    pub fn clear(&mut self)
+        ensures { self.new ≡ record self.old { addresses = [] } }
+    {
+        while self.pop().is_some() {}
+    }
+}

@@ -1,0 +1,189 @@
+-- A command that finds words of a page granted where eden has not the words that it needs: what it spends.
+use Rattle.std.proofs.Common.{◌≡◌, ◌∙◌, ◌↔◌, ℕ, ◌+◌, Bool, true, false, List, ◌==◌, if◌then◌else◌}
+use Rattle.std.proofs.Common.{refl, sym, ap, subst, arith}
+use Rattle.std.proofs.lemmas.Bool.Decides.{nat_tests}
+use Rattle.heap_model.specs.Types.{Command, Run}
+use Rattle.object_graph.specs.Graphs.{Graph}
+use Rattle.heap_model.specs.Heaps.{Heap}
+use Rattle.heap_model.specs.Slots.{IsPlace}
+use Rattle.heap_model.specs.Needs.{capacity_at}
+use Rattle.heap_model.specs.Rooms.{Room, HasRooms, need_of}
+use Rattle.heap_model.proofs.ShownRooms.{shown_objects_have_rooms}
+use Rattle.nursery.specs.Young.{Young, HasRoom, in_eden, bumped, with_granted, rest_of}
+use Rattle.free_runs.specs.FreeRuns.{TakesFront}
+use Rattle.write_barrier.specs.MutatorState.{Mutator, heap_of, MainShows}
+use Rattle.scavenger.specs.Granting.{Grants}
+use Rattle.scavenger.specs.Laws.{KeepsGraphs}
+use Rattle.scavenger.proofs.Granted.{grants_keep_stores}
+use Rattle.collector.specs.Making.{Serves}
+use Rattle.mutator.specs.Capacities.{KeepsStores}
+use Rattle.mutator.specs.CarriesOut.{TakesRoom}
+use Rattle.heap_script.specs.Collecting.{LacksWords}
+use Rattle.heap_script.specs.Runs.{UsesNeed, Allocates}
+use Rattle.heap_script.specs.Stages.{SpendsWords, stage_of}
+use Rattle.heap_script.proofs.Lacking.{not_lacking, full_for}
+
+-- What a command that does not ask for a scavenge finds of a heap in which nothing is granted: the heap itself; or,
+-- where eden is empty and has not the words that the command needs, the heap with so many words granted.
+pub data Served (old found : Mutator) (graph : Graph) (command : Command) : Type 0 where
+  as_it_is : found ≡ old → Served old found graph command
+  by_grant : (need : ℕ) → LacksWords old graph command need → old.young.used ≡ 0 → Grants old found need
+      → KeepsGraphs old found → Served old found graph command
+
+-- so it is where eden is empty and there is room for the words that the command needs
+pub served : {old found : Mutator} {graph : Graph} {command : Command} {need : ℕ} → Serves old found need
+    → ((rooms : ℕ → Room) → HasRooms (heap_of old) graph rooms → need ≡ need_of graph rooms command)
+    → old.young.used ≡ 0 → Served old found graph command
+served (Serves.eden room is) needs empty = Served.as_it_is is
+served {need = need} (Serves.granted lacks grants keeps) needs empty =
+    Served.by_grant need (record { needs = needs; lacks = lacks }) empty grants keeps
+
+-- What a command that was carried out has done: it allocated, and nothing is granted any more.
+pub record HasAllocated (old new : Mutator) (graph after : Graph) (command : Command) : Type 0 where
+  pub allocates : Allocates (stage_of old) (stage_of new) graph after command
+  pub ungranted : in_eden new.young ≡ true
+
+-- what a command that is carried out takes of the heap that it finds
+abbrev pub Takes : Mutator → Mutator → Graph → Graph → Command → Type 0
+Takes old new graph after command =
+    (rooms : ℕ → Room) → HasRooms (heap_of old) graph rooms → TakesRoom old new graph after command rooms
+
+-- it keeps the regions
+pub takes_space : {old new : Mutator} {graph after : Graph} (command : Command) → MainShows old graph
+    → Takes old new graph after command → new.seat.space ≡ old.seat.space
+takes_space {old} {new} {graph} command shows takes =
+    let (rooms, has) = shown_objects_have_rooms (heap_of old) graph shows.shows in
+    (takes rooms has).uses.beside.space
+
+-- where cells are made in eden, it is eden whose words are used
+used_of_eden : (old : Young) {new : Young} (n : ℕ) → in_eden old ≡ true → new ≡ bumped old n → new.used ≡ old.used + n
+used_of_eden old n ungranted is =
+    ap (λ (young : Young). young.used) is
+    ∙ ap (λ (b : Bool). if b then old.used + n else old.used) ungranted
+
+-- and nothing comes to be granted
+still_ungranted : (old : Young) {new : Young} (n : ℕ) → in_eden old ≡ true → new ≡ bumped old n → in_eden new ≡ true
+still_ungranted old n ungranted is =
+    ap in_eden is
+    ∙ ap (λ (b : Bool). (if b then old.granted else rest_of old.granted n).words == 0) ungranted ∙ ungranted
+
+-- a command that finds the heap itself spends words of eden
+allocated_in_eden : {old new : Mutator} {graph after : Graph} (command : Command) → MainShows old graph
+    → in_eden old.young ≡ true → Takes old new graph after command → HasAllocated old new graph after command
+allocated_in_eden {old} {new} {graph} command shows ungranted takes =
+    let (some, had) = shown_objects_have_rooms (heap_of old) graph shows.shows in
+    let one = takes some had in
+    record {
+      allocates = record {
+        space = one.uses.beside.space;
+        survivors = ap (λ (young : Young). young.survivors) one.uses.young;
+        uses = λ rooms has.
+            let taken = takes rooms has in
+            let need = need_of graph rooms command in
+            record {
+              spends = SpendsWords.of_eden (not_lacking old need shows.tied ungranted taken.room)
+                  (used_of_eden old.young need ungranted taken.uses.young) taken.uses.free;
+              stores = taken.stores;
+            };
+      };
+      ungranted = still_ungranted old.young (need_of graph some command) ungranted one.uses.young;
+    }
+
+-- where all granted words are used, none of an empty eden is
+none_used : (used words n : ℕ) (b : Bool) → words ≡ n → (words == 0) ≡ b → used ≡ 0
+    → (if b then used + n else used) ≡ 0
+none_used used words n true all none empty = grind (arith, nat_tests)
+none_used used words n false all some empty = empty
+
+-- and nothing is granted any more
+none_left : (run : Run) (n : ℕ) (b : Bool) → run.words ≡ n → (run.words == 0) ≡ b
+    → ((if b then run else rest_of run n).words == 0) ≡ true
+none_left run n true all none = none
+none_left run n false all some = grind (arith, nat_tests)
+
+-- so it is with what a new young generation comes to have
+used_of_run : (old mid : Young) {new : Young} (run : Run) (n : ℕ) → mid ≡ with_granted old run → run.words ≡ n
+    → old.used ≡ 0 → new ≡ bumped mid n → new.used ≡ 0
+used_of_run old mid run n has words empty is =
+    ap (λ (young : Young). young.used) is ∙ ap (λ (young : Young). (bumped young n).used) has
+    ∙ none_used old.used run.words n (run.words == 0) words refl empty
+
+ungranted_again : (old mid : Young) {new : Young} (run : Run) (n : ℕ) → mid ≡ with_granted old run → run.words ≡ n
+    → new ≡ bumped mid n → in_eden new ≡ true
+ungranted_again old mid run n has words is =
+    ap in_eden is ∙ ap (λ (young : Young). in_eden (bumped young n)) has
+    ∙ none_left run n (run.words == 0) words refl
+
+-- the words of a front that is taken are so many
+pub taken_words : {old new : List (List Run)} {n : ℕ} {run : Run} → TakesFront old new n run → run.words ≡ n
+taken_words takes = ap (λ (run : Run). run.words) takes.takes.front
+
+-- where objects stand as they stood, a command keeps the stores of those before
+stores_before : {old found new : Heap} {graph after : Graph} {command : Command} {rooms : ℕ → Room}
+    → ((number at : ℕ) → (IsPlace old number at ↔ IsPlace found number at)
+    × (IsPlace old number at → capacity_at found at ≡ capacity_at old at))
+    → KeepsStores found new graph after command rooms → KeepsStores old new graph after command rooms
+stores_before stands stores = record {
+  has = stores.has;
+  stays = λ number at place. stores.stays number at ((stands number at).0.0 place);
+  others = λ number at place same.
+      stores.others number at ((stands number at).0.0 place) same ∙ (stands number at).1 place;
+  made = λ number at place none. stores.made number at place (λ stood. none ((stands number at).0.1 stood));
+}
+
+module _ {old found new : Mutator} {graph after : Graph} (command : Command) {need : ℕ} (shows : MainShows old graph)
+    (ungranted : in_eden old.young ≡ true) (lacks : LacksWords old graph command need) (empty : old.young.used ≡ 0)
+    (grants : Grants old found need) (keeps : KeepsGraphs old found) (takes : Takes found new graph after command) where
+  -- a command that finds granted words takes them, by the rooms that objects had before
+  takes_by : (rooms : ℕ → Room) → HasRooms (heap_of old) graph rooms → TakesRoom found new graph after command rooms
+  takes_by rooms has = takes rooms ((keeps.rooms graph rooms shows).0 has)
+
+  -- it spends those words
+  spends_of_run : (rooms : ℕ → Room) → HasRooms (heap_of old) graph rooms
+      → SpendsWords (stage_of old) (stage_of new) (need_of graph rooms command)
+  spends_of_run rooms has =
+      let taken = takes_by rooms has in
+      let n = need_of graph rooms command in
+      let same : need ≡ n = lacks.needs rooms has in
+      let takes_run : TakesFront old.free found.free n grants.run =
+      subst (λ (count : ℕ). TakesFront old.free found.free count grants.run) same grants.takes in
+      SpendsWords.of_page grants.run
+      (full_for old n shows.tied ungranted (λ room. lacks.lacks (subst (HasRoom old.young) (sym same) room)))
+      empty
+      (used_of_run old.young found.young grants.run n grants.young (taken_words takes_run) empty taken.uses.young)
+      (subst (λ (rows : List (List Run)). TakesFront old.free rows n grants.run) (sym taken.uses.free) takes_run)
+
+  -- where objects stand as they stood
+  uses_run : (rooms : ℕ → Room) → HasRooms (heap_of old) graph rooms
+      → UsesNeed (stage_of old) (stage_of new) graph after command rooms
+  uses_run rooms has = record {
+    spends = spends_of_run rooms has;
+    stores = stores_before (grants_keep_stores old found graph need shows grants) (takes_by rooms has).stores;
+  }
+
+  -- so the grant and the command together allocate on the heap
+  allocated_in_page : HasAllocated old new graph after command
+  allocated_in_page =
+      let (rooms, has) = shown_objects_have_rooms (heap_of old) graph shows.shows in
+      let taken = takes_by rooms has in
+      let n = need_of graph rooms command in
+      let words : grants.run.words ≡ n = taken_words grants.takes ∙ lacks.needs rooms has in
+      record {
+        allocates = record {
+          space = taken.uses.beside.space ∙ grants.beside.space;
+          survivors = ap (λ (young : Young). young.survivors) taken.uses.young
+              ∙ ap (λ (young : Young). young.survivors) grants.young;
+          uses = uses_run;
+        };
+        ungranted = ungranted_again old.young found.young grants.run n grants.young words taken.uses.young;
+      }
+
+-- a command that is carried out on what it finds of a heap in which nothing is granted allocates on that heap
+pub allocated : {old found new : Mutator} {graph after : Graph} (command : Command) → MainShows old graph
+    → in_eden old.young ≡ true → Served old found graph command → Takes found new graph after command
+    → HasAllocated old new graph after command
+allocated {old} {found} {new} {graph} {after} command shows ungranted (Served.as_it_is is) takes =
+    allocated_in_eden command shows ungranted
+    (subst (λ (main : Mutator). Takes main new graph after command) is takes)
+allocated command shows ungranted (Served.by_grant need lacks empty grants keeps) takes =
+    allocated_in_page command shows ungranted lacks empty grants keeps takes

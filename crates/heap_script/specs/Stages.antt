@@ -1,0 +1,24 @@
+-- What of a heap the lines of a script spend: words of eden, and words of the free runs of pages.
+use Rattle.std.specs.Prelude.{◌≡◌, ℕ, ◌+◌, false, List, IsTrue}
+use Rattle.free_runs.specs.FreeRuns.{TakesFront}
+use Rattle.heap_model.specs.Types.{Run}
+use Rattle.heap_model.specs.Heaps.{Heap}
+use Rattle.heap_model.specs.Needs.{lacks_room}
+use Rattle.write_barrier.specs.MutatorState.{Mutator, heap_of}
+
+-- a heap between two lines, and the free runs of its pages, in rows by pages
+pub record Stage : Type 0 where
+  pub heap : Heap
+  pub rows : List (List Run)
+
+-- what the mutator has
+abbrev pub stage_of : Mutator → Stage
+stage_of main = record { heap = heap_of main; rows = main.free }
+
+-- So many words are spent: of eden, which had them; or, where eden was empty and had not so many, the first words of a
+-- free run of a page, while eden stays empty.
+pub data SpendsWords (old new : Stage) (n : ℕ) : Type 0 where
+  of_eden : lacks_room old.heap n ≡ false → new.heap.used ≡ old.heap.used + n → new.rows ≡ old.rows
+      → SpendsWords old new n
+  of_page : (run : Run) → IsTrue (lacks_room old.heap n) → old.heap.used ≡ 0 → new.heap.used ≡ 0
+      → TakesFront old.rows new.rows n run → SpendsWords old new n

@@ -1,0 +1,10 @@
+pub mod RootTargets
+pub mod Slots
+pub mod MarkedLinks
+pub mod ReachedMarked
+pub mod ShownTargets
+pub mod ObjectTargets
+pub mod SlotsReached
+pub mod LiveReached
+pub mod Pigeons
+pub mod PairCounts

@@ -1,0 +1,5 @@
+pub mod Live
+pub mod Marked
+pub mod Exact
+pub mod Laws
+pub mod Counts

@@ -1,0 +1,106 @@
+-- Words that are put in a row, where a cell is made: its header, its slot for a store, and what is behind them.
+use Rattle.std.proofs.Common.{◌≡◌, ℕ, ◌+◌, ◌≤◌, ◌<◌, inl, inr, List, ◌∷◌, ◌∙◌, sym, ap, subst, arith}
+use Rattle.std.proofs.Common.{length, length-set, slice_get}
+use Rattle.std.specs.Prelude.{slice_set}
+use Rattle.page_space.specs.Extents.{marks_start}
+use Rattle.tagged_word.specs.Cells.{store_slot}
+use Rattle.heap_table.specs.Seats.{Seat, heap_words}
+use Rattle.heap_table.proofs.HeapWords.{heap_words-put}
+use Rattle.heap_model.specs.Remembered.{Touch}
+use Rattle.write_barrier.specs.MutatorState.{Mutator, forgets, with_slot, with_table, with_word}
+use Rattle.write_barrier.specs.Recording.{Touches, touched, touched_one, touched_then}
+use Rattle.write_barrier.specs.Values.{with_range}
+use Rattle.write_barrier.proofs.PutRanges.{with_range-put, with_range_before, with_range_behind}
+use Rattle.write_barrier.proofs.Recording.{then_touch, wiped_touch, word_touch}
+use Rattle.object_cells.proofs.TouchedWords.{then_stored}
+use Rattle.mutator.specs.Making.{new_touch}
+
+-- the seat with other words in the table
+abbrev with_words : Seat → List ℕ → Seat
+with_words seat table = record seat { table = table }
+
+-- there are as many words after one was put
+pub counted_after : (main mid : Mutator) (at word : ℕ) → mid ≡ with_word main at word
+    → heap_words mid.seat ≡ slice_set (heap_words main.seat) at word
+    → length (heap_words main.seat) ≡ marks_start main.seat.space
+    → length (heap_words mid.seat) ≡ marks_start mid.seat.space
+counted_after main mid at word is heap counted =
+    ap length heap ∙ length-set (heap_words main.seat) at word ∙ counted
+    ∙ sym (ap (λ (now : Mutator). marks_start now.seat.space) is)
+
+-- A word was put that is no slot's, and behind it one that is.
+pub record PutsTwo (main mid next : Mutator) (at first second : ℕ) : Type 0 where
+  pub one : mid ≡ with_word main at first
+  pub two : next ≡ with_slot mid (at + store_slot) second
+  pub counted : length (heap_words mid.seat) ≡ marks_start mid.seat.space
+  pub within : at + 2 ≤ marks_start main.seat.space
+
+module _ {main mid next : Mutator} {at first second : ℕ} (puts : PutsTwo main mid next at first second) where
+  -- the seat after both
+  pub two_seat : next.seat ≡ (with_table main (slice_set (slice_set main.seat.table at first) (at + 1) second)).seat
+  two_seat =
+      ap (λ (now : Mutator). now.seat) puts.two
+      ∙ ap (λ (seat : Seat). with_words seat (slice_set seat.table (at + 1) second))
+      (ap (λ (now : Mutator). now.seat) puts.one)
+
+  -- there are as many words, and as many addresses before the marks, as before
+  pub two_counted : (length (heap_words next.seat) ≡ marks_start next.seat.space)
+      × (marks_start next.seat.space ≡ marks_start main.seat.space)
+  two_counted =
+      let one : marks_start mid.seat.space ≡ marks_start main.seat.space =
+      ap (λ (now : Mutator). marks_start now.seat.space) puts.one in
+      let two : marks_start next.seat.space ≡ marks_start mid.seat.space =
+      ap (λ (now : Mutator). marks_start now.seat.space) puts.two in
+      let below : at + store_slot < marks_start mid.seat.space = omega (arith, puts.within, one) in (
+        ap (λ (now : Mutator). length (heap_words now.seat)) puts.two
+            ∙ ap length (heap_words-put mid.seat (at + store_slot) second below)
+            ∙ length-set (heap_words mid.seat) (at + store_slot) second ∙ puts.counted ∙ sym two,
+        two ∙ one,
+      )
+
+  -- paths and young generation are as they were
+  pub two_paths : next.paths ≡ main.paths
+  two_paths = ap (λ (now : Mutator). now.paths) puts.two ∙ ap (λ (now : Mutator). now.paths) puts.one
+
+  pub two_young : next.young ≡ main.young
+  two_young = ap (λ (now : Mutator). now.young) puts.two ∙ ap (λ (now : Mutator). now.young) puts.one
+
+  -- how records are touched
+  two_touch : Touches main next (touched_then (touched_one Touch.Wiped at) (touched_one Touch.Stored (at + store_slot)))
+  two_touch =
+      let mid_space : marks_start mid.seat.space ≡ marks_start main.seat.space =
+      ap (λ (now : Mutator). marks_start now.seat.space) puts.one in
+      let header : Touches main mid (touched_one Touch.Wiped at) =
+      subst (λ (now : Mutator). Touches main now (touched_one Touch.Wiped at)) (sym puts.one)
+      (word_touch main at first (omega (arith, puts.within))) in
+      then_stored (at + store_slot) second header puts.two puts.counted (omega (arith, puts.within, mid_space))
+
+  -- with what is behind them
+  pub row_touch : (new : Mutator) (size : ℕ) → Touches next new (touched Touch.Wiped (at + 2) (at + size))
+      → Touches main new (new_touch size at)
+  row_touch new size rest = then_touch two_touch rest
+
+  -- where others are put in a row behind them, all are a row
+  pub row_seat : (new : Mutator) (others : List ℕ) → at + 2 + length others ≤ length main.seat.table
+      → new.seat ≡ (with_table next (with_range next.seat.table (at + 2) others)).seat
+      → new.seat ≡ (with_table main (with_range main.seat.table at (first ∷ second ∷ others))).seat
+  row_seat new others long rest =
+      let headed : List ℕ = slice_set main.seat.table at first in
+      rest
+      ∙ ap (λ (seat : Seat). with_words seat (with_range seat.table (at + 2) others)) two_seat
+      ∙ ap (with_words main.seat)
+      (ap (λ place. with_range (slice_set headed (at + 1) second) place others) (omega arith)
+      ∙ with_range-put headed others (at + 1) second (omega (arith, long, length-set main.seat.table at first))
+      ∙ with_range-put main.seat.table (second ∷ others) at first (omega (arith, long)))
+
+-- words that are forgotten and become others are wiped
+pub others_wiped : {next new : Mutator} (from to : ℕ) (table others : List ℕ) → from + length others ≡ to
+    → from ≤ length (heap_words next.seat) → new ≡ with_table (forgets next from to) table
+    → heap_words new.seat ≡ with_range (heap_words next.seat) from others
+    → Touches next new (touched Touch.Wiped from to)
+others_wiped {next} {new} from to table others ends within is heap =
+    wiped_touch next new from to (ap (λ (now : Mutator). now.free) is) (ap (λ (now : Mutator). now.recorded) is)
+    (λ a below out. ap (λ words. slice_get words a) heap ∙ elim out [
+      | inl before ↦ with_range_before (heap_words next.seat) others from a within before
+      | inr behind ↦ with_range_behind (heap_words next.seat) others from a within (omega (arith, ends, behind))
+    ])
