@@ -1,24 +1,10 @@
-//! Tests of heaps: of shapes, of a heap's words, and of the judges of images.
+//! Tests of opened heaps: of their words and images, of room for cells, and of what is written there.
 //!
 //! Model: none, since nothing stands here but tests. Each is a table, with values that are written
 //! out by hand, over the public calls of the crates below.
 #![tactic(auto)]
 
 #[cfg(test)]
-mod forged_heaps;
-#[cfg(test)]
-mod images;
-#[cfg(test)]
-mod old_cells;
-#[cfg(test)]
 mod opened_heaps;
 #[cfg(test)]
 mod opened_words;
-#[cfg(test)]
-mod path_shapes;
-#[cfg(test)]
-mod shown_graphs;
-#[cfg(test)]
-mod whole_heaps;
-#[cfg(test)]
-mod worked;
