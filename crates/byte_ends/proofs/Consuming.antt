@@ -8,11 +8,6 @@ use Rattle.byte_ends.specs.Source.{Gives}
 abbrev pub Consumes : Option (List ℕ) → Option (List ℕ) → List ℕ → Type 0
 Consumes old new bytes = IfSome old (λ left. (rest : List ℕ) × (left ≡ bytes ++ rest) × (new ≡ Some rest))
 
--- no bytes are taken where nothing changes
-pub Consumes-none : (left : Option (List ℕ)) → Consumes left left []
-Consumes-none None = tt
-Consumes-none (Some left) = (left, refl, refl)
-
 -- one read more takes its bytes behind those that were taken before
 pub Consumes-gives : (old mid new : Option (List ℕ)) (bytes before after : List ℕ) (n : ℕ)
     → Consumes old mid bytes → Gives mid new before after n → Consumes old new (bytes ++ take n after)

@@ -1,13 +1,7 @@
 -- What the sinks of this crate have, by what was appended to what they had.
-use Rattle.std.proofs.Common.{◌≡◌, ℕ, List, [], ◌++◌, refl, sym, subst}
-use Rattle.byte_ends.specs.Memory.{SinkBytes, HasBytes}
+use Rattle.std.proofs.Common.{◌≡◌, ℕ, List, [], refl, sym, subst}
 use Rattle.byte_ends.specs.Sink.{Appends}
 use Rattle.byte_ends.specs.Sure.{Sums, HasSums}
-
--- a sink in memory has these bytes behind those that it had
-pub taken-appends : (old new : SinkBytes) (bytes : List ℕ)
-    → Appends (HasBytes old) (HasBytes new) bytes → new.taken ≡ old.taken ++ bytes
-taken-appends old new bytes p = sym (p.appended old.taken refl)
 
 -- a tally that began with nothing has the sums of these bytes
 pub HasSums-appends : (old new : Sums) (bytes : List ℕ)

@@ -1,8 +1,8 @@
 -- Which addresses of cells are listed.
-use Rattle.std.specs.Prelude.{◌≢◌, ℕ, ◌<◌, List, ◌∷◌}
+use Rattle.std.specs.Prelude.{◌≢◌, ℕ, ◌<◌, List, [], ◌∷◌, ◌++◌}
 use Rattle.std.specs.List.{All, AllPairs}
 
--- the bound that all addresses are below, and the listed addresses, the last one first
+-- the bound that all addresses are below, and the listed addresses in the order in which they were pushed
 pub record Listing : Type 0 where
   pub bound : ℕ
   pub addresses : List ℕ
@@ -14,4 +14,4 @@ pub record IsListing (listing : Listing) : Type 0 where
 
 -- with one address more, as the last
 abbrev pub pushed : Listing → ℕ → Listing
-pushed listing at = record listing { addresses = at ∷ listing.addresses }
+pushed listing at = record listing { addresses = listing.addresses ++ at ∷ [] }

@@ -1,12 +1,14 @@
-//! A list of addresses of cells without repeats: the last one pushed is popped first.
+//! A list of addresses of cells without repeats, in the order in which they were pushed: the cells that a
+//! marking found, each once.
 //!
-//! Model: a `Listing` of `specs/Listing.antt`: the bound that all addresses are below, and the
-//! listed addresses, the last first. It reads and writes no word of the heap.
+//! Model: a `Listing` of `specs/Listing.antt`: the bound that all addresses are below, and the listed
+//! addresses, the first one first. It reads and writes no word of the heap.
 //! Invariant: no address is listed twice, and each is below the bound. So there are no more than the
 //! bound, and room for these is there from the start: no call takes memory later.
 #![tactic(auto)]
 
-ghost use Rattle.std.specs.Prelude.{◌≡◌, ◌∷◌, ◌<◌, ◌↔◌, [], if◌then◌else◌, Contains, IsTrue, IfOk, IfNone, MatchOption};
+ghost use Rattle.std.specs.Prelude.{◌≡◌, ◌<◌, ◌↔◌, [], if◌then◌else◌, length, slice_get, Some};
+ghost use Rattle.std.specs.Prelude.{Contains, IsTrue, IfOk, IfNone, MatchOption};
 ghost use Rattle.cell_list.specs.Listing.{IsListing, pushed};
 
 use std::alloc::Global;
@@ -18,7 +20,7 @@ use tagged_word::NoMemory;
 pub struct CellList {
     // In the order in which they were pushed, with room for each address below the bound.
     addresses: Vec<u32>,
-    // For each address below the bound whether it is listed: no call goes through the list.
+    // For each address below the bound whether it is listed: no call goes through the list to learn it.
     listed: Vec<bool>,
 }
 
@@ -45,15 +47,26 @@ impl CellList {
         Ok(CellList { addresses, listed })
     }
 
-    /// Whether no address is listed.
-    pub fn is_empty(&self) -> bool
-        ensures empty { IsTrue result ↔ (self.now.addresses ≡ []) }
+    /// How many addresses are listed.
+    #[inline(always)]
+    pub fn len(&self) -> usize
+        ensures count { result ≡ length self.now.addresses }
         ensures own { IsListing self.now }
     {
-        self.addresses.is_empty()
+        self.addresses.len()
+    }
+
+    /// The address at a place of the list.
+    #[inline(always)]
+    pub fn get(&self, place: usize) -> u32
+        requires { place < length self.now.addresses }
+        ensures { slice_get self.now.addresses place ≡ Some result }
+    {
+        self.addresses[place]
     }
 
     /// Whether the address is listed.
+    #[inline(always)]
     pub fn contains(&self, at: u32) -> bool
         requires { at < self.now.bound }
         ensures { IsTrue result ↔ Contains self.now.addresses at }
@@ -61,7 +74,8 @@ impl CellList {
         self.listed[at as usize]
     }
 
-    /// Lists the address, where it is not listed so far, and answers whether that was so.
+    /// Lists the address as the last, where it is not listed so far, and answers whether that was so.
+    #[inline(always)]
     pub fn push(&mut self, at: u32) -> bool
         requires { at < self.old.bound }
         ensures was_new { IsTrue result ↔ (¬ Contains self.old.addresses at) }
@@ -79,7 +93,7 @@ impl CellList {
     }
 
     /// Takes the address off the list that was pushed last; none where the list is empty.
-    pub fn pop(&mut self) -> Option<u32>
+    fn pop(&mut self) -> Option<u32>
         ensures last { MatchOption result
             (self.old.addresses ≡ []) (λ at. self.old ≡ pushed self.new at) }
         ensures unchanged { IfNone result (self.new ≡ self.old) }
@@ -90,7 +104,7 @@ impl CellList {
         Some(at)
     }
 
-    /// Takes all addresses off the list, in a time that goes by how many there are.
+    /// No address is listed any more. The time goes by how many there were.
     pub fn clear(&mut self)
         ensures { self.new ≡ record self.old { addresses = [] } }
     {

@@ -1,7 +1,7 @@
 -- What stays of a heap whose mutator's side became another one.
-use Rattle.std.proofs.Common.{◌≡◌, ◌∙◌, inl, ap, sym, subst}
+use Rattle.std.proofs.Common.{◌≡◌, ◌∙◌, inl, length, ap, sym, subst}
 use Rattle.object_graph.specs.Graphs.{Graph}
-use Rattle.page_space.specs.Extents.{Space, marks_start}
+use Rattle.page_space.specs.Extents.{Space, marks_start, roots_start}
 use Rattle.heap_model.specs.Images.{image_heap}
 use Rattle.write_barrier.specs.MutatorState.{Mutator, heap_of, MainShows}
 use Rattle.scavenger.specs.Laws.{KeepsGraphs}
@@ -14,29 +14,35 @@ same_heap heap after main spare =
     ap (λ (m : Mutator). record { main = m; spare = after.spare }) main
     ∙ ap (λ (s : Spare). record { main = heap.main; spare = s }) spare
 
--- where the mutator's side shows a graph, and the regions and the memory for an image are the same, the heap shows it
+-- where the mutator's side shows a graph, and the regions, the memory for an image and the number of rows of free runs
+-- are the same, the heap shows it
 pub still_shows : (heap after : HeapState) (graph : Graph) {before : Graph} → HeapShows heap before
-    → after.spare ≡ heap.spare → after.main.seat.space ≡ heap.main.seat.space → MainShows after.main graph
-    → HeapShows after graph
-still_shows heap after graph shown spare space shows = record {
+    → after.spare ≡ heap.spare → after.main.seat.space ≡ heap.main.seat.space
+    → length after.main.free ≡ length heap.main.free → MainShows after.main graph → HeapShows after graph
+still_shows heap after graph shown spare space rows shows = record {
   main = shows;
+  rows = rows ∙ shown.rows ∙ ap (λ (one : Space). one.sizes.pages) (sym space);
   regions = ap (λ (s : Spare). s.image.regions) spare ∙ shown.regions ∙ sym space;
   ready = subst (λ (s : Spare). IsReady s (marks_start after.main.seat.space)) (sym spare)
       (subst (λ (regions : Space). IsReady heap.spare (marks_start regions)) (sym space) shown.ready);
   listed = rw (spare, space) shown.listed;
+  marks = ap (λ (s : Spare). s.marks) spare ∙ shown.marks ∙ ap roots_start (sym space);
 }
 
 -- where only the image was made, of the heap, each graph that was shown is shown
 pub imaged_shows : (heap after : HeapState) (graph : Graph) → HeapShows heap graph → after.main ≡ heap.main
     → IsImageOf (heap_of heap.main) (image_heap after.spare.image) → after.spare.places ≡ heap.spare.places
-    → HeapShows after graph
-imaged_shows heap after graph shown main image places =
+    → after.spare.marks ≡ heap.spare.marks → HeapShows after graph
+imaged_shows heap after graph shown main image places marks =
     let space : after.main.seat.space ≡ heap.main.seat.space = ap (λ (one : Mutator). one.seat.space) main in
     record {
       main = subst (λ (one : Mutator). MainShows one graph) (sym main) shown.main;
+      rows = ap (λ (one : Mutator). length one.free) main ∙ shown.rows
+          ∙ ap (λ (one : Space). one.sizes.pages) (sym space);
       regions = image.space ∙ sym space;
       ready = inl (image.words.count ∙ ap marks_start (sym space));
       listed = rw (places, space) shown.listed;
+      marks = marks ∙ shown.marks ∙ ap roots_start (sym space);
     }
 
 -- where nothing changes, each graph that was shown is shown, with the same rooms

@@ -7,5 +7,8 @@ mod FilledWords
 pub mod ImageStores
 pub mod ImagesTight
 pub mod ImagesFree
+pub mod ImagesStuck
+pub mod ImagesRooted
 pub mod Keeping
 pub mod MadeRoom
+pub mod CollectedAll

@@ -1,10 +1,10 @@
--- A heap that is scavenged twice for room.
-use Rattle.std.proofs.Common.{◌≡◌, ◌∙◌, ℕ, Bool, ap, subst}
+-- A heap that is collected for room.
+use Rattle.std.proofs.Common.{◌≡◌, ◌∙◌, ℕ, Bool, length, ap, subst, length-set}
 use Rattle.object_graph.specs.Graphs.{Graph}
 use Rattle.nursery.specs.Young.{HasRoom}
 use Rattle.write_barrier.specs.MutatorState.{Mutator}
 use Rattle.scavenger.specs.Laws.{KeepsGraphs}
-use Rattle.collector.specs.Making.{Serves, MakesRoom, ScavengesFor}
+use Rattle.collector.specs.Making.{Serves, MakesRoom, CollectsFor}
 use Rattle.collector.specs.States.{HeapState, HeapShows}
 use Rattle.collector.proofs.Keeping.{keeps_itself}
 
@@ -29,10 +29,10 @@ pub shows_twice : {old mid new : HeapState} → ((graph : Graph) → HeapShows o
     → (graph : Graph) → HeapShows old graph → HeapShows new graph
 shows_twice first then graph shown = then graph (first graph shown)
 
--- What becomes of a heap that is asked for room: it is scavenged where there was none, and shows what it showed, with
+-- What becomes of a heap that is asked for room: it is collected where there was none, and shows what it showed, with
 -- the same rooms.
 pub record IsEnsured (old : HeapState) (n : ℕ) (new : HeapState) : Type 0 where
-  pub scavenged : (HasRoom old.main.young n → ⊥) → ScavengesFor old.main new.main n
+  pub collected : (HasRoom old.main.young n → ⊥) → CollectsFor old.main new.main n
   pub shows : (graph : Graph) → HeapShows old graph → HeapShows new graph
   pub rooms : KeepsGraphs old.main new.main
 
@@ -40,7 +40,7 @@ pub record IsEnsured (old : HeapState) (n : ℕ) (new : HeapState) : Type 0 wher
 pub ensured_there : {heap inside : HeapState} {n : ℕ} → inside ≡ heap → HasRoom inside.main.young n
     → IsEnsured heap n heap
 ensured_there {heap} {inside} {n} same room = record {
-  scavenged = λ none. absurd (none (subst (λ (one : HeapState). HasRoom one.main.young n) same room));
+  collected = λ none. absurd (none (subst (λ (one : HeapState). HasRoom one.main.young n) same room));
   shows = λ graph shown. shown;
   rooms = keeps_itself heap.main;
 }
@@ -50,12 +50,29 @@ served_space : {old new : Mutator} {n : ℕ} → Serves old new n → new.seat.s
 served_space (Serves.eden room same) = ap (λ (main : Mutator). main.seat.space) same
 served_space (Serves.granted lacks grants keeps) = grants.beside.space
 
--- where room is made for words
+-- and so many pages have rows of free runs
+pub served_rows : {old new : Mutator} {n : ℕ} → Serves old new n → length new.free ≡ length old.free
+served_rows (Serves.eden room same) = ap (λ (main : Mutator). length main.free) same
+served_rows {old = old} (Serves.granted lacks grants keeps) =
+    ap length grants.takes.others ∙ length-set old.free grants.takes.page grants.takes.row
+
+-- so it is where room is made for words
 made_space : {old new : Mutator} {all : Bool} {n : ℕ} → MakesRoom old new all n → new.seat.space ≡ old.seat.space
 made_space makes = served_space makes.serves ∙ makes.scavenges.seat.space
 
--- and where a heap that shows a graph is scavenged for them
-pub scavenged_space : {old new : Mutator} {n : ℕ} → ScavengesFor old new n → new.seat.space ≡ old.seat.space
-scavenged_space (ScavengesFor.once makes) = made_space makes
-scavenged_space (ScavengesFor.twice mid first keeps out makes) = made_space makes ∙ first.seat.space
-scavenged_space (ScavengesFor.in_vain mid first keeps out then again still) = then.seat.space ∙ first.seat.space
+pub made_rows : {old new : Mutator} {all : Bool} {n : ℕ} → MakesRoom old new all n
+    → length new.free ≡ length old.free
+made_rows makes = served_rows makes.serves ∙ makes.scavenges.rows
+
+-- and where a heap is collected for them
+pub collected_space : {old new : Mutator} {n : ℕ} → CollectsFor old new n → new.seat.space ≡ old.seat.space
+collected_space (CollectsFor.once makes) = made_space makes
+collected_space (CollectsFor.fully mid last first keeps out collects serves) =
+    served_space serves ∙ collects.seat.space ∙ first.seat.space
+collected_space (CollectsFor.in_vain mid first keeps out collects still) = collects.seat.space ∙ first.seat.space
+
+pub collected_rows : {old new : Mutator} {n : ℕ} → CollectsFor old new n → length new.free ≡ length old.free
+collected_rows (CollectsFor.once makes) = made_rows makes
+collected_rows (CollectsFor.fully mid last first keeps out collects serves) =
+    served_rows serves ∙ collects.rows ∙ first.rows
+collected_rows (CollectsFor.in_vain mid first keeps out collects still) = collects.rows ∙ first.rows

@@ -1,4 +1,5 @@
--- Laws of images of a heap: what they show, which rooms objects have in them, and which runs of pages are free.
+-- Laws of images of a heap: what they show, which rooms objects have in them, which runs of pages are free, what is
+-- young, and what is reached from variables.
 use Rattle.std.specs.Prelude.{◌≡◌, ℕ, ◌↔◌, List}
 use Rattle.object_graph.specs.Graphs.{Graph}
 use Rattle.heap_model.specs.Types.{Run}
@@ -10,6 +11,8 @@ use Rattle.heap_model.specs.Reaching.{IsTight}
 use Rattle.heap_model.specs.Slots.{IsPlace}
 use Rattle.heap_model.specs.Needs.{capacity_at}
 use Rattle.heap_model.specs.Rooms.{Room, HasRooms}
+use Rattle.scavenger.specs.Laws.{IsStuck}
+use Rattle.root_mark.specs.Rooted.{FreeIsRun, KeepsRooted}
 use Rattle.collector.specs.Images.{IsImageOf}
 
 -- An image shows each graph that the heap shows, so it is whole.
@@ -42,3 +45,20 @@ abbrev pub ImagesKeepFree : Type 0
 ImagesKeepFree =
     (heap image : Heap) (rows : List (List Run)) → Whole heap → AreFreeRuns heap rows → IsImageOf heap image
     → AreFreeRuns image rows
+
+-- An image of a whole heap, each young cell of which is longer than each of these runs, is such a heap too.
+abbrev pub ImagesStayStuck : Type 0
+ImagesStayStuck =
+    (heap image : Heap) (rows : List (List Run)) → Whole heap → IsStuck heap rows → IsImageOf heap image
+    → IsStuck image rows
+
+-- An image of a whole heap that keeps only what is reached from variables is such a heap too.
+abbrev pub ImagesKeepRooted : Type 0
+ImagesKeepRooted =
+    (heap image : Heap) → Whole heap → KeepsRooted heap → IsImageOf heap image → KeepsRooted image
+
+-- Where each free word of a page of a whole heap is in one of these runs, it is so in an image.
+abbrev pub ImagesKeepRuns : Type 0
+ImagesKeepRuns =
+    (heap image : Heap) (rows : List (List Run)) → Whole heap → FreeIsRun heap rows → IsImageOf heap image
+    → FreeIsRun image rows

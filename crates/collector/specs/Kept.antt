@@ -3,9 +3,15 @@ use Rattle.std.specs.Vec.{vec_capacity}
 use Rattle.collector.specs.declared.script_heap.Heap.TheInside.{Inside}
 use Rattle.collector.specs.States.{HeapState}
 
--- the mutator's side, the image that was made last, the reserved memory, and the places of the list
+-- the mutator's side, the image that was made last, the reserved memory, the places of the list, and the bound of what
+-- can be marked
 abbrev pub state_of : Inside → HeapState
 state_of heap = record {
   main = heap.main;
-  spare = record { image = heap.spare; reserved = vec_capacity heap.memory; places = vec_capacity heap.list };
+  spare = record {
+    image = heap.spare;
+    reserved = vec_capacity heap.memory;
+    places = vec_capacity heap.list;
+    marks = heap.cells.bound;
+  };
 }

@@ -1,16 +1,17 @@
 -- The heap that a script runs on, as those above it see it.
 use Rattle.std.specs.Prelude.{◌≡◌, ℕ, ◌≤◌, ◌⊎◌, length}
 use Rattle.object_graph.specs.Graphs.{Graph}
-use Rattle.page_space.specs.Extents.{marks_start}
+use Rattle.page_space.specs.Extents.{marks_start, roots_start}
 use Rattle.heap_model.specs.declared.image.HeapImage.{HeapImage}
 use Rattle.write_barrier.specs.MutatorState.{Mutator, MainShows}
 
--- the image that was made last, for how many words memory is reserved beside it, and how many places the list of a
--- scavenge has
+-- the image that was made last, for how many words memory is reserved beside it, how many places the list of a scavenge
+-- has, and below which bound addresses of cells can be marked
 pub record Spare : Type 0 where
   pub image : HeapImage
   pub reserved : ℕ
   pub places : ℕ
+  pub marks : ℕ
 
 -- the mutator's side, and the memory that an image of it is copied into
 pub record HeapState : Type 0 where
@@ -21,10 +22,13 @@ pub record HeapState : Type 0 where
 abbrev pub IsReady : Spare → ℕ → Type 0
 IsReady spare count = (length spare.image.words ≡ count) ⊎ (count ≤ spare.reserved)
 
--- The mutator's side shows the graph; there is memory for an image of the same regions, with a word for each address
--- before the marks; and the list of a scavenge has a place for each word of the young generation.
+-- The mutator's side shows the graph, and each page has a row of free runs; there is memory for an image of the same
+-- regions, with a word for each address before the marks; the list of a scavenge has a place for each word of the young
+-- generation; and each cell can be marked.
 pub record HeapShows (heap : HeapState) (graph : Graph) : Type 0 where
   pub main : MainShows heap.main graph
+  pub rows : length heap.main.free ≡ heap.main.seat.space.sizes.pages
   pub regions : heap.spare.image.regions ≡ heap.main.seat.space
   pub ready : IsReady heap.spare (marks_start heap.main.seat.space)
   pub listed : heap.main.seat.space.sizes.young ≤ heap.spare.places
+  pub marks : heap.spare.marks ≡ roots_start heap.main.seat.space

@@ -63,6 +63,7 @@ impl Heap {
         ensures image { IsImageOf (heap_of self.old.main) (image_heap self.new.spare.image) }
         ensures main { self.new.main ≡ self.old.main }
         ensures places { self.new.spare.places ≡ self.old.spare.places }
+        ensures marks { self.new.spare.marks ≡ self.old.spare.marks }
     {
         self.spare.used = self.main.used();
         self.spare.survivors = self.main.nursery_mut().survivors();
@@ -97,6 +98,7 @@ impl Heap {
             spare,
             memory: _,
             list: _,
+            cells: _,
             alloc: _,
         } = self;
         spare

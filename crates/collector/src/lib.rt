@@ -1,12 +1,15 @@
 //! The collector's side of a heap: the heap that a script runs on, and images of it.
 //!
 //! Model: a `HeapState` of `specs/States.antt`: the mutator's side, which is lent to commands, the
-//! memory that an image of it is copied into, and the places of the list of a scavenge.
+//! memory that an image of it is copied into, the places of the list of a scavenge, and the bound of
+//! what can be marked.
 //! Invariant: none over the mutator's side, which is lent. `HeapShows` of `specs/States.antt` is
-//! what holds between two commands. `IsImageOf` of `specs/Images.antt` says what an image is, and
+//! what holds between two commands. `CollectsFor` of `specs/Making.antt` says which collections make
+//! room, and `CollectsAll` what a full one leaves. `IsImageOf` of `specs/Images.antt` says what an image is, and
 //! `laws_of_images` what it shows.
 #![tactic(auto)]
 
+mod collecting;
 mod filling;
 mod imaging;
 mod laws;

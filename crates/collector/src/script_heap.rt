@@ -1,10 +1,13 @@
-//! The heap that a script runs on. Room in it is in `room.rt`, images of it in `imaging.rt`.
+//! The heap that a script runs on. Collections of it are in `collecting.rt`, room in it in `room.rt`, images of it in
+//! `imaging.rt`.
 ghost use Rattle.std.specs.Prelude.{◌≡◌, IfOk, length};
 ghost use Rattle.std.specs.Borrow.{sem};
 ghost use Rattle.object_graph.specs.Graphs.{start};
+ghost use Rattle.page_space.specs.Extents.{roots_start};
 ghost use Rattle.heap_table.specs.Seats.{fresh};
 ghost use Rattle.write_barrier.specs.MutatorState.{IsOpened};
 
+use cell_list::CellList;
 use heap_model::{HeapImage, HeapWords};
 use heap_table::MainSeat;
 use page_space::Regions;
@@ -15,8 +18,8 @@ use tagged_word::NoMemory;
 use word_store::Reads;
 use write_barrier::Main;
 
-/// The heap that a script runs on: the mutator's side, and memory for an image of it and for the list of
-/// a scavenge, which is taken when the heap is opened.
+/// The heap that a script runs on: the mutator's side, and memory for an image of it, for the list of a
+/// scavenge and for the marks of a full collection, which is taken when the heap is opened.
 #[derive(Drop)]
 pub struct Heap {
     pub(crate) main: Main,
@@ -26,6 +29,8 @@ pub struct Heap {
     pub(crate) memory: Vec<u64>,
     // The list of a scavenge: which copies are to be looked at.
     pub(crate) list: Vec<u32>,
+    // What a full collection marks.
+    pub(crate) cells: CellList,
     // What an empty list of words is made with. It gives no memory after the heap is opened.
     pub(crate) alloc: Global,
 }
@@ -39,6 +44,9 @@ impl Model for Heap {
 
     ghost view = { state_of };
 }
+
+/// The words of a root.
+const ROOT_WORDS: u32 = 2;
 
 /// An image of these regions without words, of which nothing is used.
 fn spare_image(alloc: Global, regions: Regions) -> Result<HeapImage, NoMemory>
@@ -54,13 +62,20 @@ fn spare_image(alloc: Global, regions: Regions) -> Result<HeapImage, NoMemory>
     })
 }
 
+/// The first address behind all cells.
+fn cells_end(regions: Regions) -> u32
+    ensures { result ≡ roots_start regions }
+{
+    regions.layout_at(0) - ROOT_WORDS * regions.variables()
+}
+
 impl Heap {
     ghost use Rattle.collector.specs.States.{HeapShows};
     ghost use Rattle.collector.specs.Lending.{LendsMain};
 
     /// Opens a heap over words of 0: no object, each page one gap and one free run, each variable bound
-    /// to nothing. It takes the memory for the shapes, for an image and for the list of a scavenge; later calls need
-    /// none.
+    /// to nothing. It takes the memory for the shapes, for an image, for the list of a scavenge and for
+    /// marks; later calls need none.
     ///
     /// # Errors
     /// Memory was refused.
@@ -73,11 +88,13 @@ impl Heap {
         let spare = spare_image(alloc, main.regions())?;
         let memory = Vec::with_capacity(alloc, main.count() as usize)?;
         let list = Vec::with_capacity(alloc, regions.sizes().young as usize)?;
+        let cells = CellList::new(alloc, cells_end(regions))?;
         Ok(Heap {
             main,
             spare,
             memory,
             list,
+            cells,
             alloc,
         })
     }

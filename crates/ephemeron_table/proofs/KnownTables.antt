@@ -1,7 +1,7 @@
 -- What is known of a weak map and its table before words of them change.
 use Rattle.std.specs.Prelude.{option_map}
 use Rattle.std.proofs.Common.{◌≡◌, ◌≢◌, ℕ, ◌+◌, ◌*◌, ◌≤◌, ◌<◌, inl, inr, List, length, drop, Some, None, slice_get}
-use Rattle.std.proofs.Common.{unwrap_or, sym, ◌∙◌, ap, subst, arith, length-drop}
+use Rattle.std.proofs.Common.{sym, ◌∙◌, ap, subst, arith, length-drop}
 use Rattle.std.proofs.lemmas.Bool.{false≢true, cases_lt}
 use Rattle.std.proofs.lemmas.Option.{same_Some, none-some, slice_get-map}
 use Rattle.tagged_word.specs.declared.layout.Kind.TheVariants as kind
@@ -30,13 +30,13 @@ use Rattle.object_cells.specs.CellWrites.{IsInCell}
 use Rattle.object_cells.specs.Contents.{next_at}
 use Rattle.object_cells.specs.Made.{PutsWords, content_need, with_content}
 use Rattle.object_cells.specs.declared.content.SlotContent.{SlotContent}
-use Rattle.object_cells.proofs.CellsRead.{word_stands, cell_at_before_marks}
+use Rattle.object_cells.proofs.CellsRead.{cell_at_before_marks}
 use Rattle.object_cells.proofs.OwnPlaces.{has_own_words}
 use Rattle.object_cells.proofs.TakenValues.{IsItsStore}
 use Rattle.object_cells.proofs.OwnContents.{PutsBeside}
 use Rattle.object_cells.proofs.OwnerWrites.{weak_owns}
 use Rattle.object_cells.proofs.WordsTold.{cell_fits}
-use Rattle.weak_pairs.specs.Pairs.{HasPairs}
+use Rattle.weak_pairs.specs.Pairs.{HasPairs, HasPairsAt}
 use Rattle.weak_pairs.specs.Tables.{number_at, KeysOutsidePairs, IsKeyOutside, IsOutsidePairs, numbers, key_number}
 use Rattle.weak_pairs.specs.Tables.{pairs_of}
 use Rattle.weak_pairs.specs.declared.table.Table.{Table}
@@ -47,7 +47,8 @@ use Rattle.weak_pairs.proofs.PairLists.{pairs_are, length-pairs_in}
 use Rattle.ephemeron_table.specs.WeakObjects.{IsWeakAt}
 use Rattle.ephemeron_table.specs.Probes.{IsWeakCellAt, IsTableAt}
 use Rattle.ephemeron_table.proofs.KeysFound.{number_is, weak_shown, shown_there}
-use Rattle.ephemeron_table.proofs.TablesRead.{IsFoundTable, found_table, weak_sound, weak_pairs}
+use Rattle.ephemeron_table.proofs.TablesRead.{IsFoundTable, found_table, pair_found, pairs_counted, weak_sound}
+use Rattle.ephemeron_table.proofs.TablesRead.{weak_pairs}
 
 -- The table that was read is that of the weak map at the address.
 pub record KnownMap (old : Mutator) (map : ℕ) (table : Table) : Type 0 where
@@ -117,18 +118,12 @@ module _ {old : Mutator} {map : ℕ} {table : Table} (known : KnownMap old map t
   pub each_found : (at : ℕ) (pair : Pair) → slice_get (pairs_of (heap_words old.seat) table) at ≡ Some pair
       → pair ≢ free_pair → IsFoundPair (heap_of old) (pairs_of (heap_words old.seat) table) at pair
   each_found at pair there filled =
-      elim (sound.each at pair (ap (λ all. slice_get all at) (sym pairs_same) ∙ there)) [
-        | inl free ↦ absurd (filled free)
-        | inr found ↦ subst (λ all. IsFoundPair (heap_of old) all at pair) (sym pairs_same) found
-      ]
+      let are = subst (HasPairsAt (heap_of old) map) (sym pairs_same) (weak_pairs known.there sound) in
+      pair_found at pair known.whole are (record { stands = there; filled = filled })
 
   -- so many are counted
   pub count_is : count_at (heap_of old) map ≡ count_filled (pairs_of (heap_words old.seat) table)
-  count_is =
-      ap (λ n. count_at (heap_of old) n) (sym known.there.stands)
-      ∙ ap (λ found. unwrap_or found 0)
-      (word_stands count_offset (count_filled sound.pairs) known.there.has sound.counted)
-      ∙ ap count_filled (sym pairs_same)
+  count_is = pairs_counted known.whole (weak_pairs known.there sound) ∙ ap count_filled (sym pairs_same)
 
   -- it has three words
   pub map_size : cell.size ≡ 3

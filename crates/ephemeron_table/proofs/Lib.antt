@@ -14,6 +14,8 @@ pub mod MapsWithout
 pub mod DeletedEntries
 pub mod ShownEntries
 pub mod WrittenEntries
+pub mod MapsKept
+pub mod UnreachedKeys
 pub mod RemovedPairs
 pub mod RehashedPairs
 pub mod RehashedTables

@@ -25,14 +25,16 @@ use Rattle.object_cells.proofs.TakenRuns.{bumped_none, takes_none}
 use Rattle.object_cells.proofs.CellsRead.{word_stands}
 use Rattle.weak_pairs.specs.Pairs.{HasPairsAt, IsFilledAt, AreWithout}
 use Rattle.ephemeron_table.proofs.KeptTables.{tables_stay}
-use Rattle.ephemeron_table.specs.Pairs.{RemovesPair}
+use Rattle.ephemeron_table.specs.Pairs.{KeepsTables, RemovesPair}
 use Rattle.ephemeron_table.specs.PairLaws.{WrittenPairsAreOwn}
 use Rattle.ephemeron_table.specs.Probes.{IsTableAt}
 use Rattle.ephemeron_table.specs.Removals.{RemovesAt}
 use Rattle.weak_pairs.specs.Tables.{pairs_of, IsOutsidePairs}
 use Rattle.weak_pairs.specs.declared.table.Table.{Table}
 use Rattle.weak_pairs.proofs.CountedPairs.{count_freed}
-use Rattle.ephemeron_table.proofs.KnownTables.{KnownMap, cell, count_is, within_words}
+use Rattle.ephemeron_table.proofs.KnownTables.{KnownMap, cell, count_is, found, other, within_words}
+use Rattle.ephemeron_table.proofs.MapsKept.{ChangesMap, keeps_tables, same_cells}
+use Rattle.ephemeron_table.proofs.UnreachedKeys.{stays_shown}
 use Rattle.weak_pairs.proofs.PairLists.{pairs_are}
 use Rattle.ephemeron_table.proofs.MapTouches.{removed_remembers}
 use Rattle.ephemeron_table.proofs.MapsWithout.{refills_weak, slot_stays, map_has, are_after}
@@ -123,6 +125,14 @@ removes_pair {old} {new} {map} {place} {table} {pairs} {pair} known before has t
     let stands : (cell known).at ≡ map = known.there.stands in
     let law = are_own (heap_of old) (heap_of new) (cell known) _ [] refills in
     let remembers = removed_remembers known some removes in
+    let maps : ChangesMap (heap_of old) (heap_of new) (cell known) (other known some) = record {
+      whole = known.whole;
+      weak = known.there.of_kind;
+      of_table = (found known some).of_kind;
+      cells = law.1;
+      own = law.2;
+      slot = slot_stays known some removes pair is;
+    } in
     record {
       whole = record { quiet = removes.rest.phase ∙ quiet; whole = law.3 };
       tied = still_tied known.tied known.whole (takes_none removes.rest (room_for_none old known.tied known.whole)
@@ -133,6 +143,13 @@ removes_pair {old} {new} {map} {place} {table} {pairs} {pair} known before has t
           (tables_stay refills (slot_stays known some removes pair is));
       stay = λ word not_count no_pair. removes.beside word
           (beside_pairs known has some word (no_pair table.at (refers_there known has some))) not_count;
+      cells = same_cells maps;
+      tables = subst (KeepsTables (heap_of old) (heap_of new)) stands (keeps_tables maps);
+      counted = omega (
+        arith,
+        ap (λ found. unwrap_or found 0) removes.counted,
+        counts_some known there filled,
+      );
       bound = removes.touches.bound;
       remembered = λ bounded were. remembers_heap old new _ _ [] remembers bounded known.whole law.0 law.1 were;
       after = pairs_of (heap_words new.seat) table;
@@ -152,4 +169,7 @@ removes_pair {old} {new} {map} {place} {table} {pairs} {pair} known before has t
         kept = removes.removed.kept;
         below = λ free none. removes.below free none pair is;
       });
+      free = (removes.hole, removes.free);
+      shows = λ one there_too.
+          stays_shown known some removes one (filled_place known has there_too) law.3 law.1 law.2;
     }

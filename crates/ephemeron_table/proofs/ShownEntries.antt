@@ -29,7 +29,7 @@ use Rattle.weak_pairs.proofs.PairWords.{one_pairs}
 use Rattle.ephemeron_table.proofs.ReplacedPairs.{weak_step}
 
 -- a pair whose key refers to an object holds something
-key_filled : {heap : Heap} {pairs : List Pair} {number : ℕ} (at : ℕ) (pair : Pair) → slice_get pairs at ≡ Some pair
+pub key_filled : {heap : Heap} {pairs : List Pair} {number : ℕ} (at : ℕ) (pair : Pair) → slice_get pairs at ≡ Some pair
     → RefersToPlace heap pair.key number → IsFilledAt pairs at pair
 key_filled at pair there key = record {
   stands = there;

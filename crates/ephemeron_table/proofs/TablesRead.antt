@@ -11,19 +11,22 @@ use Rattle.page_space.specs.Extents.{marks_start}
 use Rattle.page_space.proofs.Starts.{marks_start_is}
 use Rattle.heap_model.specs.Types.{Cell}
 use Rattle.cell_layout.proofs.OneCell.{cells_have_words}
-use Rattle.heap_model.specs.Heaps.{Heap}
+use Rattle.heap_model.specs.Heaps.{Heap, HasCell}
 use Rattle.heap_model.specs.Slots.{reference_word, undefined_word, RefersTo}
-use Rattle.heap_model.specs.Kinds.{HasWord, Pair, pairs_in, HasTable, IsPowerOfTwo, IsSoundOf, IsWeakCell}
+use Rattle.heap_model.specs.Kinds.{HasWord, Pair, pairs_in, HasTable, IsFoundPair, IsPowerOfTwo, IsSoundOf, IsWeakCell}
+use Rattle.heap_model.specs.Kinds.{count_offset}
 use Rattle.heap_model.specs.Wholeness.{Whole}
-use Rattle.heap_model.specs.Needs.{capacity_by}
-use Rattle.heap_model.proofs.CellsApart.{has_is_cell}
+use Rattle.heap_model.specs.Needs.{capacity_by, count_at}
+use Rattle.heap_model.proofs.CellsApart.{has_is_cell, one_at, one_words}
 use Rattle.heap_model.proofs.CellWords.{words_by_kind, words_are_size, behind_head}
 use Rattle.heap_model.proofs.ObjectSlots.{pair_words}
 use Rattle.heap_model.proofs.WordClasses.{same_reference, undefined_refers_not}
 use Rattle.object_cells.proofs.CellsRead.{word_before_marks, cell_before_marks, word_is, word_stands}
 use Rattle.object_cells.proofs.WordsTold.{cell_fits}
 use Rattle.object_cells.proofs.KeptCapacities.{capacity_read, length_stands}
-use Rattle.weak_pairs.specs.Pairs.{HasPairsAt}
+use Rattle.weak_pairs.specs.Pairs.{HasPairs, HasPairsAt, IsFilledAt}
+use Rattle.weak_pairs.proofs.CountedPairs.{count_filled}
+use Rattle.weak_pairs.proofs.PairWords.{one_pairs}
 use Rattle.ephemeron_table.specs.Probes.{IsWeakCellAt, IsTableAt}
 use Rattle.weak_pairs.specs.Tables.{ArePairsIn, key_offset, value_offset}
 use Rattle.weak_pairs.proofs.PairLists.{length-pairs_in}
@@ -107,6 +110,42 @@ weak_pairs there sound = record {
   of_kind = there.of_kind;
   are = record { store = sound.store; slot = sound.slot; table = sound.table };
 }
+
+-- a weak map has one list of pairs
+pub one_map : {heap : Heap} {map : ℕ} {pairs others : List Pair} → HasPairsAt heap map pairs
+    → HasPairsAt heap map others → pairs ≡ others
+one_map {heap} {others = others} a b =
+    let same = one_at b.has a.has (b.stands ∙ sym a.stands) in
+    let words = one_words (subst (λ cell. HasCell heap cell b.words) same b.has) a.has in
+    one_pairs a.are (subst (λ all. HasPairs heap all others) words b.are)
+
+-- what is sound of its cell is so of its pairs
+pairs_sound : {heap : Heap} {map : ℕ} {pairs : List Pair} → Whole heap → (has : HasPairsAt heap map pairs)
+    → (sound : IsWeakCell heap has.words) × (sound.pairs ≡ pairs)
+pairs_sound {heap} whole has =
+    let sound : IsWeakCell heap has.words =
+    subst (λ k. IsSoundOf k heap has.cell has.words) has.of_kind (whole.sound has.cell has.words has.has) in
+    (sound, one_pairs (record { store = sound.store; slot = sound.slot; table = sound.table }) has.are)
+
+-- each of them that holds something holds an entry, where probing finds it
+pub pair_found : {heap : Heap} {map : ℕ} {pairs : List Pair} (at : ℕ) (pair : Pair) → Whole heap
+    → HasPairsAt heap map pairs
+    → IsFilledAt pairs at pair → IsFoundPair heap pairs at pair
+pair_found {heap} at pair whole has filled =
+    let sound = pairs_sound whole has in
+    elim (sound.0.each at pair (ap (λ all. slice_get all at) sound.1 ∙ filled.stands)) [
+      | inl free ↦ absurd (filled.filled free)
+      | inr found ↦ subst (λ all. IsFoundPair heap all at pair) sound.1 found
+    ]
+
+-- and the map counts these
+pub pairs_counted : {heap : Heap} {map : ℕ} {pairs : List Pair} → Whole heap → HasPairsAt heap map pairs
+    → count_at heap map ≡ count_filled pairs
+pairs_counted {heap} whole has =
+    let sound = pairs_sound whole has in
+    ap (count_at heap) (sym has.stands)
+    ∙ ap (λ found. unwrap_or found 0) (word_stands count_offset (count_filled sound.0.pairs) has.has sound.0.counted)
+    ∙ ap count_filled sound.1
 
 -- the slot of the map's cell for a table is before the marks
 pub slot_within : {heap : Heap} {at : ℕ} → Whole heap → IsWeakCellAt heap at → at + 1 < marks_start heap.space

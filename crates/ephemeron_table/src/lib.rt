@@ -31,4 +31,6 @@ pub use deleting::delete;
 pub use getting::get;
 pub use laws::{laws_of_entries, laws_of_pairs};
 pub use maps::put;
+pub use probing::key_of;
 pub use stop::TableStop;
+pub use table::table_of;

@@ -30,8 +30,8 @@ pub(crate) fn place(capacity: u32, from: u32, steps: u32) -> u32
     ((from as u64 + steps as u64) % capacity as u64) as u32
 }
 
-/// The word of the key of a pair.
-pub(crate) fn key_of(main: &Main, table: Table, place: u32) -> Word
+/// The word of the key of a table's pair, by its place.
+pub fn key_of(main: &Main, table: Table, place: u32) -> Word
     requires quiet { main.now.seat.phase ≡ Quiet }
     requires within { TableIsWithin (heap_of main.now) table }
     requires place { place < table.capacity }

@@ -12,8 +12,8 @@ use tagged_word::{Header, Word};
 use weak_pairs::Table;
 use write_barrier::Main;
 
-/// The table of the weak map at an address.
-pub(crate) fn table_of(main: &Main, map: u32) -> Table
+/// The table of the weak map at an address; one of no pairs where it has none.
+pub fn table_of(main: &Main, map: u32) -> Table
     requires whole { IsQuietWhole main.now }
     requires there { IsWeakCellAt (heap_of main.now) map }
     ensures { IsTableAt (heap_of main.now) map result }

@@ -9,3 +9,8 @@ pub mod Listed
 pub mod FreeHere
 pub mod Young
 pub mod RecordedSlots
+pub mod EachCell
+pub mod WordsMoved
+pub mod ComersFound
+pub mod CellsMoved
+pub mod HeapsMoved

@@ -6,3 +6,5 @@ pub mod Reached
 pub mod Bindings
 pub mod Recorded
 pub mod FreeCells
+pub mod Moves
+pub mod MovedCells

@@ -2,7 +2,8 @@
 //!
 //! Model: none of its own. `Shows` of `heap_model` says which graph a heap shows; each function here
 //! answers whether one part of it holds, and `shows` puts them together. `are_remembered` and
-//! `are_free_runs` answer what `AreRemembered` and `AreFreeRuns` of `heap_model` say of pages.
+//! `are_free_runs` answer what `AreRemembered` and `AreFreeRuns` of `heap_model` say of pages, and
+//! `is_moved` what `IsMoved` of `heap_moves` says of two heaps.
 //! Invariant: none. A judge that needs what another one found requires it; `shows` requires nothing.
 //! The judges are slow: each object that can be reached is looked for in the whole heap.
 #![tactic(auto)]
@@ -12,6 +13,11 @@ mod entries;
 mod fields;
 mod free;
 mod lists;
+mod moved;
+mod moved_cells;
+mod moved_roots;
+mod moved_words;
+mod moves;
 mod objects;
 mod pairs;
 mod paths;
@@ -23,6 +29,8 @@ mod weak;
 mod whole;
 
 pub use free::are_free_runs;
+pub use moved::is_moved;
+pub use moves::Move;
 pub use remembered::are_remembered;
 pub use shown::shows;
 pub use whole::is_whole_heap;

@@ -24,6 +24,53 @@ pub(crate) fn has_paths(shapes: &ShapeTree, paths: &[Path]) -> bool
     true
 }
 
+/// Whether two trees of shapes have the same paths, in the same order.
+pub(crate) fn has_same_paths(shapes: &ShapeTree, others: &ShapeTree) -> bool
+    ensures { IsTrue result ↔ (shapes.now ≡ others.now) }
+{
+    let count = shapes.paths();
+    if count != others.paths() {
+        return false;
+    }
+    for at in 0..count {
+        if !has_same_path(shapes, others, shape::PATHS + at) {
+            return false;
+        }
+    }
+    true
+}
+
+/// Whether the path of a shape is the same in two trees.
+fn has_same_path(shapes: &ShapeTree, others: &ShapeTree, shape: u32) -> bool
+    requires path { IsPathShape shapes.now shape }
+    requires other { IsPathShape others.now shape }
+    ensures { IsTrue result ↔ (shape_path shapes.now shape ≡ shape_path others.now shape) }
+{
+    if shapes.cap(shape) != others.cap(shape) {
+        return false;
+    }
+    has_same_fields(shapes, others, shape)
+}
+
+/// Whether the path of a shape has the same fields in two trees, in the same order.
+fn has_same_fields(shapes: &ShapeTree, others: &ShapeTree, shape: u32) -> bool
+    requires path { IsPathShape shapes.now shape }
+    requires other { IsPathShape others.now shape }
+    ensures { IsTrue result
+        ↔ ((shape_path shapes.now shape).fields ≡ (shape_path others.now shape).fields) }
+{
+    let count = shapes.fields(shape);
+    if count != others.fields(shape) {
+        return false;
+    }
+    for at in 0..count {
+        if !is_field_at(shapes, shape, at, others.field(shape, at)) {
+            return false;
+        }
+    }
+    true
+}
+
 /// Whether the path of a shape is this one.
 fn is_path(shapes: &ShapeTree, shape: u32, path: &Path) -> bool
     requires { IsPathShape shapes.now shape }

@@ -11,7 +11,7 @@ use Rattle.heap_model.specs.Types.{Kind, Path, Cell}
 use Rattle.heap_model.specs.Heaps.{Heap, HasCell, words_of_cell}
 use Rattle.heap_model.specs.Slots.{is_object_kind, RefersToBox}
 use Rattle.heap_model.specs.Wholeness.{IsOwnedKind}
-use Rattle.heap_model.specs.Changes.{CellsChange, IsFilled, IsStill}
+use Rattle.heap_model.specs.Changes.{CellsChange, IsFilledIn, IsStill}
 use Rattle.heap_model.proofs.CellsApart.{one_at}
 use Rattle.heap_model.proofs.WordsStay.{PlacesStay, BoxStays}
 
@@ -22,7 +22,7 @@ pub record CellsMove (old new : Heap) (gone came made : List Cell) : Type 0 wher
   pub went : (cell : Cell) → Contains gone cell → HasCell old cell (words_of_cell old cell)
   pub comes : (cell : Cell) → Contains (came ++ made) cell → HasCell new cell (words_of_cell new cell)
   pub kept : (cell : Cell) (words : List ℕ) → HasCell old cell words → (Contains gone cell → ⊥)
-      → (IsFilled made cell → ⊥) → HasCell new cell words
+      → (IsFilledIn made cell → ⊥) → HasCell new cell words
   pub back : (cell : Cell) (words : List ℕ) → HasCell new cell words
       → Contains (came ++ made) cell ⊎ (HasCell old cell words × (Contains gone cell → ⊥))
 

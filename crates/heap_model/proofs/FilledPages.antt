@@ -12,7 +12,7 @@ use Rattle.heap_model.specs.Types.{Cell}
 use Rattle.heap_model.specs.Heaps.{Heap, HasCell}
 use Rattle.heap_model.specs.Wholeness.{HasRows, Whole}
 use Rattle.heap_model.specs.Changes.{Patch, IsPatch, IsPatched, PatchesDisjoint, AreFillers, IsNewlyUsed, IsChange}
-use Rattle.heap_model.specs.Changes.{IsFilled, CellsChange}
+use Rattle.heap_model.specs.Changes.{IsFilledIn, CellsChange}
 use Rattle.heap_model.specs.Laws.{gone_with, come_with}
 use Rattle.heap_model.proofs.CellsApart.{one_at}
 use Rattle.heap_model.proofs.RowCovers.{covered}
@@ -117,7 +117,7 @@ page_patching page =
 
 -- a filler of the run is one in whose words a cell was made
 is_filled : {old new : Heap} {patches : List Patch} {made : List Cell} {cell : Cell}
-    → (page : PageChange old new patches made) → Contains (run_of page).cells cell → IsFilled made cell
+    → (page : PageChange old new patches made) → Contains (run_of page).cells cell → IsFilledIn made cell
 is_filled {old} {new} {made = made} {cell} page there =
     let run = run_of page in
     let from : ℕ = page.change.from in

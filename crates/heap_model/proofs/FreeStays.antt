@@ -7,8 +7,8 @@ use Rattle.heap_model.specs.Types.{Cell, Run, Held}
 use Rattle.heap_model.specs.Heaps.{Heap, HasCell, cell_extents}
 use Rattle.heap_model.specs.Wholeness.{Whole}
 use Rattle.heap_model.specs.Laws.{bound}
-use Rattle.heap_model.specs.Changes.{IsFillerAt, AreFillers, IsFilled}
-use Rattle.heap_model.specs.Collectable.{IsFreeCell, AreFreeRuns, AvoidFree, AvoidRange}
+use Rattle.heap_model.specs.Changes.{IsFillerAt, AreFillers, IsFilledIn}
+use Rattle.heap_model.specs.Collectable.{IsFreeCell, AreFreeRuns, CellsAvoidFree, AvoidRange}
 use Rattle.heap_model.specs.Collectable.{OwnChangesKeepFree, OwnChangesKeepFillers}
 use Rattle.heap_model.proofs.CellOutcomes.{cells_move}
 use Rattle.heap_model.proofs.Moves.{Moves}
@@ -18,7 +18,7 @@ use Rattle.heap_model.proofs.StaysCollectable.{own_not_free}
 -- a free cell is no object's own, so it did not go; it stays where no cell is made of it
 free_cell_stays : {old new : Heap} {gone came made : List Cell} {cell : Cell} {words : List ℕ}
     → Moves old new gone came made → HasCell old cell words → IsTrue (is_free_kind cell.layout.kind)
-    → (IsFilled made cell → ⊥) → HasCell new cell words
+    → (IsFilledIn made cell → ⊥) → HasCell new cell words
 free_cell_stays {cell = cell} {words} moves has free not_filled =
     moves.cells.kept cell words has
     (λ gone. own_not_free (moves.cells.went cell gone) (moves.own.own cell gone) free) not_filled
@@ -42,7 +42,7 @@ free_stays same moves avoids is = record {
 
 -- so free runs stay so
 moves_keep_free : {old new : Heap} {gone came made : List Cell} (rows : List (List Run)) → new.space ≡ old.space
-    → Moves old new gone came made → AvoidFree made rows → AreFreeRuns old rows → AreFreeRuns new rows
+    → Moves old new gone came made → CellsAvoidFree made rows → AreFreeRuns old rows → AreFreeRuns new rows
 moves_keep_free rows same moves avoid are row run among there =
     free_stays same moves (λ cell is_made. avoid row run cell among there is_made) (are row run among there)
 

@@ -4,7 +4,6 @@ pub mod CellsApart
 pub mod CellWords
 pub mod WordsRead
 pub mod PathLayouts
-pub mod FixedShapes
 pub mod ObjectSlots
 pub mod SlotWords
 pub mod SlotsHold

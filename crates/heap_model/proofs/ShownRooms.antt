@@ -8,7 +8,7 @@ use Rattle.object_graph.specs.Reach.{is_marked, reach}
 use Rattle.heap_model.specs.Heaps.{Heap}
 use Rattle.heap_model.specs.Slots.{IsPlace}
 use Rattle.heap_model.specs.Showing.{Shows}
-use Rattle.heap_model.specs.Rooms.{Room, no_room, room_at, ShownObjectsHaveRooms}
+use Rattle.heap_model.specs.Rooms.{Room, bare_room, room_at, ShownObjectsHaveRooms}
 
 -- the room of one object, if it is there and can be reached
 record HasRoomOf (heap : Heap) (graph : Graph) (number : ℕ) : Type 0 where
@@ -20,11 +20,11 @@ record HasRoomOf (heap : Heap) (graph : Graph) (number : ℕ) : Type 0 where
 room_found : (heap : Heap) (graph : Graph) (number : ℕ) (found : Option Object) (marked : Bool) → Shows heap graph
     → slice_get graph.objects number ≡ found → is_marked (reach graph) number ≡ marked → HasRoomOf heap graph number
 room_found heap graph number None marked shows there is = record {
-  room = no_room;
+  room = bare_room;
   is = λ at what found reached place. absurd (none-some what (sym there ∙ found));
 }
 room_found heap graph number (Some one) false shows there is = record {
-  room = no_room;
+  room = bare_room;
   is = λ at what found reached place. absurd (false≢true (sym is ∙ reached));
 }
 room_found heap graph number (Some one) true shows there is =

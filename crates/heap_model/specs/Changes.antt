@@ -133,7 +133,7 @@ pub record BeginsInOneOf (cells : List Cell) (cell : Cell) : Type 0 where
   pub below : cell.at < other.at + other.size
 
 -- a filler stood where one of these cells was made
-pub record IsFilled (made : List Cell) (cell : Cell) : Type 0 where
+pub record IsFilledIn (made : List Cell) (cell : Cell) : Type 0 where
   pub filler : cell.layout.kind ≡ kind.Filler
   pub begins : BeginsInOneOf made cell
 
@@ -147,7 +147,7 @@ pub record CellsChange (old new : Heap) (gone came made : List Cell) : Type 0 wh
   pub went : (cell : Cell) → Contains gone cell → HasCell old cell (words_of_cell old cell)
   pub comes : (cell : Cell) → Contains (came ++ made) cell → HasCell new cell (words_of_cell new cell)
   pub kept : (cell : Cell) (words : List ℕ) → HasCell old cell words → (Contains gone cell → ⊥)
-      → (IsFilled made cell → ⊥) → HasCell new cell words
+      → (IsFilledIn made cell → ⊥) → HasCell new cell words
   pub back : (cell : Cell) (words : List ℕ) → HasCell new cell words
       → Contains (came ++ made) cell ⊎ (HasCell old cell words × (Contains gone cell → ⊥))
   pub in_place : (cell : Cell) → Contains came cell → BeginsInOneOf gone cell

@@ -35,8 +35,8 @@ abbrev pub AreFreeRuns : Heap → List (List Run) → Type 0
 AreFreeRuns heap rows = (row : List Run) (run : Run) → Contains rows row → Contains row run → IsFreeCell heap run
 
 -- none of these cells has the first word of one of the free runs
-abbrev pub AvoidFree : List Cell → List (List Run) → Type 0
-AvoidFree cells rows =
+abbrev pub CellsAvoidFree : List Cell → List (List Run) → Type 0
+CellsAvoidFree cells rows =
     (row : List Run) (run : Run) (cell : Cell) → Contains rows row → Contains row run → Contains cells cell
     → cell.at ≤ run.at → run.at < cell.at + cell.size → ⊥
 
@@ -44,7 +44,7 @@ AvoidFree cells rows =
 abbrev pub OwnChangesKeepFree : Type 0
 OwnChangesKeepFree =
     (old new : Heap) (gone came made : List Cell) (rows : List (List Run)) → Whole old
-    → CellsChange old new gone came made → IsOwnChange old new gone came made → AvoidFree made rows
+    → CellsChange old new gone came made → IsOwnChange old new gone came made → CellsAvoidFree made rows
     → AreFreeRuns old rows → AreFreeRuns new rows
 
 -- none of these cells has a word from an address up to another

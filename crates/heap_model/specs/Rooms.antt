@@ -30,8 +30,8 @@ pub record Room : Type 0 where
   pub entries : ℕ
 
 -- the room of an object that has neither a store nor a table
-abbrev pub no_room : Room
-no_room = record { capacity = 0; entries = 0 }
+abbrev pub bare_room : Room
+bare_room = record { capacity = 0; entries = 0 }
 
 -- how many pairs are filled of the table of this object, which stands at the address
 abbrev pub entries_at : Heap → ℕ → Object → ℕ
@@ -206,9 +206,9 @@ with_capacity rooms number capacity = with_room rooms number (record (rooms numb
 -- The rooms after a command. An object that is made has no store. `set`, `push`, `shift` and `trunc` change the store
 -- of their object, `wput` and `wdel` the table of their map. The four commands that collect keep each entry.
 abbrev pub rooms_after : Graph → (ℕ → Room) → Command → ℕ → Room
-rooms_after graph rooms (command.New x cap) = with_room rooms (length graph.objects) no_room
-rooms_after graph rooms (command.List x) = with_room rooms (length graph.objects) no_room
-rooms_after graph rooms (command.Weak x) = with_room rooms (length graph.objects) no_room
+rooms_after graph rooms (command.New x cap) = with_room rooms (length graph.objects) bare_room
+rooms_after graph rooms (command.List x) = with_room rooms (length graph.objects) bare_room
+rooms_after graph rooms (command.Weak x) = with_room rooms (length graph.objects) bare_room
 rooms_after graph rooms (command.Set x name v) =
     changed rooms (plain_of graph x) (λ plain.
     with_capacity rooms plain.number (set_capacity (rooms plain.number).capacity plain name))

@@ -33,7 +33,7 @@ pub fn laws_of_bindings()
     ensures no_keys { NewObjectsAreNoKeys }
 {}
 
-/// Where only patches and newly used words of a heap change, cells stand in rows again, and all but
+/// Where only patches of a heap change, and words in which cells are made, cells stand in rows again, and all but
 /// those of the patches are as before. Cells that are rewritten in place are such patches, and so
 /// are cells of which only slots are written.
 pub fn laws_of_words()

@@ -49,7 +49,7 @@ keeps-comes words input _ (Comes.too_long sizes asks many) = tt
 keeps-comes words input _ (Comes.no_script sizes bytes stop line asks reads is refusal) = tt
 keeps-comes words input _ (Comes.ended sizes bytes script kept came asks reads is keeps comes need) =
     (sizes, bytes, asks, reads.all, subst (λ r. KeepsGraph sizes r kept) (sym is) keeps)
-keeps-comes words input _ (Comes.cut_short sizes bytes script kept asks reads is keeps line need due) =
+keeps-comes words input _ (Comes.cut_short sizes bytes script kept asks reads is keeps line need none due) =
     (sizes, bytes, asks, reads.all, subst (λ r. KeepsGraph sizes r kept) (sym is) keeps)
 
 -- where a heap is kept, nothing of the source is left
@@ -62,7 +62,7 @@ reads-comes words input _ (Comes.too_long sizes asks many) = tt
 reads-comes words input _ (Comes.no_script sizes bytes stop line asks reads is refusal) = tt
 reads-comes words input _ (Comes.ended sizes bytes script kept came asks reads is keeps comes need) = reads.none_left
 reads-comes words input _
-    (Comes.cut_short sizes bytes script kept asks reads is keeps line need due) = reads.none_left
+    (Comes.cut_short sizes bytes script kept asks reads is keeps line need none due) = reads.none_left
 
 -- the status of the end of a script
 opened-ended : (came : How) (line : ℕ) → Contains (0 ∷ 1 ∷ 3 ∷ 5 ∷ 8 ∷ []) (status_of (last_line_of came line))
@@ -104,7 +104,7 @@ opened-line words input _ (Comes.no_script sizes bytes stop at asks reads is ref
 opened-line words input _ (Comes.ended sizes bytes script kept came asks reads is keeps comes need) line e =
     let same : last_line_of came kept.line ≡ line = cc in
     subst (λ l. IsKeptAt (status_of l) (Some kept)) same (opened-ended came kept.line)
-opened-line words input _ (Comes.cut_short sizes bytes script kept asks reads is keeps at need due) line e = cc
+opened-line words input _ (Comes.cut_short sizes bytes script kept asks reads is keeps at need none due) line e = cc
 
 -- the status of a sink that failed goes with a heap and with none
 opened-failed : (kept : Option Kept) → IsKeptAt 5 kept

@@ -56,7 +56,7 @@ Runs-ended : (sizes : Sizes) (bytes : List ℕ) (script : ScriptText) (image : H
     (old mid new : List ℕ → Type 0) (faults_old faults_mid faults_new : ℕ) → reading bytes ≡ Ok script
     → IsKeepable sizes script image → (reached : RanTo script (image_heap image) n)
     → (spent : HasSpent script (image_heap image) n)
-    → EndsRun script (image_heap image) spent.last.rows n reached.so_far how line
+    → EndsRun script (image_heap image) spent.last.rows spent.collections n reached.so_far how line
     → Appends old mid reached.so_far.bytes → faults_mid ≡ faults_old
     → Lasts how line mid new faults_mid faults_new status → (status ≡ 5) ⊎ (status ≢ 5)
     → Runs sizes bytes old new faults_old faults_new (ended_by image how line n status)
@@ -104,14 +104,14 @@ Runs-cut sizes bytes script image need line n old new faults_old faults_new is k
     let kept = kept_by image (SinkFault need) line n in
     let kept_is = keeps (SinkFault need) line n keepable f.reached f.spent in
     elim at [
-      | inl (none, nothing, due) ↦
+      | inl (none, nothing, uncollected, due) ↦
           let (some, count) = front-longer told [] cut.some in
           let near : length told ≤ some.count + OUTPUT_BYTES = omega (arith, count, cut.near) in
           record {
             answer = record { told = told; last = None; kept = Some kept };
             kept = refl;
             comes = λ words input asks reads.
-                Comes.cut_short sizes bytes script kept asks reads is kept_is none nothing due;
+                Comes.cut_short sizes bytes script kept asks reads is kept_is none nothing uncollected due;
             taken = Taken.front (record { told = told; last = None; kept = Some kept }) some near rose;
           }
       | inr (came, comes, same) ↦

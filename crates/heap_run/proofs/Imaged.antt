@@ -13,6 +13,7 @@ use Rattle.heap_model.specs.Wholeness.{Whole}
 use Rattle.heap_model.specs.Showing.{Shows}
 use Rattle.collector.specs.Images.{IsImageOf}
 use Rattle.collector.specs.ImageLaws.{ImagesShow, ImagesKeepStores, ImagesHaveRooms, ImagesAreTight, ImagesKeepFree}
+use Rattle.collector.specs.ImageLaws.{ImagesStayStuck, ImagesKeepRooted, ImagesKeepRuns}
 use Rattle.heap_script.specs.declared.finished.How.{How}
 use Rattle.heap_script.specs.declared.finished.How.TheVariants as how
 use Rattle.heap_script.specs.declared.finished.Finished.{Finished}
@@ -26,6 +27,9 @@ pub record Laws : Type 0 where
   pub rooms : ImagesHaveRooms
   pub tight : ImagesAreTight
   pub free : ImagesKeepFree
+  pub stuck : ImagesStayStuck
+  pub rooted : ImagesKeepRooted
+  pub runs : ImagesKeepRuns
 
 -- the run has come so far on the image too
 abbrev pub reached_imaged : {script : ScriptText} {heap image : Heap} {n : ℕ} → Laws → IsImageOf heap image
@@ -52,6 +56,7 @@ abbrev spent_imaged : {script : ScriptText} {heap image : Heap} {n : ℕ} → La
     → IsImageOf heap image → HasSpent script heap n → HasSpent script image n
 spent_imaged {heap = heap} {image = image} laws r is spent = record {
   last = spent.last;
+  collections = spent.collections;
   spends = spent.spends;
   reached = spent.reached;
   space = is.space ∙ spent.space;
@@ -71,17 +76,20 @@ spent_imaged {heap = heap} {image = image} laws r is spent = record {
 -- an image is as full as the heap
 as_full : {heap image : Heap} {rows : List (List Run)} (need : ℕ) → Laws → Whole heap → IsImageOf heap image
     → IsFull heap rows need → IsFull image rows need
-as_full {heap} {image} need laws whole is full =
+as_full {heap} {image} {rows} need laws whole is full =
     let space : heap.space ≡ image.space = sym is.space in
     let survivors : heap.survivors ≡ image.survivors = sym is.survivors in
     let used : heap.used ≡ image.used = sym is.used in
     record {
       empty = is.used ∙ full.empty;
       tight = laws.tight heap image whole full.tight is;
+      rooted = laws.rooted heap image whole full.rooted is;
       lacks = subst (λ (s : Space). IsTrue (nat_lt s.sizes.young (image.survivors + image.used + need))) space
           (subst (λ (n : ℕ). IsTrue (nat_lt heap.space.sizes.young (n + image.used + need))) survivors
           (subst (λ (n : ℕ). IsTrue (nat_lt heap.space.sizes.young (heap.survivors + n + need))) used full.lacks));
+      free_words = laws.runs heap image rows whole full.free_words is;
       runs = full.runs;
+      stuck = laws.stuck heap image rows whole full.stuck is;
     }
 
 -- it is full for the command of a line, if the heap is
@@ -103,44 +111,48 @@ full_at {heap = heap} {image = image} rows graph line need (next ∷ more) laws 
     (number-is, full_for {heap = heap} {image = image} rows graph need next.command laws shows is full)
 
 -- a run comes to the same on the image
-comes_imaged : {script : ScriptText} {heap image : Heap} {n : ℕ} (rows : List (List Run)) (came : How) (line : ℕ)
-    → Laws → IsImageOf heap image → (r : RanTo script heap n) → EndsRun script heap rows n r.so_far came line
-    → EndsRun script image rows n r.so_far came line
-comes_imaged rows how.End line laws is r comes = comes
-comes_imaged rows (how.Fault word) line laws is r comes = comes
-comes_imaged {script = script} {heap = heap} {image = image} {n = n} rows (how.HeapFull need) line laws is r comes =
+comes_imaged : {script : ScriptText} {heap image : Heap} {n : ℕ} (rows : List (List Run)) (collections : ℕ)
+    (came : How) (line : ℕ) → Laws → IsImageOf heap image → (r : RanTo script heap n)
+    → EndsRun script heap rows collections n r.so_far came line
+    → EndsRun script image rows collections n r.so_far came line
+comes_imaged rows collections how.End line laws is r comes = comes
+comes_imaged rows collections (how.Fault word) line laws is r comes = comes
+comes_imaged {script = script} {heap = heap} {image = image} {n = n} rows collections (how.HeapFull need) line laws is r
+    comes =
     record {
       goes_on = comes.goes_on;
       full = full_at {heap = heap} {image = image} rows r.so_far.graph line need (left_after script n) laws
           r.shown is comes.full;
+      twice = comes.twice;
     }
-comes_imaged rows (how.SinkFault need) line laws is r comes = comes
-comes_imaged rows how.LineLimit line laws is r comes = comes
+comes_imaged rows collections (how.SinkFault need) line laws is r comes = comes
+comes_imaged rows collections how.LineLimit line laws is r comes = comes
 
 -- the sink failed where it failed
-failed_imaged : {script : ScriptText} {heap image : Heap} {n : ℕ} (rows : List (List Run)) (line need : ℕ) → Laws
-    → IsImageOf heap image → (r : RanTo script heap n) → FailedAt script heap rows n r.so_far line need
-    → FailedAt script image rows n r.so_far line need
-failed_imaged rows line need laws is r (inl between) = inl between
-failed_imaged rows line need laws is r (inr (came, comes, same)) =
-    inr (came, comes_imaged rows came line laws is r comes, same)
+failed_imaged : {script : ScriptText} {heap image : Heap} {n : ℕ} (rows : List (List Run)) (collections line need : ℕ)
+    → Laws → IsImageOf heap image → (r : RanTo script heap n)
+    → FailedAt script heap rows collections n r.so_far line need
+    → FailedAt script image rows collections n r.so_far line need
+failed_imaged rows collections line need laws is r (inl between) = inl between
+failed_imaged rows collections line need laws is r (inr (came, comes, same)) =
+    inr (came, comes_imaged rows collections came line laws is r comes, same)
 
 -- what was written was written
-writes_imaged : {script : ScriptText} {heap image : Heap} (rows : List (List Run)) (came : How) (finished : Finished)
-    (old new : List ℕ → Type 0) (faults_old faults_new : ℕ) → Laws → IsImageOf heap image
+writes_imaged : {script : ScriptText} {heap image : Heap} (rows : List (List Run)) (collections : ℕ) (came : How)
+    (finished : Finished) (old new : List ℕ → Type 0) (faults_old faults_new : ℕ) → Laws → IsImageOf heap image
     → (r : RanTo script heap finished.executed)
-    → Writes script heap rows finished r.so_far old new faults_old faults_new came
-    → Writes script image rows finished r.so_far old new faults_old faults_new came
-writes_imaged rows how.End finished old new fo fn laws is r (comes, appends, steady) =
-    (comes_imaged rows how.End finished.line laws is r comes, appends, steady)
-writes_imaged rows (how.Fault word) finished old new fo fn laws is r (comes, appends, steady) =
-    (comes_imaged rows (how.Fault word) finished.line laws is r comes, appends, steady)
-writes_imaged rows (how.HeapFull need) finished old new fo fn laws is r (comes, appends, steady) =
-    (comes_imaged rows (how.HeapFull need) finished.line laws is r comes, appends, steady)
-writes_imaged rows (how.SinkFault need) finished old new fo fn laws is r (failed, cut, rose) =
-    (failed_imaged rows finished.line need laws is r failed, cut, rose)
-writes_imaged rows how.LineLimit finished old new fo fn laws is r (comes, appends, steady) =
-    (comes_imaged rows how.LineLimit finished.line laws is r comes, appends, steady)
+    → Writes script heap rows collections finished r.so_far old new faults_old faults_new came
+    → Writes script image rows collections finished r.so_far old new faults_old faults_new came
+writes_imaged rows collections how.End finished old new fo fn laws is r (comes, appends, steady) =
+    (comes_imaged rows collections how.End finished.line laws is r comes, appends, steady)
+writes_imaged rows collections (how.Fault word) finished old new fo fn laws is r (comes, appends, steady) =
+    (comes_imaged rows collections (how.Fault word) finished.line laws is r comes, appends, steady)
+writes_imaged rows collections (how.HeapFull need) finished old new fo fn laws is r (comes, appends, steady) =
+    (comes_imaged rows collections (how.HeapFull need) finished.line laws is r comes, appends, steady)
+writes_imaged rows collections (how.SinkFault need) finished old new fo fn laws is r (failed, cut, rose) =
+    (failed_imaged rows collections finished.line need laws is r failed, cut, rose)
+writes_imaged rows collections how.LineLimit finished old new fo fn laws is r (comes, appends, steady) =
+    (comes_imaged rows collections how.LineLimit finished.line laws is r comes, appends, steady)
 
 -- the run finishes on the image as on the heap
 pub finishes_imaged : {script : ScriptText} {heap image : Heap} (finished : Finished) (old new : List ℕ → Type 0)
@@ -150,5 +162,6 @@ pub finishes_imaged : {script : ScriptText} {heap image : Heap} (finished : Fini
 finishes_imaged finished old new fo fn laws is f = record {
   reached = reached_imaged laws is f.reached;
   spent = spent_imaged laws f.reached is f.spent;
-  writes = writes_imaged f.spent.last.rows finished.how finished old new fo fn laws is f.reached f.writes;
+  writes = writes_imaged f.spent.last.rows f.spent.collections finished.how finished old new fo fn laws is f.reached
+      f.writes;
 }

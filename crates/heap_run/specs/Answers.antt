@@ -124,17 +124,20 @@ pub data Comes (words : List (List ℕ)) (input : Input) : Answer → Type 0 whe
   ended : (sizes : Sizes) (bytes : List ℕ) (script : ScriptText) (kept : Kept) (came : How)
       → AsksToRun words sizes → ReadsAll input bytes → reading bytes ≡ Ok script
       → (keeps : IsKeptHeapOf sizes script kept)
-      → EndsRun script (image_heap kept.image) keeps.spent.last.rows kept.executed keeps.reached.so_far came kept.line
+      → EndsRun script (image_heap kept.image) keeps.spent.last.rows keeps.spent.collections kept.executed
+      keeps.reached.so_far came kept.line
       → kept.need ≡ need_at came
       → Comes words input (record {
         told = keeps.reached.so_far.bytes;
         last = Some (last_line_of came kept.line);
         kept = Some kept;
       })
-  -- the source is a script, and the sink failed between two of its lines, just where an output was due
+  -- the source is a script, and the sink failed between two of its lines, just where an output was due, and before the
+  -- heap was collected for the next line
   cut_short : (sizes : Sizes) (bytes : List ℕ) (script : ScriptText) (kept : Kept)
       → AsksToRun words sizes → ReadsAll input bytes → reading bytes ≡ Ok script
-      → (keeps : IsKeptHeapOf sizes script kept) → kept.line ≡ 0 → kept.need ≡ 0 → IsDue script kept.executed
+      → (keeps : IsKeptHeapOf sizes script kept) → kept.line ≡ 0 → kept.need ≡ 0 → keeps.spent.collections ≡ 0
+      → IsDue script kept.executed
       → Comes words input (record { told = keeps.reached.so_far.bytes; last = None; kept = Some kept })
 
 -- the bytes of a last line, if there is one

@@ -19,9 +19,10 @@ use Rattle.object_cells.proofs.NothingUsed.{room_for_none}
 use Rattle.heap_script.specs.Collecting.{Tries, Finds}
 use Rattle.heap_script.proofs.FewWords.{need_few}
 
--- The heap is as it was. The command, which does not ask for a scavenge and does not fault, needs so many words, and the
--- young generation has not these.
-pub record IsRefused (names : List (List ℕ)) (old new : Mutator) (graph : Graph) (command : Command) (need : ℕ) : Type 0 where
+-- The heap is as it was. The command, which does not ask for a scavenge and does not fault, needs so many words, and
+-- where cells are made there are not so many.
+pub record IsRefused (names : List (List ℕ)) (old new : Mutator) (graph : Graph) (command : Command) (need : ℕ)
+    : Type 0 where
   pub same : new ≡ old
   pub apart : command ≢ Scavenge
   pub sound : (word : FaultWord) → does ideal_limits names graph command ≡ fault word → ⊥

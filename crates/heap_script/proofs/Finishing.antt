@@ -17,10 +17,11 @@ abbrev finished_by : How → ℕ → ℕ → Finished
 finished_by how line executed = record { how = how; line = line; executed = executed }
 
 -- the heap to which the lines led has spent what they need
-abbrev spent_all : {script : ScriptText} {stage : Stage} {n : ℕ} → RanTo script stage.heap n → Spends script stage n
-    → AreFreeRuns stage.heap stage.rows → HasSpent script stage.heap n
-spent_all {stage = stage} reached spends free = record {
+abbrev spent_all : {script : ScriptText} {stage : Stage} {n collections : ℕ} → RanTo script stage.heap n
+    → Spends script stage n collections → AreFreeRuns stage.heap stage.rows → HasSpent script stage.heap n
+spent_all {stage = stage} {collections = collections} reached spends free = record {
   last = stage;
+  collections = collections;
   spends = spends;
   reached = reached;
   space = refl;
@@ -48,7 +49,7 @@ Finishes-cut script stage waiting LineLimit line n need old new faults_old fault
 record PausedAt (script : ScriptText) (stage : Stage) (waiting : List ℕ) (how : How) (line n : ℕ)
     (old mid : List ℕ → Type 0) (faults_old faults_mid : ℕ)
     (paused : Pauses script stage waiting (finished_by how line n) old mid faults_old faults_mid) : Type 0 where
-  comes : EndsRun script stage.heap stage.rows n paused.reached.so_far how line
+  comes : EndsRun script stage.heap stage.rows paused.collections n paused.reached.so_far how line
   handed : Handed old mid waiting paused.reached.so_far.bytes
   steady : faults_mid ≡ faults_old
 

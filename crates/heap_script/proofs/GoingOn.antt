@@ -21,7 +21,8 @@ ending-within names graph n lines few =
     ap (λ test. cond test None (ending_here ideal_limits names graph n lines)) within
 
 -- before the limit, it ends at a line by its fault
-pub ending-below : (names : List (List ℕ)) (graph : Graph) (n : ℕ) (next : Executed) (more : List Executed) → n < lines_most
+pub ending-below : (names : List (List ℕ)) (graph : Graph) (n : ℕ) (next : Executed) (more : List Executed)
+    → n < lines_most
     → ending ideal_limits names graph n (next ∷ more) ≡ fault_of ideal_limits names graph next.number next.command
 ending-below names graph n next more below =
     let few : n ≤ lines_most = omega (arith, below) in

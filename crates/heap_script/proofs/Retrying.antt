@@ -12,32 +12,32 @@ use Rattle.heap_model.proofs.ShownRooms.{shown_objects_have_rooms}
 use Rattle.nursery.specs.Young.{HasRoom}
 use Rattle.write_barrier.specs.MutatorState.{Mutator, heap_of}
 use Rattle.scavenger.specs.Laws.{KeepsGraphs}
-use Rattle.collector.specs.Making.{IsOutOfRoom, ScavengesFor}
+use Rattle.collector.specs.Making.{IsOutOfRoom, CollectsFor}
 use Rattle.collector.specs.States.{HeapState, HeapShows}
 use Rattle.collector.proofs.Keeping.{same_heap}
-use Rattle.collector.proofs.MadeRoom.{scavenged_space}
+use Rattle.collector.proofs.MadeRoom.{collected_space}
 use Rattle.mutator.specs.declared.stop.Stop.{Stop}
 use Rattle.mutator.specs.declared.stop.Stop.TheVariants.{Fault, NoRoom}
 use Rattle.mutator.specs.CarriesOut.{Carries, field_numbers}
 use Rattle.heap_script.specs.Collecting.{LacksWords, Finds, Collects, Tries, CarriesAtLast}
 use Rattle.heap_script.proofs.Carrying.{IsRefused, refused}
 
--- scavenges for so many words lead from one heap to another, which shows each graph that was shown, with the same memory
--- for an image
-pub record IsScavenged (old new : HeapState) (need : ℕ) : Type 0 where
-  pub scavenges : ScavengesFor old.main new.main need
+-- collections for so many words lead from one heap to another, which shows each graph that was shown, where objects have
+-- the rooms that they had, with the same memory for an image
+pub record IsCollectedFor (old new : HeapState) (need : ℕ) : Type 0 where
+  pub collects : CollectsFor old.main new.main need
   pub shows : (graph : Graph) → HeapShows old graph → HeapShows new graph
   pub keeps : KeepsGraphs old.main new.main
   pub spare : new.spare ≡ old.spare
 
--- The heap, which has so many objects, was scavenged for the words that this command needs, since there was no room for
+-- The heap, which has so many objects, was collected for the words that this command needs, since there was no room for
 -- them, and now there is.
 pub record MadeRoom (names : List (List ℕ)) (old now : HeapState) (objects : ℕ) (command : Command) : Type 0 where
   pub apart : command ≢ Scavenge
   pub sound : (graph : Graph) (word : FaultWord) → HeapShows old graph → objects ≡ length graph.objects
       → does ideal_limits names graph command ≡ fault word → ⊥
   pub need : ℕ
-  pub scavenged : IsScavenged old now need
+  pub collected : IsCollectedFor old now need
   pub lacks : (graph : Graph) → HeapShows old graph → objects ≡ length graph.objects
       → LacksWords old.main graph command need
   pub room : (graph : Graph) (rooms : ℕ → Room) → HeapShows old graph → objects ≡ length graph.objects
@@ -55,22 +55,23 @@ tries_left second = if second then 0 else 1
 -- a heap at a try shows what was shown
 pub ready_shows : {names : List (List ℕ)} {old now : HeapState} {objects : ℕ} {command : Command} {graph : Graph}
     {second : Bool} → IsReady names old now objects command second → HeapShows old graph → HeapShows now graph
-ready_shows {graph = graph} (IsReady.first same) shown = subst (λ (heap : HeapState). HeapShows heap graph) (sym same) shown
-ready_shows {graph = graph} (IsReady.again made) shown = made.scavenged.shows graph shown
+ready_shows {graph = graph} (IsReady.first same) shown =
+    subst (λ (heap : HeapState). HeapShows heap graph) (sym same) shown
+ready_shows {graph = graph} (IsReady.again made) shown = made.collected.shows graph shown
 
 -- it has the regions that there were
 pub ready_space : {names : List (List ℕ)} {old now : HeapState} {objects : ℕ} {command : Command}
     {second : Bool} → IsReady names old now objects command second
     → now.main.seat.space ≡ old.main.seat.space
 ready_space (IsReady.first same) = ap (λ (heap : HeapState). heap.main.seat.space) same
-ready_space (IsReady.again made) = scavenged_space made.scavenged.scavenges
+ready_space (IsReady.again made) = collected_space made.collected.collects
 
 -- and the memory for an image
 pub ready_spare : {names : List (List ℕ)} {old now : HeapState} {objects : ℕ} {command : Command}
     {second : Bool} → IsReady names old now objects command second
     → now.spare ≡ old.spare
 ready_spare (IsReady.first same) = ap (λ (heap : HeapState). heap.spare) same
-ready_spare (IsReady.again made) = made.scavenged.spare
+ready_spare (IsReady.again made) = made.collected.spare
 
 -- no command is refused where room was made for it
 no_third : {names : List (List ℕ)} {old now : HeapState} {new : Mutator} {objects need : ℕ} {command : Command}
@@ -78,7 +79,7 @@ no_third : {names : List (List ℕ)} {old now : HeapState} {new : Mutator} {obje
     → MadeRoom names old now objects command → HeapShows old graph → objects ≡ length graph.objects
     → IsRefused names now.main new graph command need → ⊥
 no_third {now = now} {graph = graph} made shown counted told =
-    let shows = (made.scavenged.shows graph shown).main.shows in
+    let shows = (made.collected.shows graph shown).main.shows in
     let (rooms, has) = shown_objects_have_rooms (heap_of now.main) graph shows in
     told.lacks (subst (HasRoom now.main.young) (sym (told.needs rooms has)) (made.room graph rooms shown counted has))
 
@@ -90,9 +91,9 @@ at_first : {names : List (List ℕ)} {old now : HeapState} {new : Mutator} {obje
 at_first (IsReady.first same) shown counted told = (same, refl)
 at_first (IsReady.again made) shown counted told = absurd (no_third made shown counted told)
 
-module _ (names : List (List ℕ)) {old now : HeapState} (after : HeapState) {objects counted need : ℕ} {command : Command}
-    {stop : Stop} {Rest : Type 0} {second : Bool} (ready : IsReady names old now objects command second)
-    (same : counted ≡ objects)
+module _ (names : List (List ℕ)) {old now : HeapState} (after : HeapState) {objects counted need : ℕ}
+    {command : Command} {stop : Stop} {Rest : Type 0} {second : Bool}
+    (ready : IsReady names old now objects command second) (same : counted ≡ objects)
     (within : IsWithin old.main.seat.space.variables field_numbers command) (is : stop ≡ NoRoom need)
     (carried : (graph : Graph) → HeapShows now graph → counted ≡ length graph.objects
     → (text : List ℕ) × Tries names now.main after.main graph command text (Err stop) × Rest) where
@@ -118,44 +119,45 @@ module _ (names : List (List ℕ)) {old now : HeapState} (after : HeapState) {ob
       (was_first (graph, shown, made)).0 (refused_now graph shown made)
 
   -- the heap is as it was
-  pub unchanged_first : after.spare ≡ now.spare → (graph : Graph) × HeapShows old graph × (objects ≡ length graph.objects)
+  pub unchanged_first : after.spare ≡ now.spare
+      → (graph : Graph) × HeapShows old graph × (objects ≡ length graph.objects)
       → after ≡ old
   unchanged_first spare (graph, shown, made) =
       same_heap old after (refused_always graph shown made).same (spare ∙ ready_spare ready)
 
--- a heap that was asked for the words that a refused command lacked was scavenged for them
-pub scavenged_for : {names : List (List ℕ)} {old mid new : HeapState} {graph : Graph} {command : Command} {need : ℕ}
+-- a heap that was asked for the words that a refused command lacked was collected for them
+pub collected_for : {names : List (List ℕ)} {old mid new : HeapState} {graph : Graph} {command : Command} {need : ℕ}
     → mid ≡ old → IsRefused names old.main mid.main graph command need
-    → ((HasRoom mid.main.young need → ⊥) → ScavengesFor mid.main new.main need)
+    → ((HasRoom mid.main.young need → ⊥) → CollectsFor mid.main new.main need)
     → ((graph : Graph) → HeapShows mid graph → HeapShows new graph) → KeepsGraphs mid.main new.main
-    → new.spare ≡ mid.spare → IsScavenged old new need
-scavenged_for {old} {mid} {new} {need = need} same told scavenges shows keeps spare =
-    subst (λ (heap : HeapState). IsScavenged heap new need) same
+    → new.spare ≡ mid.spare → IsCollectedFor old new need
+collected_for {old} {mid} {new} {need = need} same told collects shows keeps spare =
+    subst (λ (heap : HeapState). IsCollectedFor heap new need) same
     (record {
-      scavenges = scavenges
+      collects = collects
           (subst (λ (heap : HeapState). HasRoom heap.main.young need → ⊥) (sym same) told.lacks);
       shows = shows;
       keeps = keeps;
       spare = spare;
     })
 
--- a heap that was scavenged for a command, where there is room then
+-- a heap that was collected for a command, where there is room then
 pub made_room : {names : List (List ℕ)} {old new : HeapState} {mid : Mutator} {objects need : ℕ} {command : Command}
-    → IsScavenged old new need → command ≢ Scavenge
+    → IsCollectedFor old new need → command ≢ Scavenge
     → ((graph : Graph) → HeapShows old graph → objects ≡ length graph.objects
     → IsRefused names old.main mid graph command need)
     → HasRoom new.main.young need → MadeRoom names old new objects command
-made_room {old} {new} {need = need} scavenged apart told room = record {
+made_room {old} {new} {need = need} collected apart told room = record {
   apart = apart;
   sound = λ graph word shown counted. (told graph shown counted).sound word;
   need = need;
-  scavenged = scavenged;
+  collected = collected;
   lacks = λ graph shown counted.
       let one = told graph shown counted in
       record { needs = one.needs; lacks = one.lacks };
   room = λ graph rooms shown counted has.
       let one = told graph shown counted in
-      let had = (scavenged.keeps.rooms graph rooms shown.main).1 has in
+      let had = (collected.keeps.rooms graph rooms shown.main).1 has in
       subst (HasRoom new.main.young) (one.needs rooms had) room;
 }
 
@@ -163,25 +165,25 @@ made_room {old} {new} {need = need} scavenged apart told room = record {
 pub fewer_tries : {second : Bool} → second ≡ false → tries_left true < tries_left second
 fewer_tries none = rw none (omega arith)
 
--- a command that stops for want of room on a heap that was scavenged for it
+-- a command that stops for want of room on a heap that was collected for it
 pub gives_up : {names : List (List ℕ)} {old new : HeapState} {start mid : Mutator} {need : ℕ} {command : Command}
-    {graph : Graph} {text : List ℕ} {stop : Stop} → IsScavenged old new need → HeapShows old graph
+    {graph : Graph} {text : List ℕ} {stop : Stop} → IsCollectedFor old new need → HeapShows old graph
     → IsRefused names old.main mid graph command need → Tries names start mid graph command text (Err stop)
     → stop ≡ NoRoom need → IsOutOfRoom new.main need
     → CarriesAtLast names old.main new.main graph command text (Err (NoRoom need))
-gives_up {names} {old} {new} {start} {mid} {need} {command} {graph} {text} scavenged shown told tries is out =
+gives_up {names} {old} {new} {start} {mid} {need} {command} {graph} {text} collected shown told tries is out =
     let (after, written, does-is, needs, lacked, same) =
     subst (λ (stop : Stop). Carries names tries.mid mid graph command text (Err stop)) is tries.carries in
     record {
       mid = new.main;
       collects = Collects.for_room need told.apart (record { needs = told.needs; lacks = told.lacks })
-          scavenged.scavenges;
-      keeps = scavenged.keeps;
+          collected.collects;
+      keeps = collected.keeps;
       carries = (
         after,
         written,
         does-is,
-        λ rooms has. told.needs rooms ((scavenged.keeps.rooms graph rooms shown.main).1 has),
+        λ rooms has. told.needs rooms ((collected.keeps.rooms graph rooms shown.main).1 has),
         out.lacks,
         refl,
       );
@@ -189,7 +191,7 @@ gives_up {names} {old} {new} {start} {mid} {need} {command} {graph} {text} scave
       faulted = λ word is. absurd (cc);
       gave_up = λ other is.
           let same : need ≡ other = cc in (
-            subst (ScavengesFor old.main new.main) same scavenged.scavenges,
+            subst (CollectsFor old.main new.main) same collected.collects,
             subst (IsOutOfRoom new.main) same out,
           );
     }
@@ -232,8 +234,8 @@ pub carried_at : {names : List (List ℕ)} {old now : HeapState} {new : Mutator}
     → HeapShows old graph → objects ≡ length graph.objects → ((need : ℕ) → result ≡ Err (NoRoom need) → ⊥)
     → Tries names now.main new graph command text result
     → CarriesAtLast names old.main new graph command text result
-carried_at {names} {old} {now} {new} {objects} {command} {graph} {text} {result} (IsReady.first same) shown counted other
-    tries =
+carried_at {names} {old} {now} {new} {objects} {command} {graph} {text} {result} (IsReady.first same) shown counted
+    other tries =
     let main : now.main ≡ old.main = ap (λ (heap : HeapState). heap.main) same in
     let there : Tries names old.main new graph command text result =
     subst (λ (start : Mutator). Tries names start new graph command text result) main tries in
@@ -246,14 +248,14 @@ carried_at {names} {old} {now} {new} {objects} {command} {graph} {text} {result}
       faulted = λ word is. faulted_first word there is;
       gave_up = λ need is. absurd (other need is);
     }
-carried_at {names} {old} {now} {new} {objects} {command} {graph} {text} {result} (IsReady.again made) shown counted other
-    tries =
+carried_at {names} {old} {now} {new} {objects} {command} {graph} {text} {result} (IsReady.again made) shown counted
+    other tries =
     elim tries.finds [
       | Finds.scavenged is scavenges ↦ absurd (made.apart is)
       | Finds.unchanged apart same ↦ record {
         mid = now.main;
-        collects = Collects.for_room made.need apart (made.lacks graph shown counted) made.scavenged.scavenges;
-        keeps = made.scavenged.keeps;
+        collects = Collects.for_room made.need apart (made.lacks graph shown counted) made.collected.collects;
+        keeps = made.collected.keeps;
         carries = subst (λ (main : Mutator). Carries names main new graph command text result) same tries.carries;
         asked = λ is. absurd (made.apart is);
         faulted = λ word is. absurd (made.sound graph word shown counted (fault_carried word tries is).0);

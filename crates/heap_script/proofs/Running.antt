@@ -27,12 +27,12 @@ use Rattle.heap_script.proofs.Counts.{length-does, makes_one}
 use Rattle.heap_script.proofs.Handing.{Handed-none, Handed-more, Handed-told}
 
 -- Between two lines: the lines that are left are those from this place on with these turns left, what was told was
--- handed on or waits, the objects are counted, the words that were spent are those that the lines need, and no word of
--- a page is granted.
+-- handed on or waits, the objects are counted, the words that were spent are those that the lines need, so many
+-- collections came since the last line, and no word of a page is granted.
 pub record Running (script : ScriptText) (heap : HeapState) (objects : ℕ) (waiting : List ℕ)
-    (old new : List ℕ → Type 0) (at : ℕ) (ts : List ℕ) (executed : ℕ) : Type 0 where
+    (old new : List ℕ → Type 0) (at : ℕ) (ts : List ℕ) (executed collections : ℕ) : Type 0 where
   pub reached : RanTo script (heap_of heap.main) executed
-  pub spends : Spends script (stage_of heap.main) executed
+  pub spends : Spends script (stage_of heap.main) executed collections
   pub ungranted : in_eden heap.main.young ≡ true
   pub shown : HeapShows heap reached.so_far.graph
   pub left : IsLeft script.lines at ts (left_after script executed)
@@ -70,7 +70,8 @@ next-drop (first ∷ xs) zero x rest e =
 next-drop (first ∷ xs) (suc n) x rest e = next_after first xs n x rest (next-drop xs n x rest e)
 
 -- and it is at the place behind them
-pub next_at : {A : Type 0} (xs : List A) (n : ℕ) (x : A) (rest : List A) → drop n xs ≡ x ∷ rest → slice_get xs n ≡ Some x
+pub next_at : {A : Type 0} (xs : List A) (n : ℕ) (x : A) (rest : List A) → drop n xs ≡ x ∷ rest
+    → slice_get xs n ≡ Some x
 next_at [] n x rest e = absurd (nil_cons n x rest e)
 next_at (first ∷ xs) zero x rest e = cc
 next_at (first ∷ xs) (suc n) x rest e = next_at xs n x rest e
@@ -78,7 +79,7 @@ next_at (first ∷ xs) (suc n) x rest e = next_at xs n x rest e
 -- a script begins
 pub Running-start : (script : ScriptText) (heap : HeapState) (old : List ℕ → Type 0) → IsPlaced 0 script.lines
     → HeapShows heap start → IsOpened heap.main → heap.main.seat.space.variables ≡ length script.variables
-    → Running script heap 0 [] old old 0 [] 0
+    → Running script heap 0 [] old old 0 [] 0 0
 Running-start script heap old placed shown opened variables =
     let reached : RanTo script (heap_of heap.main) 0 = record {
       within = omega arith;
@@ -102,10 +103,10 @@ Running-start script heap old placed shown opened variables =
 
 -- what waits is handed on
 pub Running-handed : (script : ScriptText) (heap : HeapState) (objects : ℕ) (waiting rest : List ℕ)
-    (old mid new : List ℕ → Type 0) (at : ℕ) (ts : List ℕ) (n : ℕ)
-    → Running script heap objects waiting old mid at ts n → Handed mid new rest waiting
-    → Running script heap objects rest old new at ts n
-Running-handed script heap objects waiting rest old mid new at ts n r h = record {
+    (old mid new : List ℕ → Type 0) (at : ℕ) (ts : List ℕ) (n collections : ℕ)
+    → Running script heap objects waiting old mid at ts n collections → Handed mid new rest waiting
+    → Running script heap objects rest old new at ts n collections
+Running-handed script heap objects waiting rest old mid new at ts n collections r h = record {
   reached = r.reached;
   spends = r.spends;
   ungranted = r.ungranted;
@@ -138,9 +139,9 @@ dropped-next script n next = ap (λ m. drop m (executed_lines script.lines)) (ad
 -- a `repeat` or an `end` was executed
 pub Running-passed : (script : ScriptText) (heap : HeapState) (objects : ℕ) (waiting : List ℕ)
     (old new : List ℕ → Type 0) (at at' : ℕ) (ts ts' : List ℕ) (n number : ℕ)
-    → Running script heap objects waiting old new at ts n → n < lines_most
+    → Running script heap objects waiting old new at ts n 0 → n < lines_most
     → Goes script.lines at' ts' (left_after script n) (executed number None)
-    → Running script heap objects waiting old new at' ts' (n + 1)
+    → Running script heap objects waiting old new at' ts' (n + 1) 0
 Running-passed script heap objects waiting old new at at' ts ts' n number r below goes =
     let so_far = r.reached.so_far in
     let line = executed number None in
@@ -155,7 +156,7 @@ Running-passed script heap objects waiting old new at at' ts ts' n number r belo
     } in
     record {
       reached = reached;
-      spends = Spends.one_more (stage_of heap.main) (stage_of heap.main) n line r.spends
+      spends = Spends.one_more (stage_of heap.main) (stage_of heap.main) n 0 line r.spends
           (next_at (executed_lines script.lines) n line goes.rest goes.is) r.reached reached
           (LineAllocates.passes refl);
       ungranted = r.ungranted;
@@ -169,15 +170,16 @@ Running-passed script heap objects waiting old new at at' ts ts' n number r belo
 -- a command was carried out, did this with the heap, and left nothing granted
 pub Running-carried : (script : ScriptText) (heap after : HeapState) (objects : ℕ) (waiting : List ℕ)
     (old new : List ℕ → Type 0) (at at' : ℕ) (ts ts' : List ℕ) (n number : ℕ) (command : Command) (text : List ℕ)
-    (graph : Graph) → (r : Running script heap objects waiting old new at ts n) → n < lines_most
+    (graph : Graph) {collections : ℕ} → (r : Running script heap objects waiting old new at ts n collections)
+    → n < lines_most
     → Goes script.lines at' ts' (left_after script n) (executed number (Some command))
     → after.spare ≡ heap.spare → after.main.seat.space ≡ heap.main.seat.space
     → does ideal_limits script.fields r.reached.so_far.graph command ≡ done graph text → MainShows after.main graph
-    → LineAllocates (stage_of heap.main) (stage_of after.main) r.reached.so_far.graph graph (Some command)
-    → in_eden after.main.young ≡ true
-    → Running script after (objects + objects_made command) (waiting ++ text) old new at' ts' (n + 1)
-Running-carried script heap after objects waiting old new at at' ts ts' n number command text graph r below goes spare
-    space does-is shown uses ungranted =
+    → LineAllocates (stage_of heap.main) (stage_of after.main) r.reached.so_far.graph graph collections (Some command)
+    → in_eden after.main.young ≡ true → length after.main.free ≡ length heap.main.free
+    → Running script after (objects + objects_made command) (waiting ++ text) old new at' ts' (n + 1) 0
+Running-carried script heap after objects waiting old new at at' ts ts' n number command text graph {collections} r below
+    goes spare space does-is shown uses ungranted rows =
     let so_far = r.reached.so_far in
     let later : Told = record { graph = graph; bytes = so_far.bytes ++ text } in
     let line = executed number (Some command) in
@@ -192,10 +194,10 @@ Running-carried script heap after objects waiting old new at at' ts ts' n number
     } in
     record {
       reached = reached;
-      spends = Spends.one_more (stage_of heap.main) (stage_of after.main) n line r.spends
+      spends = Spends.one_more (stage_of heap.main) (stage_of after.main) n collections line r.spends
           (next_at (executed_lines script.lines) n line goes.rest goes.is) r.reached reached uses;
       ungranted = ungranted;
-      shown = still_shows heap after graph r.shown spare space shown;
+      shown = still_shows heap after graph r.shown spare space rows shown;
       left = subst (IsLeft script.lines at' ts') (sym (dropped-next script n next)) goes.left;
       handed = Handed-told text r.handed;
       made = ap (λ m. m + objects_made command) r.made

@@ -1,5 +1,5 @@
 -- A command that finds words of a page granted where eden has not the words that it needs: what it spends.
-use Rattle.std.proofs.Common.{◌≡◌, ◌∙◌, ◌↔◌, ℕ, ◌+◌, Bool, true, false, List, ◌==◌, if◌then◌else◌}
+use Rattle.std.proofs.Common.{◌≡◌, ◌∙◌, ◌↔◌, ℕ, ◌+◌, ◌≤◌, Bool, true, false, List, length, ◌==◌, if◌then◌else◌}
 use Rattle.std.proofs.Common.{refl, sym, ap, subst, arith}
 use Rattle.std.proofs.lemmas.Bool.Decides.{nat_tests}
 use Rattle.heap_model.specs.Types.{Command, Run}
@@ -16,6 +16,7 @@ use Rattle.scavenger.specs.Granting.{Grants}
 use Rattle.scavenger.specs.Laws.{KeepsGraphs}
 use Rattle.scavenger.proofs.Granted.{grants_keep_stores}
 use Rattle.collector.specs.Making.{Serves}
+use Rattle.collector.proofs.MadeRoom.{served_rows}
 use Rattle.mutator.specs.Capacities.{KeepsStores}
 use Rattle.mutator.specs.CarriesOut.{TakesRoom}
 use Rattle.heap_script.specs.Collecting.{LacksWords}
@@ -23,25 +24,29 @@ use Rattle.heap_script.specs.Runs.{UsesNeed, Allocates}
 use Rattle.heap_script.specs.Stages.{SpendsWords, stage_of}
 use Rattle.heap_script.proofs.Lacking.{not_lacking, full_for}
 
--- What a command that does not ask for a scavenge finds of a heap in which nothing is granted: the heap itself; or,
--- where eden is empty and has not the words that the command needs, the heap with so many words granted.
-pub data Served (old found : Mutator) (graph : Graph) (command : Command) : Type 0 where
-  as_it_is : found ≡ old → Served old found graph command
-  by_grant : (need : ℕ) → LacksWords old graph command need → old.young.used ≡ 0 → Grants old found need
-      → KeepsGraphs old found → Served old found graph command
+-- What a command that does not ask for a scavenge finds of a heap in which nothing is granted, behind so many
+-- collections since the last line: the heap itself; or, where a collection came, and left eden empty and without the
+-- words that the command needs, the heap with so many words granted.
+pub data Served (old found : Mutator) (graph : Graph) (collections : ℕ) (command : Command) : Type 0 where
+  as_it_is : found ≡ old → Served old found graph collections command
+  by_grant : (need : ℕ) → 1 ≤ collections → LacksWords old graph command need → old.young.used ≡ 0
+      → Grants old found need → KeepsGraphs old found → Served old found graph collections command
 
--- so it is where eden is empty and there is room for the words that the command needs
-pub served : {old found : Mutator} {graph : Graph} {command : Command} {need : ℕ} → Serves old found need
+-- so it is where eden is empty behind a collection, and there is room for the words that the command needs
+pub served : {old found : Mutator} {graph : Graph} {collections : ℕ} {command : Command} {need : ℕ}
+    → Serves old found need → 1 ≤ collections
     → ((rooms : ℕ → Room) → HasRooms (heap_of old) graph rooms → need ≡ need_of graph rooms command)
-    → old.young.used ≡ 0 → Served old found graph command
-served (Serves.eden room is) needs empty = Served.as_it_is is
-served {need = need} (Serves.granted lacks grants keeps) needs empty =
-    Served.by_grant need (record { needs = needs; lacks = lacks }) empty grants keeps
+    → old.young.used ≡ 0 → Served old found graph collections command
+served (Serves.eden room is) some needs empty = Served.as_it_is is
+served {need = need} (Serves.granted lacks grants keeps) some needs empty =
+    Served.by_grant need some (record { needs = needs; lacks = lacks }) empty grants keeps
 
--- What a command that was carried out has done: it allocated, and nothing is granted any more.
-pub record HasAllocated (old new : Mutator) (graph after : Graph) (command : Command) : Type 0 where
-  pub allocates : Allocates (stage_of old) (stage_of new) graph after command
+-- What a command that was carried out has done: it allocated, nothing is granted any more, and so many pages have rows
+-- of free runs.
+pub record HasAllocated (old new : Mutator) (graph after : Graph) (collections : ℕ) (command : Command) : Type 0 where
+  pub allocates : Allocates (stage_of old) (stage_of new) graph after collections command
   pub ungranted : in_eden new.young ≡ true
+  pub rows : length new.free ≡ length old.free
 
 -- what a command that is carried out takes of the heap that it finds
 abbrev pub Takes : Mutator → Mutator → Graph → Graph → Command → Type 0
@@ -68,8 +73,9 @@ still_ungranted old n ungranted is =
     ∙ ap (λ (b : Bool). (if b then old.granted else rest_of old.granted n).words == 0) ungranted ∙ ungranted
 
 -- a command that finds the heap itself spends words of eden
-allocated_in_eden : {old new : Mutator} {graph after : Graph} (command : Command) → MainShows old graph
-    → in_eden old.young ≡ true → Takes old new graph after command → HasAllocated old new graph after command
+allocated_in_eden : {old new : Mutator} {graph after : Graph} {collections : ℕ} (command : Command)
+    → MainShows old graph → in_eden old.young ≡ true → Takes old new graph after command
+    → HasAllocated old new graph after collections command
 allocated_in_eden {old} {new} {graph} command shows ungranted takes =
     let (some, had) = shown_objects_have_rooms (heap_of old) graph shows.shows in
     let one = takes some had in
@@ -87,6 +93,7 @@ allocated_in_eden {old} {new} {graph} command shows ungranted takes =
             };
       };
       ungranted = still_ungranted old.young (need_of graph some command) ungranted one.uses.young;
+      rows = ap length one.uses.free;
     }
 
 -- where all granted words are used, none of an empty eden is
@@ -131,23 +138,24 @@ stores_before stands stores = record {
   made = λ number at place none. stores.made number at place (λ stood. none ((stands number at).0.1 stood));
 }
 
-module _ {old found new : Mutator} {graph after : Graph} (command : Command) {need : ℕ} (shows : MainShows old graph)
-    (ungranted : in_eden old.young ≡ true) (lacks : LacksWords old graph command need) (empty : old.young.used ≡ 0)
-    (grants : Grants old found need) (keeps : KeepsGraphs old found) (takes : Takes found new graph after command) where
+module _ {old found new : Mutator} {graph after : Graph} {collections : ℕ} (command : Command) {need : ℕ}
+    (shows : MainShows old graph) (ungranted : in_eden old.young ≡ true) (some : 1 ≤ collections)
+    (lacks : LacksWords old graph command need) (empty : old.young.used ≡ 0) (grants : Grants old found need)
+    (keeps : KeepsGraphs old found) (takes : Takes found new graph after command) where
   -- a command that finds granted words takes them, by the rooms that objects had before
   takes_by : (rooms : ℕ → Room) → HasRooms (heap_of old) graph rooms → TakesRoom found new graph after command rooms
   takes_by rooms has = takes rooms ((keeps.rooms graph rooms shows).0 has)
 
   -- it spends those words
   spends_of_run : (rooms : ℕ → Room) → HasRooms (heap_of old) graph rooms
-      → SpendsWords (stage_of old) (stage_of new) (need_of graph rooms command)
+      → SpendsWords (stage_of old) (stage_of new) collections (need_of graph rooms command)
   spends_of_run rooms has =
       let taken = takes_by rooms has in
       let n = need_of graph rooms command in
       let same : need ≡ n = lacks.needs rooms has in
       let takes_run : TakesFront old.free found.free n grants.run =
       subst (λ (count : ℕ). TakesFront old.free found.free count grants.run) same grants.takes in
-      SpendsWords.of_page grants.run
+      SpendsWords.of_page grants.run some
       (full_for old n shows.tied ungranted (λ room. lacks.lacks (subst (HasRoom old.young) (sym same) room)))
       empty
       (used_of_run old.young found.young grants.run n grants.young (taken_words takes_run) empty taken.uses.young)
@@ -155,14 +163,14 @@ module _ {old found new : Mutator} {graph after : Graph} (command : Command) {ne
 
   -- where objects stand as they stood
   uses_run : (rooms : ℕ → Room) → HasRooms (heap_of old) graph rooms
-      → UsesNeed (stage_of old) (stage_of new) graph after command rooms
+      → UsesNeed (stage_of old) (stage_of new) graph after collections command rooms
   uses_run rooms has = record {
     spends = spends_of_run rooms has;
     stores = stores_before (grants_keep_stores old found graph need shows grants) (takes_by rooms has).stores;
   }
 
   -- so the grant and the command together allocate on the heap
-  allocated_in_page : HasAllocated old new graph after command
+  allocated_in_page : HasAllocated old new graph after collections command
   allocated_in_page =
       let (rooms, has) = shown_objects_have_rooms (heap_of old) graph shows.shows in
       let taken = takes_by rooms has in
@@ -176,14 +184,15 @@ module _ {old found new : Mutator} {graph after : Graph} (command : Command) {ne
           uses = uses_run;
         };
         ungranted = ungranted_again old.young found.young grants.run n grants.young words taken.uses.young;
+        rows = ap length taken.uses.free ∙ served_rows (Serves.granted lacks.lacks grants keeps);
       }
 
 -- a command that is carried out on what it finds of a heap in which nothing is granted allocates on that heap
-pub allocated : {old found new : Mutator} {graph after : Graph} (command : Command) → MainShows old graph
-    → in_eden old.young ≡ true → Served old found graph command → Takes found new graph after command
-    → HasAllocated old new graph after command
+pub allocated : {old found new : Mutator} {graph after : Graph} {collections : ℕ} (command : Command)
+    → MainShows old graph → in_eden old.young ≡ true → Served old found graph collections command
+    → Takes found new graph after command → HasAllocated old new graph after collections command
 allocated {old} {found} {new} {graph} {after} command shows ungranted (Served.as_it_is is) takes =
     allocated_in_eden command shows ungranted
     (subst (λ (main : Mutator). Takes main new graph after command) is takes)
-allocated command shows ungranted (Served.by_grant need lacks empty grants keeps) takes =
-    allocated_in_page command shows ungranted lacks empty grants keeps takes
+allocated command shows ungranted (Served.by_grant need some lacks empty grants keeps) takes =
+    allocated_in_page command shows ungranted some lacks empty grants keeps takes

@@ -10,7 +10,7 @@ use Rattle.script_text.specs.declared.script.What.TheVariants.{Run, Repeat, End}
 use Rattle.script_text.specs.Unrolled.{executed}
 use Rattle.script_text.specs.Left.{IsLeft, Goes}
 use Rattle.script_text.proofs.Left.{past_command, into_block, past_block, back, out, inside_block}
-use Rattle.heap_script.specs.LoopCounters.{next_of}
+use Rattle.heap_script.specs.LoopCounters.{standing_after}
 use Rattle.heap_script.specs.Progress.{command_in}
 
 -- a line, by its parts
@@ -20,7 +20,7 @@ line_by number what = record { number = number; what = what }
 -- where a run goes on after a line is a way on of what is left
 goes-by : (lines : List Line) (at : ℕ) (ts : List ℕ) (left : List Executed) (number : ℕ) (what : What)
     → IsLeft lines at ts left → slice_get lines at ≡ Some (line_by number what)
-    → Goes lines (next_of at ts what).at (next_of at ts what).turns left (executed number (command_in what))
+    → Goes lines (standing_after at ts what).at (standing_after at ts what).turns left (executed number (command_in what))
 goes-by lines at ts left number (Run command) is here = past_command lines at ts left number command is here
 goes-by lines at ts left number (Repeat zero end_at) is here = past_block lines at ts left number end_at is here
 goes-by lines at ts left number (Repeat (suc more) end_at) is here =
@@ -42,7 +42,7 @@ here lines all at same within = ap (λ xs. slice_get xs at) (sym same) ∙ slice
 -- where a run goes on after the line that an index reads
 pub goes_on : (lines all : List Line) (at : ℕ) (ts : List ℕ) (left : List Executed) → lines ≡ all → at < length lines
     → IsLeft all at ts left → let line = get_or lines at past_end in
-    Goes all (next_of at ts line.what).at (next_of at ts line.what).turns left
+    Goes all (standing_after at ts line.what).at (standing_after at ts line.what).turns left
     (executed line.number (command_in line.what))
 goes_on lines all at ts left same within is =
     let line = get_or lines at past_end in

@@ -21,7 +21,7 @@ closed at (zero ∷ outer) repeat_at = record { at = suc at; turns = outer }
 closed at (suc more ∷ outer) repeat_at = record { at = suc repeat_at; turns = more ∷ outer }
 
 -- where a run goes on after the line at this place
-abbrev pub next_of : ℕ → List ℕ → What → Standing
-next_of at turns (Run command) = record { at = suc at; turns = turns }
-next_of at turns (Repeat times end_at) = opened at turns times end_at
-next_of at turns (End repeat_at) = closed at turns repeat_at
+abbrev pub standing_after : ℕ → List ℕ → What → Standing
+standing_after at turns (Run command) = record { at = suc at; turns = turns }
+standing_after at turns (Repeat times end_at) = opened at turns times end_at
+standing_after at turns (End repeat_at) = closed at turns repeat_at

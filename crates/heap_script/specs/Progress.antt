@@ -64,20 +64,22 @@ pub record Handed (old new : List ℕ → Type 0) (waiting all : List ℕ) : Typ
   pub bytes : handed ++ waiting ≡ all
 
 -- The run came to this, and what it told was handed on or waits. Or the sink failed between two lines, where an output
--- was due, and a front of what was told was written.
-abbrev pub Halts : ScriptText → Stage → List ℕ → Finished → Told → (List ℕ → Type 0) → (List ℕ → Type 0)
+-- was due and no collection came since the last line, and a front of what was told was written.
+abbrev pub Halts : ScriptText → Stage → ℕ → List ℕ → Finished → Told → (List ℕ → Type 0) → (List ℕ → Type 0)
     → ℕ → ℕ → How → Type 0
-Halts script stage waiting finished so_far old new faults_old faults_new (SinkFault need) =
-    ((finished.line ≡ 0) × (need ≡ 0) × IsDue script finished.executed)
+Halts script stage collections waiting finished so_far old new faults_old faults_new (SinkFault need) =
+    ((finished.line ≡ 0) × (need ≡ 0) × (collections ≡ 0) × IsDue script finished.executed)
     × CutsOff old new so_far.bytes × Rose faults_old faults_new
-Halts script stage waiting finished so_far old new faults_old faults_new came =
-    EndsRun script stage.heap stage.rows finished.executed so_far came finished.line
+Halts script stage collections waiting finished so_far old new faults_old faults_new came =
+    EndsRun script stage.heap stage.rows collections finished.executed so_far came finished.line
     × Handed old new waiting so_far.bytes × (faults_new ≡ faults_old)
 
--- the run before its last bytes are handed on: how far it came, what it spent, and how it halted
+-- The run before its last bytes are handed on: how far it came, how many collections came since the last line,
+-- what it spent, and how it halted.
 pub record Pauses (script : ScriptText) (stage : Stage) (waiting : List ℕ) (finished : Finished)
     (old new : List ℕ → Type 0) (faults_old faults_new : ℕ) : Type 0 where
   pub reached : RanTo script stage.heap finished.executed
-  pub spends : Spends script stage finished.executed
+  pub collections : ℕ
+  pub spends : Spends script stage finished.executed collections
   pub free : AreFreeRuns stage.heap stage.rows
-  pub halts : Halts script stage waiting finished reached.so_far old new faults_old faults_new finished.how
+  pub halts : Halts script stage collections waiting finished reached.so_far old new faults_old faults_new finished.how

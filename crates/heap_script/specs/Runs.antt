@@ -1,7 +1,7 @@
 -- How far a script was run on a heap, and how the run ended.
 use Rattle.std.specs.Prelude.{◌≡◌, ◌≢◌, ◌⊎◌, ◌↔◌, ℕ, ◌+◌, ◌<◌, ◌≤◌, List, ◌∷◌}
 use Rattle.std.specs.Prelude.{[], ◌++◌, length, take, drop, All, Option, Some, None, IsTrue}
-use Rattle.std.specs.Prelude.{Bool, slice_get, nat_lt, if◌then◌else◌}
+use Rattle.std.specs.Prelude.{false, slice_get, nat_lt, if◌then◌else◌}
 use Rattle.heap_model.specs.Types.{Command, Run}
 use Rattle.heap_command.specs.Executed.{Executed}
 use Rattle.heap_command.specs.declared.command.Command.TheVariants.{Scavenge}
@@ -21,7 +21,9 @@ use Rattle.heap_model.specs.Reaching.{IsTight, FillsPages}
 use Rattle.heap_model.specs.Rooms.{Room, HasRooms, need_of}
 use Rattle.heap_model.specs.Showing.{Shows}
 use Rattle.free_runs.specs.FreeRuns.{AreFree, FitsNowhere, whole_rows}
-use Rattle.scavenger.specs.Laws.{TakesWords}
+use Rattle.root_mark.specs.Rooted.{KeepsRooted, FreeIsRun}
+use Rattle.collector.specs.Making.{LeavesRooted}
+use Rattle.scavenger.specs.Laws.{KeepsPlaces, TakesWords, PromotesWhatFits, PromotesNoOther, IsStuck}
 use Rattle.mutator.specs.Capacities.{KeepsStores}
 use Rattle.mutator.specs.declared.output.TheConstants.{OUTPUT_BYTES, ROOM}
 use Rattle.byte_ends.specs.Faults.{Rose}
@@ -40,13 +42,17 @@ abbrev pub left_after : ScriptText → ℕ → List Executed
 left_after script executed = drop executed (executed_lines script.lines)
 
 -- The heap, whose pages have these free runs, is full for so many words: eden is empty, each young cell is reached from
--- a variable or a slot of a page, where pairs of weak tables count as slots, the survivors and these words are more
--- than the words of the young generation, and no free run has so many.
+-- a variable or a slot of a page, each cell that is not free is reached from variables alone, where pairs of weak
+-- tables count as slots, the survivors and these words are more than the words of the young generation, each free word
+-- of a page is in a free run, no free run has so many words, and each young cell is longer than each free run.
 pub record IsFull (heap : Heap) (rows : List (List Run)) (need : ℕ) : Type 0 where
   pub empty : heap.used ≡ 0
   pub tight : IsTight heap
+  pub rooted : KeepsRooted heap
   pub lacks : IsTrue (lacks_room heap need)
+  pub free_words : FreeIsRun heap rows
   pub runs : FitsNowhere rows need
+  pub stuck : IsStuck heap rows
 
 -- The script was run for so many lines, of which none faulted, and the heap, which has a root for each variable of the
 -- script, shows the graph after them.
@@ -58,24 +64,27 @@ pub record RanTo (script : ScriptText) (heap : Heap) (executed : ℕ) : Type 0 w
   pub said : told ideal_limits script.fields (take executed (executed_lines script.lines)) ≡ Some so_far
   pub shown : Shows heap so_far.graph
 
--- Where objects have these rooms, exactly the words that the command needs are spent, and objects come to have the
--- rooms that it gives them.
-pub record UsesNeed (old new : Stage) (graph after : Graph) (command : Command) (rooms : ℕ → Room) : Type 0 where
-  pub spends : SpendsWords old new (need_of graph rooms command)
+-- Where objects have these rooms, exactly the words that the command needs are spent behind so many collections, and
+-- objects come to have the rooms that it gives them.
+pub record UsesNeed (old new : Stage) (graph after : Graph) (collections : ℕ) (command : Command) (rooms : ℕ → Room)
+    : Type 0 where
+  pub spends : SpendsWords old new collections (need_of graph rooms command)
   pub stores : KeepsStores old.heap new.heap graph after command rooms
 
--- A command that leads from one graph to another allocates on the heap. The regions stay, and no survivor comes or
--- goes.
-pub record Allocates (old new : Stage) (graph after : Graph) (command : Command) : Type 0 where
+-- A command that leads from one graph to another allocates on the heap, behind so many collections. The regions stay, and
+-- no survivor comes or goes.
+pub record Allocates (old new : Stage) (graph after : Graph) (collections : ℕ) (command : Command) : Type 0 where
   pub space : new.heap.space ≡ old.heap.space
   pub survivors : new.heap.survivors ≡ old.heap.survivors
-  pub uses : (rooms : ℕ → Room) → HasRooms old.heap graph rooms → UsesNeed old new graph after command rooms
+  pub uses : (rooms : ℕ → Room) → HasRooms old.heap graph rooms
+      → UsesNeed old new graph after collections command rooms
 
--- What is told of a collection, which promotes survivors, or all that lives: the regions stay, objects have the rooms
--- that they had, eden is empty, the survivors are no more than survivors and used words before, of young cells only
--- what is reached is kept, what came to pages is free, or is reached from variables and from cells of pages that stood
--- there before, words of free runs went to cells that were promoted alone, and the runs that are left neither overlap
--- nor touch.
+-- What is told of a scavenge, which promotes survivors: the regions stay, objects have the rooms that they had, eden is
+-- empty, the survivors are no more than survivors and used words before, of young cells only what is reached is kept,
+-- what came to pages is free, or is reached from variables and from cells of pages that stood there before, each cell
+-- of a page stays in its place, words of free runs went to cells that were promoted alone, and the runs that are left
+-- neither overlap nor touch. A young cell that was to be promoted and stays came to a page, or is longer than each run
+-- that is left, and no other one came to a page.
 pub record IsCollected (old new : Stage) (graph : Graph) : Type 0 where
   pub space : new.heap.space ≡ old.heap.space
   pub rooms : (rooms : ℕ → Room) → HasRooms old.heap graph rooms ↔ HasRooms new.heap graph rooms
@@ -83,18 +92,29 @@ pub record IsCollected (old new : Stage) (graph : Graph) : Type 0 where
   pub few : new.heap.survivors ≤ old.heap.survivors + old.heap.used
   pub tight : IsTight new.heap
   pub pages : FillsPages old.heap new.heap
-  pub all : Bool
-  pub words : TakesWords old.heap new.heap all old.rows new.rows
+  pub words : TakesWords old.heap new.heap false old.rows new.rows
+  pub promotes : PromotesWhatFits old.heap false new.rows words.to
+  pub stays : PromotesNoOther old.heap false words.to
+  pub places : KeepsPlaces old.heap old.rows words.to
   pub free : AreFreeRuns new.heap new.rows
   pub apart : AreFree new.rows
 
--- what a line does with the heap: one that runs no command leaves it as it is, `scavenge` collects, and any other
--- command allocates
-pub data LineAllocates (old new : Stage) (graph after : Graph) : Option Command → Type 0 where
-  passes : new ≡ old → LineAllocates old new graph after None
-  collects : IsCollected old new graph → LineAllocates old new graph after (Some Scavenge)
-  allocates : (command : Command) → command ≢ Scavenge → Allocates old new graph after command
-      → LineAllocates old new graph after (Some command)
+-- What is told of a full collection: objects have the rooms that they had; the regions stay; the heap is the old one
+-- moved, where cells of pages that are kept stay in their places; all that is not free is reached from variables, where
+-- pairs of weak tables count as slots; eden is empty, and the survivors are no more than survivors and used words
+-- before; each free word of a page is in a free run, the runs neither overlap nor touch, and each cell that is young
+-- still is reached, and longer than each of them.
+pub record IsFullyCollected (old new : Stage) (graph : Graph) : Type 0 where
+  pub rooms : (rooms : ℕ → Room) → HasRooms old.heap graph rooms ↔ HasRooms new.heap graph rooms
+  pub leaves : LeavesRooted old.heap new.heap new.rows
+
+-- what a line does with the heap, before which so many collections came since the last line: one that runs no command
+-- leaves it as it is, `scavenge` collects and promotes survivors alone, and any other command allocates
+pub data LineAllocates (old new : Stage) (graph after : Graph) (collections : ℕ) : Option Command → Type 0 where
+  passes : new ≡ old → LineAllocates old new graph after collections None
+  collects : IsCollected old new graph → LineAllocates old new graph after collections (Some Scavenge)
+  allocates : (command : Command) → command ≢ Scavenge → Allocates old new graph after collections command
+      → LineAllocates old new graph after collections (Some command)
 
 -- the heap lacks room for the words that the command of a line needs, whatever rooms objects have in it
 abbrev pub LacksWordsFor : Heap → Graph → Option Command → Type 0
@@ -109,28 +129,47 @@ pub record WantsRoom (script : ScriptText) (heap : Heap) (executed : ℕ) (so_fa
   pub next : slice_get (executed_lines script.lines) executed ≡ Some line
   pub lacks : LacksWordsFor heap so_far.graph line.command
 
--- The words that the executed lines of a script spend, one line after another, up to this stage. Before the first line
--- no word is used, and each page is one free run. Each line spends what its command needs, by the graph and the rooms
--- that the lines before it led to. Between two lines the heap is scavenged only where its eden lacks room for the words
--- that the next line needs; where eden still lacks room then, it may be again.
-pub data Spends (script : ScriptText) : Stage → ℕ → Type 0 where
+-- no free run has the words that the command of a line needs, whatever rooms objects have in the heap
+abbrev pub FitsNowhereFor : Stage → Graph → Option Command → Type 0
+FitsNowhereFor stage graph None = ⊥
+FitsNowhereFor stage graph (Some command) =
+    (rooms : ℕ → Room) → HasRooms stage.heap graph rooms → FitsNowhere stage.rows (need_of graph rooms command)
+
+-- There is no room at all for the words that the next line needs: eden lacks it, and no free run has so many.
+pub record LacksAllRoom (script : ScriptText) (stage : Stage) (executed : ℕ) (so_far : Told) : Type 0 where
+  pub wants : WantsRoom script stage.heap executed so_far
+  pub runs : FitsNowhereFor stage so_far.graph wants.line.command
+
+-- The words that the executed lines of a script spend, one line after another, up to this stage, before which so many
+-- collections came since the last line. Before the first line no word is used, and each page is one free run. Each line
+-- spends what its command needs, by the graph and the rooms that the lines before it led to. Between two lines the heap
+-- is scavenged once where its eden lacks room for the words that the next line needs, and then survivors alone are
+-- promoted; and where eden lacks room for them still, and no free run has them, a full collection comes. No third
+-- collection comes.
+pub data Spends (script : ScriptText) : Stage → ℕ → ℕ → Type 0 where
   none : (stage : Stage) → stage.heap.used ≡ 0 → stage.heap.survivors ≡ 0
-      → stage.rows ≡ whole_rows stage.heap.space.sizes.pages → RanTo script stage.heap 0 → Spends script stage 0
-  one_more : (old new : Stage) (executed : ℕ) (line : Executed) → Spends script old executed
+      → stage.rows ≡ whole_rows stage.heap.space.sizes.pages → RanTo script stage.heap 0 → Spends script stage 0 0
+  one_more : (old new : Stage) (executed collections : ℕ) (line : Executed) → Spends script old executed collections
       → slice_get (executed_lines script.lines) executed ≡ Some line
       → (before : RanTo script old.heap executed) (after : RanTo script new.heap (executed + 1))
-      → LineAllocates old new before.so_far.graph after.so_far.graph line.command → Spends script new (executed + 1)
-  collected : (old new : Stage) (executed : ℕ) → Spends script old executed
+      → LineAllocates old new before.so_far.graph after.so_far.graph collections line.command
+      → Spends script new (executed + 1) 0
+  once : (old new : Stage) (executed : ℕ) → Spends script old executed 0
       → (before : RanTo script old.heap executed) → WantsRoom script old.heap executed before.so_far
-      → RanTo script new.heap executed → IsCollected old new before.so_far.graph → Spends script new executed
+      → RanTo script new.heap executed → IsCollected old new before.so_far.graph → Spends script new executed 1
+  twice : (old new : Stage) (executed : ℕ) → Spends script old executed 1
+      → (before : RanTo script old.heap executed) → LacksAllRoom script old executed before.so_far
+      → RanTo script new.heap executed → IsFullyCollected old new before.so_far.graph → Spends script new executed 2
 
--- The heap has the regions of the one to which the lines led that spent words, and as many words are used and have
--- survived. Each object stands where it stands there, with a store of as many slots. The rooms that the objects
--- of the graph after the lines have there are their rooms in the heap too. Its pages have the free runs of that one.
+-- The heap has the regions of the one to which the lines led that spent words, and so many collections since the last of
+-- them; and as many words are used and have survived. Each object stands where it stands there, with a store of as many
+-- slots. The rooms that the objects of the graph after the lines have there are their rooms in the heap too. Its pages
+-- have the free runs of that one.
 pub record HasSpent (script : ScriptText) (heap : Heap) (executed : ℕ) : Type 0 where
   pub last : Stage
+  pub collections : ℕ
   pub space : heap.space ≡ last.heap.space
-  pub spends : Spends script last executed
+  pub spends : Spends script last executed collections
   pub reached : RanTo script last.heap executed
   pub used : heap.used ≡ last.heap.used
   pub survivors : heap.survivors ≡ last.heap.survivors
@@ -159,20 +198,26 @@ IsFullAt heap rows graph line need (next ∷ more) =
 IsFullAt heap rows graph line need _ = ⊥
 
 -- The run does not end after so many lines: one is next, and it neither faults nor stands at the limit. But the heap is
--- full for its command.
-pub record FullAt (script : ScriptText) (heap : Heap) (rows : List (List Run)) (executed : ℕ) (so_far : Told)
-    (line need : ℕ) : Type 0 where
+-- full for its command, for which it was collected twice: it was scavenged, and then fully collected.
+pub record FullAt (script : ScriptText) (heap : Heap) (rows : List (List Run)) (collections executed : ℕ)
+    (so_far : Told) (line need : ℕ) : Type 0 where
   pub goes_on : ending ideal_limits script.fields so_far.graph executed (left_after script executed) ≡ None
   pub full : IsFullAt heap rows so_far.graph line need (left_after script executed)
+  pub twice : collections ≡ 2
 
 -- After so many lines the run comes to an end, in this way and at this line, on a heap whose pages have these free
--- runs; a sink that fails is no end of a script.
-abbrev pub EndsRun : ScriptText → Heap → List (List Run) → ℕ → Told → How → ℕ → Type 0
-EndsRun script heap rows executed so_far how.End line = (line ≡ 0) × EndsAs script executed so_far end
-EndsRun script heap rows executed so_far (how.Fault word) line = EndsAs script executed so_far (fault_at line word)
-EndsRun script heap rows executed so_far (how.HeapFull need) line = FullAt script heap rows executed so_far line need
-EndsRun script heap rows executed so_far (how.SinkFault need) line = ⊥
-EndsRun script heap rows executed so_far how.LineLimit line = EndsAs script executed so_far (limit_at line)
+-- runs, and behind so many collections since the last line: none, but where it is full. A sink that fails
+-- is no end of a script.
+abbrev pub EndsRun : ScriptText → Heap → List (List Run) → ℕ → ℕ → Told → How → ℕ → Type 0
+EndsRun script heap rows collections executed so_far how.End line =
+    (line ≡ 0) × (collections ≡ 0) × EndsAs script executed so_far end
+EndsRun script heap rows collections executed so_far (how.Fault word) line =
+    (collections ≡ 0) × EndsAs script executed so_far (fault_at line word)
+EndsRun script heap rows collections executed so_far (how.HeapFull need) line =
+    FullAt script heap rows collections executed so_far line need
+EndsRun script heap rows collections executed so_far (how.SinkFault need) line = ⊥
+EndsRun script heap rows collections executed so_far how.LineLimit line =
+    (collections ≡ 0) × EndsAs script executed so_far (limit_at line)
 
 -- the words that were wanted where the run came to this, or 0
 abbrev pub need_at : How → ℕ
@@ -223,21 +268,21 @@ abbrev pub IsCut : How → Type 0
 IsCut (how.SinkFault need) = Unit {0}
 IsCut _ = ⊥
 
--- Where the sink failed: between two lines, which is the line 0 and the need 0, where an output is due just there. Or
--- at an end with this line and this need.
-abbrev pub FailedAt : ScriptText → Heap → List (List Run) → ℕ → Told → ℕ → ℕ → Type 0
-FailedAt script heap rows executed so_far line need =
-    ((line ≡ 0) × (need ≡ 0) × IsDue script executed)
-    ⊎ ((came : How) × EndsRun script heap rows executed so_far came line × (need ≡ need_at came))
+-- Where the sink failed: between two lines, which is the line 0 and the need 0, where an output is due just there, and
+-- no collection came since the last line. Or at an end with this line and this need.
+abbrev pub FailedAt : ScriptText → Heap → List (List Run) → ℕ → ℕ → Told → ℕ → ℕ → Type 0
+FailedAt script heap rows collections executed so_far line need =
+    ((line ≡ 0) × (need ≡ 0) × (collections ≡ 0) × IsDue script executed)
+    ⊎ ((came : How) × EndsRun script heap rows collections executed so_far came line × (need ≡ need_at came))
 
 -- What was told was written, and the run came to this. Or the sink failed, and a front of what was told was written.
-abbrev pub Writes : ScriptText → Heap → List (List Run) → Finished → Told → (List ℕ → Type 0) → (List ℕ → Type 0)
-    → ℕ → ℕ → How → Type 0
-Writes script heap rows finished so_far old new faults_old faults_new (how.SinkFault need) =
-    FailedAt script heap rows finished.executed so_far finished.line need
+abbrev pub Writes : ScriptText → Heap → List (List Run) → ℕ → Finished → Told → (List ℕ → Type 0)
+    → (List ℕ → Type 0) → ℕ → ℕ → How → Type 0
+Writes script heap rows collections finished so_far old new faults_old faults_new (how.SinkFault need) =
+    FailedAt script heap rows collections finished.executed so_far finished.line need
     × CutsOff old new so_far.bytes × Rose faults_old faults_new
-Writes script heap rows finished so_far old new faults_old faults_new came =
-    EndsRun script heap rows finished.executed so_far came finished.line
+Writes script heap rows collections finished so_far old new faults_old faults_new came =
+    EndsRun script heap rows collections finished.executed so_far came finished.line
     × Appends old new so_far.bytes × (faults_new ≡ faults_old)
 
 -- The run of a script: how far it came, what it spent, how it ended, and what the sink took, which may have taken these
@@ -246,4 +291,5 @@ pub record Finishes (script : ScriptText) (heap : Heap) (finished : Finished)
     (old new : List ℕ → Type 0) (faults_old faults_new : ℕ) : Type 0 where
   pub reached : RanTo script heap finished.executed
   pub spent : HasSpent script heap finished.executed
-  pub writes : Writes script heap spent.last.rows finished reached.so_far old new faults_old faults_new finished.how
+  pub writes : Writes script heap spent.last.rows spent.collections finished reached.so_far old new faults_old
+      faults_new finished.how

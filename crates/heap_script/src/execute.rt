@@ -15,12 +15,12 @@ ghost use Rattle.nursery.specs.Young.{HasRoom};
 ghost use Rattle.scavenger.specs.Scavenged.{Scavenges};
 ghost use Rattle.scavenger.specs.Laws.{KeepsGraphs};
 ghost use Rattle.mutator.specs.CarriesOut.{field_numbers};
-ghost use Rattle.collector.specs.Making.{IsOutOfRoom, ScavengesFor};
+ghost use Rattle.collector.specs.Making.{IsOutOfRoom, CollectsFor};
 ghost use Rattle.collector.specs.States.{HeapShows};
 ghost use Rattle.heap_script.specs.Collecting.{Tries, CarriesAtLast};
 ghost use Rattle.heap_script.specs.Progress.{objects_made, made_by, command_in};
 ghost use Rattle.heap_script.specs.Progress.{CarriesLine, outcome_of};
-ghost use Rattle.heap_script.specs.LoopCounters.{next_of};
+ghost use Rattle.heap_script.specs.LoopCounters.{standing_after};
 
 use crate::loop_counters::LoopCounters;
 use collector::Heap;
@@ -46,14 +46,14 @@ pub(crate) fn execute_line(
     requires short { AreShort script.now.fields }
     requires room { length out.old + ROOM ≤ OUTPUT_BYTES }
     requires small { at < 2 ^ 63 }
-    requires deep { length (next_of at turns.old what.now).turns ≤ open_most }
+    requires deep { length (standing_after at turns.old what.now).turns ≤ open_most }
     ensures carried { (graph : Graph) → HeapShows heap.old graph →
         objects.old ≡ length graph.objects → (text : List ℕ)
         × CarriesLine script.now.fields heap.old.main heap.new.main graph (command_in what.now) text
         (outcome_of result)
         × (out.new ≡ (if is_ok result then out.old ++ text else out.old)) }
-    ensures place { IfOk result (λ place. place ≡ (next_of at turns.old what.now).at) }
-    ensures turned { OnOk result (turns.new ≡ (next_of at turns.old what.now).turns) }
+    ensures place { IfOk result (λ place. place ≡ (standing_after at turns.old what.now).at) }
+    ensures turned { OnOk result (turns.new ≡ (standing_after at turns.old what.now).turns) }
     ensures unturned { OnErr result (turns.new ≡ turns.old) }
     ensures spare { heap.new.spare ≡ heap.old.spare }
     ensures counted { OnOk result (objects.new ≡ objects.old + made_by (command_in what.now)) }
@@ -67,7 +67,7 @@ pub(crate) fn execute_line(
     }
 }
 
-/// Carries a command out. Where there is no room for it, the heap makes some by scavenges, behind which it
+/// Carries a command out. Where there is no room for it, the heap makes some by collections, behind which it
 /// may grant words of a page, and then it is tried again.
 #[inline(always)]
 fn carry_out(
@@ -118,8 +118,8 @@ fn ensure_room(heap: &mut Heap, need: u32) -> bool
     requires shown { (graph : Graph) × HeapShows heap.old graph }
     ensures room { IsTrue result → HasRoom heap.new.main.young need }
     ensures full { result ≡ false → IsOutOfRoom heap.new.main need }
-    ensures scavenged { ¬ HasRoom heap.old.main.young need →
-        ScavengesFor heap.old.main heap.new.main need }
+    ensures collected { ¬ HasRoom heap.old.main.young need →
+        CollectsFor heap.old.main heap.new.main need }
     ensures shows { (graph : Graph) → HeapShows heap.old graph → HeapShows heap.new graph }
     ensures rooms { KeepsGraphs heap.old.main heap.new.main }
     ensures spare { heap.new.spare ≡ heap.old.spare }

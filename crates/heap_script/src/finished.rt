@@ -12,7 +12,7 @@ pub enum How {
     /// The command of the next line is this fault.
     Fault(FaultWord),
     /// The heap has no room for the words that the command of the next line needs, so many, neither in
-    /// eden nor in a free run of a page, though it was scavenged for them.
+    /// eden nor in a free run of a page, though it was scavenged twice for them.
     HeapFull { need: u32 },
     /// The sink failed. Where it did so after the run had come to a full heap, this is the need
     /// there, and else 0.

@@ -3,7 +3,8 @@
 //!
 //! Model: a run has come so far as it has executed lines. `RanTo` of `specs/Runs.antt` says that a
 //! heap shows the graph after them, `Spends` from which words of eden and of free runs the lines had
-//! what they needed, and `EndsAs` in what way a run ends. `Finishes` is what `run_script` promises.
+//! what they needed, and how often and why the heap was collected between them, and `EndsAs` in what way
+//! a run ends. `Finishes` is what `run_script` promises.
 //! Invariant: between two lines the place in the script and the turns left of its open blocks stand
 //! for the lines that are left to execute, what was told was handed on or waits in the output, and no
 //! word of a page is granted.

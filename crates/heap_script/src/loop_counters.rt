@@ -1,8 +1,8 @@
-//! The turns left of open blocks. Where a run goes on is `next_of` of `specs/LoopCounters.antt`; that this
+//! The turns left of open blocks. Where a run goes on is `standing_after` of `specs/LoopCounters.antt`; that this
 //! is the order of execution is kept in `interpreter`.
 ghost use Rattle.std.specs.Prelude.{◌≡◌, ◌<◌, ◌≤◌, ◌^◌, [], ◌∷◌, length};
 ghost use Rattle.script_text.specs.Limits.{open_most};
-ghost use Rattle.heap_script.specs.LoopCounters.{next_of, closed};
+ghost use Rattle.heap_script.specs.LoopCounters.{standing_after, closed};
 
 use script_text::What;
 use std::marker::Model;
@@ -43,9 +43,9 @@ impl LoopCounters {
     #[inline(never)]
     pub(crate) fn next(&mut self, at: usize, what: &What) -> usize
         requires small { at < 2 ^ 63 }
-        requires deep { length (next_of at self.old what.now).turns ≤ open_most }
-        ensures place { result ≡ (next_of at self.old what.now).at }
-        ensures turns { self.new ≡ (next_of at self.old what.now).turns }
+        requires deep { length (standing_after at self.old what.now).turns ≤ open_most }
+        ensures place { result ≡ (standing_after at self.old what.now).at }
+        ensures turns { self.new ≡ (standing_after at self.old what.now).turns }
     {
         match *what {
             What::Run(_) => at + 1,

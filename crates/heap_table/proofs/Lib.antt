@@ -2,4 +2,3 @@ mod MarksStart
 pub mod HeapWords
 mod HeapStretches
 mod SeatKeeps
-mod Paints

@@ -1,4 +1,3 @@
 pub mod Seats
 pub mod Seated
 pub mod Staying
-pub mod Colours

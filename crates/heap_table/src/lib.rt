@@ -5,12 +5,10 @@
 //! Invariant: the table has a word for each address of its regions.
 #![tactic(auto)]
 
-mod colour;
 mod main_seat;
 mod paused;
 mod phase;
 
-pub use colour::Colour;
 pub use main_seat::{HeapTable, MainSeat};
 pub use paused::Paused;
 pub use phase::Phase;

@@ -1,10 +1,9 @@
 //! The seat of the thread that runs commands.
 ghost use Rattle.std.specs.Prelude.{◌≡◌, ◌≢◌, ◌+◌, ◌<◌, ◌≤◌, ◌++◌, length, take, drop, replicate};
 ghost use Rattle.std.specs.Prelude.{slice_get, slice_set, IfOk, Some};
-ghost use Rattle.page_space.specs.Extents.{words_count, eden_start, marks_start, board_start};
+ghost use Rattle.page_space.specs.Extents.{words_count, marks_start};
 ghost use Rattle.word_store.specs.Copies.{copied};
 ghost use Rattle.heap_table.specs.declared.phase.Phase.TheVariants.{Quiet, Scavenge};
-ghost use Rattle.heap_table.specs.Colours.{mark_at};
 ghost use Rattle.heap_table.specs.Seats.{fresh, heap_words, RestStays};
 ghost use Rattle.heap_table.specs.Staying.{rest_stays_itself, rest_stays_again};
 ghost use Rattle.heap_table.specs.Staying.{rest_stays_steady};
@@ -150,19 +149,6 @@ impl MainSeat {
         ensures counted { result ≡ words_count self.now.space }
     {
         self.regions.count()
-    }
-
-    /// The address of the mark word of a word of a page.
-    #[inline(always)]
-    pub(crate) fn mark_at(&self, at: u32) -> u32
-        requires { at < eden_start self.now.space }
-        ensures mark { result ≡ mark_at self.now.space at }
-        ensures there { result < length self.now.table }
-        ensures before_board { result < board_start self.now.space }
-    {
-        // The marks end before the table does, so the sum is an address.
-        let _table_count = self.table_count();
-        at + self.heap_count
     }
 
     /// Any word of the table.

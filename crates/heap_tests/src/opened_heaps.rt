@@ -15,7 +15,7 @@ use crate::opened_words::{
     EDEN, RUNS, SLOTS, SMALL, SMALL_WORDS, TURNS, USUAL, USUAL_WORDS, VALUES,
 };
 use cell_layout::{Cell, NotACell, cell_at};
-use collector::{Full, Heap};
+use collector::Heap;
 use handle_roots::Held;
 use heap_table::HeapTable;
 use object_cells::{SlotContent, content_of, fill_store, make_box, rep_of};
@@ -175,13 +175,15 @@ fn reserves(rt: &impl Abort, heap: &mut Heap, need: u32, at: Option<u32>) {
 fn an_opened_heap_has_room_in_eden_and_in_its_page(rt: HostRuntime) -> Result<(), Fail> {
     let mut heap = opened(&rt, rt.alloc(), SMALL)?;
     assert_eq!(rt; heap.ensure(64), Ok(()));
-    // The first 65 words of the page are granted, and the 1,983 that are left of it.
+    // The first 65 words of the page are granted, and no cell is made in them.
     assert_eq!(rt; heap.ensure(65), Ok(()));
-    assert_eq!(rt; heap.ensure(1_984), Err(Full { need: 1_984 }));
-    assert_eq!(rt; heap.ensure(1_983), Ok(()));
+    // More than the 1,983 that are left of it: a full collection takes back what was granted.
+    assert_eq!(rt; heap.ensure(1_984), Ok(()));
+    assert_eq!(rt; heap.ensure(2_048), Ok(()));
     heap.scavenge();
-    assert_eq!(rt; heap.ensure(65), Err(Full { need: 65 }));
+    assert_eq!(rt; heap.ensure(65), Ok(()));
     assert_eq!(rt; heap.ensure(64), Ok(()));
+    assert!(rt; heap.main().granted() == Run { at: 0, words: 65 });
     assert_eq!(rt; heap.main().used(), 0);
     Ok(())
 }

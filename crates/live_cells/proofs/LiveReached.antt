@@ -30,7 +30,7 @@ use Rattle.live_cells.proofs.ObjectTargets.{LinkTarget, at_is_in}
 
 module _ {heap : Heap} {graph : Graph} (shows : Shows heap graph) where
   -- an object of a live address can be reached
-  place_reached : {number at : ℕ} → Belongs heap graph at → IsPlace heap number at
+  pub place_reached : {number at : ℕ} → Belongs heap graph at → IsPlace heap number at
       → IsTrue (is_marked (reach graph) number)
   place_reached (Belongs.itself cell words is stands) place =
       let here : IsPlace heap cell.header.object cell.at =
@@ -121,7 +121,7 @@ module _ {heap : Heap} {graph : Graph} (shows : Shows heap graph) where
       absurd (cc)
 
   -- what is live belongs
-  live_belongs : (at : ℕ) → IsLive heap (IsRootTarget heap) at → Belongs heap graph at
+  pub live_belongs : (at : ℕ) → IsLive heap (IsRootTarget heap) at → Belongs heap graph at
   live_belongs at (IsLive.start there target) =
       let object = target_reached at shows target in
       let one = reached_cell shows object.0 at object.1 object.2 in

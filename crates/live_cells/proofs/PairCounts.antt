@@ -25,7 +25,8 @@ use Rattle.heap_model.proofs.NewKeys.{one_table}
 use Rattle.heap_model.proofs.SlotWords.{All-slice_get}
 use Rattle.heap_model.proofs.WordClasses.{same_reference}
 use Rattle.heap_model.proofs.WordsRead.{word_of_cell}
-use Rattle.live_cells.specs.Counts.{IsReachedMap, MapsHaveReachedKeys, ExactMapsHaveNoOthers}
+use Rattle.live_cells.specs.Counts.{reached_keys, IsReachedMap, MapsHaveReachedKeys, ExactMapsHaveNoOthers}
+use Rattle.live_cells.specs.Exact.{KeepsNoOther}
 use Rattle.live_cells.proofs.MarkedLinks.{element_at}
 use Rattle.live_cells.proofs.ObjectTargets.{at_is_in}
 use Rattle.live_cells.proofs.Pigeons.{no_more}
@@ -180,13 +181,19 @@ maps_have_reached_keys heap graph at entries is_graph shows is =
       no_fewer_pairs (reach graph) one.shown_by (keys_differ is.number entries is_graph is.stands),
     )
 
--- and in an exact heap no other pair
-pub exact_maps_have_no_others : ExactMapsHaveNoOthers
-exact_maps_have_no_others heap graph at entries is_graph exact is =
-    let one = counted exact.shows is in
+-- and no other pair in a heap that keeps nothing else
+pub kept_maps_have_no_others : {heap : Heap} {graph : Graph} {at : ℕ} {entries : List Entry} → IsGraph graph
+    → KeepsNoOther heap graph → IsReachedMap heap graph at entries → count_at heap at ≡ reached_keys graph entries
+kept_maps_have_no_others {heap} {graph} {at} {entries} is_graph keeps is =
+    let one = counted keeps.shows is in
     omega (
       arith,
       one.count,
       no_fewer_pairs (reach graph) one.shown_by (keys_differ is.number entries is_graph is.stands),
-      no_more_pairs (reach graph) one.shown_by exact.reached,
+      no_more_pairs (reach graph) one.shown_by keeps.reached,
     )
+
+-- so it is in an exact heap
+pub exact_maps_have_no_others : ExactMapsHaveNoOthers
+exact_maps_have_no_others heap graph at entries is_graph exact is =
+    kept_maps_have_no_others is_graph exact.keeps is

@@ -23,7 +23,7 @@ pub record IsObjectAt (heap : Heap) (bound : Option Value) (at : ℕ) : Type 0 w
   pub is : bound ≡ Some (Ref number)
 
 -- the first word of an integer is no reference
-integer_refers_not : (is_small : Bool) (v : ℤ) (at : ℕ) → first_of is_small v ≡ reference_word at → ⊥
+pub integer_refers_not : (is_small : Bool) (v : ℤ) (at : ℕ) → first_of is_small v ≡ reference_word at → ⊥
 integer_refers_not true v at same = small_refers_not v at same
 integer_refers_not false v at same = omega (arith, same)
 

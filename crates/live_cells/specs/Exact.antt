@@ -17,13 +17,17 @@ pub record IsNamedByObject (heap : Heap) (at : ℕ) : Type 0 where
   pub slot : ℕ
   pub names : NamesFrom heap owner slot at
 
--- The heap keeps exactly what can be reached: it shows the graph; each object's cell carries the number of an object
--- that can be reached; an object's cell names each store, table and box; and eden and the segments hold no free cell.
-pub record Exact (heap : Heap) (graph : Graph) : Type 0 where
+-- The heap keeps nothing but what can be reached: it shows the graph; each object's cell carries the number of an
+-- object that can be reached; and an object's cell names each store, table and box.
+pub record KeepsNoOther (heap : Heap) (graph : Graph) : Type 0 where
   pub shows : Shows heap graph
   pub reached : (number at : ℕ) → IsPlace heap number at → IsTrue (is_marked (reach graph) number)
   pub named : (cell : Cell) (words : List ℕ) → HasCell heap cell words → IsOwnedKind cell.layout.kind
       → IsNamedByObject heap cell.at
+
+-- The heap keeps exactly what can be reached: nothing else, and eden and the segments hold no free cell.
+pub record Exact (heap : Heap) (graph : Graph) : Type 0 where
+  pub keeps : KeepsNoOther heap graph
   pub packed : (cell : Cell) (words : List ℕ) → HasCell heap cell words → IsTrue (is_free_kind cell.layout.kind)
       → cell.at < eden_start heap.space
 

@@ -1,5 +1,5 @@
 -- Laws of live cells: they are those of what can be reached.
-use Rattle.std.specs.Prelude.{ℕ, Bool, IsTrue}
+use Rattle.std.specs.Prelude.{ℕ, Bool, List, Contains, IsTrue}
 use Rattle.heap_model.specs.Types.{Cell}
 use Rattle.object_graph.specs.Graphs.{Graph}
 use Rattle.object_graph.specs.Reach.{is_marked, reach}
@@ -7,7 +7,7 @@ use Rattle.heap_model.specs.Heaps.{Heap}
 use Rattle.heap_model.specs.Slots.{IsPlace}
 use Rattle.heap_model.specs.Wholeness.{NamesFrom}
 use Rattle.heap_model.specs.Showing.{Shows}
-use Rattle.live_cells.specs.Live.{IsLive, IsRootTarget}
+use Rattle.live_cells.specs.Live.{IsLive, IsRootTarget, AreLive}
 use Rattle.live_cells.specs.Marked.{HasRootTargets, IsMarkClosed}
 
 -- The address is the place of an object that can be reached, or that of a store, a table or a box that the cell of such
@@ -32,3 +32,9 @@ ReachedIsMarked =
     (heap : Heap) (graph : Graph) (marked : ℕ → Bool) (number at : ℕ) → Shows heap graph
     → HasRootTargets heap marked → IsMarkClosed heap marked → IsTrue (is_marked (reach graph) number)
     → IsPlace heap number at → IsTrue (marked at)
+
+-- So each place of what can be reached is live.
+abbrev pub ReachedIsLive : Type 0
+ReachedIsLive =
+    (heap : Heap) (graph : Graph) (marked : List ℕ) (number at : ℕ) → Shows heap graph → AreLive heap marked
+    → IsTrue (is_marked (reach graph) number) → IsPlace heap number at → Contains marked at

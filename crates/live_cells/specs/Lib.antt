@@ -3,3 +3,7 @@ pub mod Marked
 pub mod Exact
 pub mod Laws
 pub mod Counts
+pub mod Keeping
+pub mod Cleared
+pub mod Fitting
+pub mod Census

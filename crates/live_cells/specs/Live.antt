@@ -1,5 +1,5 @@
 -- Which cells of a heap are live.
-use Rattle.std.specs.Prelude.{◌≡◌, ℕ, ◌<◌, List, Contains, Some, slice_get, drop}
+use Rattle.std.specs.Prelude.{◌≡◌, ℕ, ◌<◌, ◌↔◌, List, Contains, Some, slice_get, drop}
 use Rattle.tagged_word.specs.declared.layout.Kind.TheVariants as kind
 use Rattle.tagged_word.specs.Cells.{tagged_offsets, store_head}
 use Rattle.handle_roots.specs.Roots.{root_at}
@@ -45,3 +45,7 @@ pub record IsRootTarget (heap : Heap) (at : ℕ) : Type 0 where
   pub variable : ℕ
   pub within : variable < heap.space.variables
   pub refers : slice_get heap.words (root_at heap.space variable) ≡ Some (reference_word at)
+
+-- these are the addresses of the live cells
+abbrev pub AreLive : Heap → List ℕ → Type 0
+AreLive heap marked = (at : ℕ) → Contains marked at ↔ IsLive heap (IsRootTarget heap) at

@@ -85,14 +85,6 @@ fixed_kind {heap} {cell} sized has below =
     fixed_number heap.paths cell.header.shape (kind_number cell.layout.kind) below (kind_word sized has)
     (kind_number_least cell.layout.kind)
 
--- a plain cell has the shape of a path
-pub plain_has_path : {heap : Heap} {cell : Cell} {words : List ℕ} → HasSizes heap → HasCell heap cell words
-    → cell.layout.kind ≡ kind.Plain → first_path_shape ≤ cell.header.shape
-plain_has_path {cell = cell} sized has plain = elim (cases_lt cell.header.shape first_path_shape) [
-  | inl below ↦ absurd (omega (arith, (fixed_kind sized has below).1, ap kind_number plain))
-  | inr from ↦ from
-]
-
 -- one that is not has a fixed shape, that before the number of its kind
 pub other_has_fixed : {heap : Heap} {cell : Cell} {words : List ℕ} (of : Kind) → HasSizes heap → HasCell heap cell words
     → cell.layout.kind ≡ of → 2 ≤ kind_number of → cell.header.shape + 1 ≡ kind_number of

@@ -24,7 +24,7 @@ use Rattle.heap_model.specs.Changes.{AreFillers, CellsChange, IsOwnChange}
 use Rattle.heap_model.specs.Counting.{CountsEntries}
 use Rattle.heap_model.specs.Collectable.{IsCollectable, AreFreeRuns}
 use Rattle.heap_model.specs.Remembered.{AreRemembered, TouchesCells}
-use Rattle.heap_model.specs.Rooms.{Room, no_room, need_of, rooms_after, with_room}
+use Rattle.heap_model.specs.Rooms.{Room, bare_room, need_of, rooms_after, with_room}
 use Rattle.heap_model.specs.Showing.{Shows}
 use Rattle.heap_model.specs.Laws.{IsNoEntryKey, ReachesOneMore, bound}
 use Rattle.heap_model.proofs.SlotWords.{All-slice_get}
@@ -71,7 +71,7 @@ pub record IsMaking (graph : Graph) (command : Command) (x size : ℕ) (what : O
   pub done : (names : List (List ℕ)) → does ideal_limits names graph command ≡ done (make graph x what) []
   pub need : (rooms : ℕ → Room) → need_of graph rooms command ≡ size
   pub gives : (rooms : ℕ → Room) (number : ℕ)
-      → rooms_after graph rooms command number ≡ with_room rooms (length graph.objects) no_room number
+      → rooms_after graph rooms command number ≡ with_room rooms (length graph.objects) bare_room number
   pub none : HasNoEntry what
 
 -- a new object is the only one that can be reached and could not be before

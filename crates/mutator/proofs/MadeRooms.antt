@@ -14,7 +14,7 @@ use Rattle.heap_model.specs.Slots.{undefined_word, IsPlace}
 use Rattle.heap_model.specs.Kinds.{HasWord}
 use Rattle.heap_model.specs.Wholeness.{Whole}
 use Rattle.heap_model.specs.Needs.{capacity_at}
-use Rattle.heap_model.specs.Rooms.{Room, no_room, room_at, with_room, rooms_after}
+use Rattle.heap_model.specs.Rooms.{Room, bare_room, room_at, with_room, rooms_after}
 use Rattle.heap_model.specs.Laws.{bound}
 use Rattle.heap_model.proofs.BoundHeaps.{bound_moves}
 use Rattle.heap_model.proofs.CellWords.{slice_get-append_left, slice_get-append_right}
@@ -88,7 +88,7 @@ HasNoEntry (Weak entries) = entries ≡ []
 -- so it has no room
 empty_room : {new : Mutator} {after : Graph} (number at : ℕ) (what : Object) → MainShows new after → HasNoEntry what
     → slice_get after.objects number ≡ Some what → IsTrue (is_marked (reach after) number)
-    → IsPlace (heap_of new) number at → capacity_at (heap_of new) at ≡ 0 → no_room ≡ room_at (heap_of new) at what
+    → IsPlace (heap_of new) number at → capacity_at (heap_of new) at ≡ 0 → bare_room ≡ room_at (heap_of new) at what
 empty_room number at (Plain cap fields) shown none there marked place is =
     ap (λ n. record { capacity = n; entries = 0 }) (sym is)
 empty_room number at (ListOf elements) shown none there marked place is =
@@ -104,7 +104,7 @@ pub keeps_made : {old new : Mutator} {graph after : Graph} {rooms : ℕ → Room
     → ((number : ℕ) → IsTrue (is_marked (reach after) number) → number ≢ length graph.objects
     → IsTrue (is_marked (reach graph) number))
     → after.objects ≡ graph.objects ++ what ∷ [] → HasNoEntry what
-    → ((number : ℕ) → rooms_after graph rooms command number ≡ with_room rooms (length graph.objects) no_room number)
+    → ((number : ℕ) → rooms_after graph rooms command number ≡ with_room rooms (length graph.objects) bare_room number)
     → MakesOne (heap_of old) (heap_of new) → KeepsStores (heap_of old) (heap_of new) graph after command rooms
 keeps_made {old} {new} {graph} {after} {rooms} command what one fewer objects none gives makes = record {
   has = λ number at other there marked place.
@@ -116,8 +116,8 @@ keeps_made {old} {new} {graph} {after} {rooms} command what one fewer objects no
             ∙ ap (λ all. slice_get all number) (sym objects) ∙ there) in
             let new_one : IsPlace (heap_of old) number at → ⊥ = λ was.
             omega (arith, one.shows.shows.made number at was, same) in
-            gives number ∙ ap (λ n. with_room rooms (length graph.objects) no_room n) same
-            ∙ with_room-same rooms (length graph.objects) no_room
+            gives number ∙ ap (λ n. with_room rooms (length graph.objects) bare_room n) same
+            ∙ with_room-same rooms (length graph.objects) bare_room
             ∙ empty_room number at other one.shown (subst HasNoEntry is none) there marked place
             (makes.made number at place new_one)
         | inr apart ↦
@@ -129,7 +129,7 @@ keeps_made {old} {new} {graph} {after} {rooms} command what one fewer objects no
             let both : InBoth graph after number other =
             record { was = was; marked_was = marked_was; is = there; marked = marked } in
             let before = stood number at other one both place in
-            gives number ∙ with_room-other rooms (length graph.objects) no_room number apart
+            gives number ∙ with_room-other rooms (length graph.objects) bare_room number apart
             ∙ one.has number at other was marked_was before
             ∙ sym (room_stays number at other one both before place (makes.keeps number at before))
       ];

@@ -1,5 +1,5 @@
--- Touched slots and words fit the cells that went and came: those of cells that stand, those of a box that is made in
--- the run, and those of a slot that is filled.
+-- Touched slots and words fit the cells that went and came: those of cells that stand, and those of a box that is made
+-- in the run.
 use Rattle.std.proofs.Common.{◌≡◌, ℕ, ◌+◌, ◌≤◌, List, Contains, refl}
 use Rattle.heap_model.specs.Types.{Cell}
 use Rattle.heap_model.specs.Heaps.{Heap, HasCell, words_of_cell}
@@ -7,16 +7,11 @@ use Rattle.heap_model.specs.Needs.{box_words}
 use Rattle.heap_model.specs.Wholeness.{HasRows}
 use Rattle.heap_model.specs.Remembered.{IsSlotOf, Touch}
 use Rattle.heap_model.proofs.CellsApart.{IsOfCell}
-use Rattle.write_barrier.specs.Recording.{touched, touched_one}
 use Rattle.object_cells.specs.declared.content.SlotContent.{SlotContent}
 use Rattle.object_cells.specs.declared.content.SlotContent.TheVariants as content
-use Rattle.object_cells.specs.declared.content.SlotWrite.{SlotWrite}
-use Rattle.object_cells.specs.declared.content.SlotWrite.TheVariants as filling
-use Rattle.object_cells.specs.Contents.{filled_touch}
 use Rattle.object_cells.specs.Made.{content_need, content_touch}
 use Rattle.object_cells.proofs.SlotsOfCells.{in_one_cell, slot_in_one, no_slot_of_one}
-use Rattle.object_cells.proofs.TouchedCells.{FitsTouch, IsBeside, kept_fits, kept_beside, fits_then, fits_one}
-use Rattle.object_cells.proofs.TouchedCells.{fits_made}
+use Rattle.object_cells.proofs.TouchedCells.{FitsTouch, IsBeside, kept_fits, kept_beside}
 
 -- a slot of a cell that stayed fits where a slot's word was put
 pub slot_fits : {heap : Heap} {gone came : List Cell} {cell : Cell} {words : List ℕ} {at : ℕ} → HasCell heap cell words
@@ -51,23 +46,3 @@ pub content_fits : (gone came : List Cell) (holds : SlotContent) (from to box at
     → box + content_need holds ≤ to → IsBeside from to at → FitsTouch gone came at (content_touch holds box at)
 content_fits gone came holds from to box at begins ends beside =
     kept_fits gone came at (content_touch holds box at) (content_kept holds from to box at begins ends beside)
-
--- what filling a slot owes: the slot's own word fits, or that of its box; and a box that is made is in the run
-abbrev pub FitsFilling : List Cell → List Cell → (from to one : ℕ) → SlotWrite → Type 0
-FitsFilling gone came from to one (filling.Tagged word) = FitsTouch gone came one Touch.Stored
-FitsFilling gone came from to one (filling.Raw word) = FitsTouch gone came one Touch.Wiped
-FitsFilling gone came from to one (filling.NewBox box v) =
-    (from ≤ box) × (box + box_words ≤ to) × FitsTouch gone came one Touch.Stored
-FitsFilling gone came from to one (filling.OldBox box v) = FitsTouch gone came (box + 1) Touch.Wiped
-
--- then it fits beside the run
-pub filled_fits : (gone came : List Cell) (from to one at : ℕ) (how : SlotWrite)
-    → FitsFilling gone came from to one how → IsBeside from to at → FitsTouch gone came at (filled_touch how one at)
-filled_fits gone came from to one at (filling.Tagged word) fits beside = fits_one gone came Touch.Stored one at fits
-filled_fits gone came from to one at (filling.Raw word) fits beside = fits_one gone came Touch.Wiped one at fits
-filled_fits gone came from to one at (filling.NewBox box v) fits beside =
-    fits_then gone came (touched Touch.Wiped box (box + box_words)) (touched_one Touch.Stored one) at
-    (fits_made gone came Touch.Wiped from to box (box + box_words) at fits.0 fits.1 beside)
-    (fits_one gone came Touch.Stored one at fits.2)
-filled_fits gone came from to one at (filling.OldBox box v) fits beside =
-    fits_one gone came Touch.Wiped (box + 1) at fits

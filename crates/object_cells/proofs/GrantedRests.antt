@@ -9,7 +9,7 @@ use Rattle.heap_model.specs.Types.{Cell, Run}
 use Rattle.heap_model.specs.Heaps.{Heap}
 use Rattle.heap_model.specs.Wholeness.{Whole}
 use Rattle.heap_model.specs.Changes.{AreFillers, CellsChange, IsOwnChange}
-use Rattle.heap_model.specs.Collectable.{AreFreeRuns, AvoidFree, AvoidRange}
+use Rattle.heap_model.specs.Collectable.{AreFreeRuns, CellsAvoidFree, AvoidRange}
 use Rattle.heap_model.proofs.FreeStays.{own_changes_keep_fillers}
 use Rattle.write_barrier.specs.MutatorState.{Mutator, heap_of, IsTied, AreGranted, AvoidsFree}
 use Rattle.object_cells.specs.Uses.{TakesRun}
@@ -38,7 +38,7 @@ module _ {old new : Mutator} {made : List Cell} (takes : TakesRun old new made) 
 
   -- no free run begins in the cells that were made
   pub made_avoid_free : IsTied old → AvoidsFree old.young.granted old.free → AreFreeRuns (heap_of old) old.free
-      → AvoidFree made old.free
+      → CellsAvoidFree made old.free
   made_avoid_free tied apart free row run cell among there is_made begins ends =
       let within = takes.within cell is_made in
       elim taken [

@@ -14,7 +14,6 @@ use Rattle.write_barrier.specs.Values.{with_range}
 use Rattle.write_barrier.proofs.Recording.{then_touch, word_touch}
 use Rattle.object_cells.specs.Made.{PutsWords}
 use Rattle.object_cells.proofs.RestOfWords.{put_rest, range_beside}
-use Rattle.write_barrier.proofs.StretchTouches.{stretch_touch}
 use Rattle.object_cells.proofs.WipedRanges.{wiped_on}
 use Rattle.object_cells.proofs.WordsPut.{heap_with_word}
 
@@ -96,15 +95,7 @@ module _ {old headed sized new : Mutator} {at many header long : ℕ}
       (subst (λ (main : Mutator). Touches headed main (touched Touch.Wiped (at + 1) (at + 1 + 1))) (sym puts.second)
       (word_touch headed (at + 1) long (omega (arith, puts.within, headed_marks)))))
 
-  -- and all of them were
-  pub headed_wiped : Touches old new (touched Touch.Wiped at (at + (store_head + many)))
-  headed_wiped =
-      subst (λ end. Touches old new (touched Touch.Wiped at end)) (omega arith)
-      (wiped_on at (at + 2) (at + 2 + many) (omega arith) (omega arith) head_wiped
-      (stretch_touch (at + 2) many (with_range sized.seat.table (at + 2) holes) holes puts.third puts.heap
-      (length-replicate many hole_word) (omega (arith, sized_counted, puts.within))))
-
-  -- or the head was, and holes were stored in the slots behind it
+  -- the head was, and holes were stored in the slots behind it
   pub headed_touch : Touches sized new (touched Touch.Stored (at + store_head) (at + store_head + many))
       → Touches old new (touched_then (touched Touch.Wiped at (at + store_head))
       (touched Touch.Stored (at + store_head) (at + (store_head + many))))

@@ -40,9 +40,11 @@ plain_length k second other long plain is = ap (λ one. length_by (has_length on
 pub plain_owns : Owns kind.Plain kind.Store
 plain_owns = record { object = refl; short = refl; belongs = tt; long = refl }
 
+-- a list owns a store
 pub list_owns : Owns kind.List kind.Store
 list_owns = record { object = refl; short = refl; belongs = tt; long = refl }
 
+-- a weak map owns a table
 pub weak_owns : Owns kind.Weak kind.Table
 weak_owns = record { object = refl; short = refl; belongs = tt; long = refl }
 

@@ -27,10 +27,11 @@ use Rattle.object_cells.proofs.OwnSteps.{stands}
 use Rattle.object_cells.proofs.BesideSound.{store_is_sound, beside_sound, came_sound}
 use Rattle.object_cells.proofs.RefilledFields.{fields_step, field_shown}
 
--- a number that is so much more than another is so far behind it, and not below it
+-- a number that is so much more than another is so far behind it
 behind_by : (cap k : ℕ) → cap + k - cap ≡ k
 behind_by cap k = omega arith
 
+-- so a slot behind those of the object itself is not below their number
 not_below : (cap k : ℕ) → nat_lt (cap + k) cap ≡ false
 not_below cap k = le-ltb (cap + k) cap (omega arith)
 

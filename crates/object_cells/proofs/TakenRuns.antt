@@ -14,7 +14,7 @@ use Rattle.heap_model.specs.Changes.{AreFillers, IsRunOf, IsNewlyUsed}
 use Rattle.heap_model.proofs.BoundHeaps.{none_in}
 use Rattle.write_barrier.specs.MutatorState.{Mutator, heap_of, IsTied}
 use Rattle.object_cells.specs.Contents.{next_at}
-use Rattle.object_cells.specs.Uses.{KeepsRegions, TakesRun}
+use Rattle.object_cells.specs.Uses.{TakesRun}
 
 -- Cells are made in eden, where there is room for so many words.
 pub record TakesEden (young : Young) (need : ℕ) : Type 0 where
@@ -67,17 +67,7 @@ taking_by young need false is room = Taking.of_granted (record {
 pub taking : (young : Young) (need : ℕ) → HasRoom young need → Taking young need
 taking young need room = taking_by young need (in_eden young) refl room
 
--- whatever is taken, the space, the half and the number of survivors stay
-pub bumped_space : (young : Young) (need : ℕ) → (bumped young need).space ≡ young.space
-bumped_space young need = refl
-
-pub bumped_half : (young : Young) (need : ℕ) → (bumped young need).half ≡ young.half
-bumped_half young need = refl
-
-pub bumped_survivors : (young : Young) (need : ℕ) → (bumped young need).survivors ≡ young.survivors
-bumped_survivors young need = refl
-
--- nothing more is used where no word is taken
+-- what is left of the young generation where no word is taken, in eden or in what is granted
 bumped_none_by : (young : Young) (test : Bool) → bumped_by test young 0 ≡ young
 bumped_none_by young true = ap (λ n. record young { used = n }) (add-zero young.used)
 bumped_none_by young false =
@@ -86,6 +76,7 @@ bumped_none_by young false =
     ap (λ n. record young { granted = record { at = n; words = run.words - 0 } }) (add-zero run.at)
     ∙ ap (λ n. record young { granted = record { at = run.at; words = n } }) left
 
+-- where no word is taken the young generation stays as it was
 pub bumped_none : (young : Young) → bumped young 0 ≡ young
 bumped_none young = bumped_none_by young (in_eden young)
 
@@ -98,6 +89,7 @@ used_by young need (Taking.of_eden takes) few =
 used_by young need (Taking.of_granted takes) few =
     omega (arith, few, ap (λ (y : Young). y.used) takes.bumps)
 
+-- so after a run was taken they are no more than these words too
 pub room_stays : {old : Mutator} (new : Mutator) (need : ℕ) → IsTied old → HasRows (heap_of old)
     → HasRoom old.young need → new.young ≡ bumped old.young need → new.seat.space ≡ old.seat.space
     → new.young.survivors + new.young.used ≤ new.seat.space.sizes.young
@@ -140,6 +132,7 @@ taken_by {old} new need tied (Taking.of_granted takes) young =
     IsRunOf.of_page (omega arith) used
     (subst (λ at. AreFillers heap at (at + need)) (sym takes.next) fillers)
 
+-- what was taken from where cells are made is a run of eden, or one of fillers of a page
 pub taken_run : {old : Mutator} (new : Mutator) (need : ℕ) → IsTied old → HasRoom old.young need
     → new.young ≡ bumped old.young need → new.seat.space ≡ old.seat.space
     → IsRunOf (heap_of old) (heap_of new) (next_at old) (next_at old + need)
@@ -152,16 +145,6 @@ run_newly_used at (IsRunOf.of_eden begins ends grown) above below =
     IsNewlyUsed.of_eden (omega (arith, begins, above)) (omega (arith, ends, below))
 run_newly_used at (IsRunOf.of_page forward same fillers) above below =
     IsNewlyUsed.of_page (fillers.each at above below) (omega (arith, fillers.of_page, below))
-
--- where only words were written and taken, the regions are kept
-pub keeps_regions : {old new : Mutator} (need : ℕ) → RestStays old.seat new.seat
-    → new.young ≡ bumped old.young need → KeepsRegions old new
-keeps_regions need beside young = record {
-  space = beside.space;
-  phase = beside.phase;
-  of_young = ap (λ (y : Young). y.space) young;
-  half = ap (λ (y : Young). y.half) young;
-}
 
 -- and cells that are a row of what was taken stand in it
 pub takes_run : {old new : Mutator} {words : List ℕ} {made : List Cell} (need : ℕ) → RestStays old.seat new.seat

@@ -20,8 +20,7 @@ use Rattle.heap_model.proofs.CellOutcomes.{object_is_no_filler}
 use Rattle.heap_model.proofs.CellsApart.{IsOfCell, first_of_cell}
 use Rattle.heap_model.proofs.PathLayouts.{layout_is}
 use Rattle.write_barrier.specs.MutatorState.{Mutator, heap_of}
-use Rattle.write_barrier.specs.Recording.{Touches, touched_one, touched_again, touched_then, Remembers}
-use Rattle.write_barrier.proofs.Recording.{touch_alike}
+use Rattle.write_barrier.specs.Recording.{Touches, touched_one, touched_then, Remembers}
 use Rattle.write_barrier.proofs.TouchedRanges.{touched_other}
 use Rattle.object_cells.specs.CellWrites.{reshaped}
 use Rattle.object_cells.specs.SlotChanges.{WritesFields}
@@ -164,16 +163,6 @@ pub object_free : {old new : Mutator} {object : ℕ} {touch : ℕ → Touch} →
     → new.free ≡ old.free
 object_free (TouchesObject.slots touches) = touches.free
 object_free (TouchesObject.header touches) = touches.free
-
--- addresses of pages may be touched as another function says it
-pub object_alike : {old new : Mutator} {object : ℕ} {touch other : ℕ → Touch}
-    → ((at : ℕ) → at < old.recorded.bound → touch at ≡ other at) → TouchesObject old new object touch
-    → TouchesObject old new object other
-object_alike alike (TouchesObject.slots touches) = TouchesObject.slots (touch_alike alike touches)
-object_alike {object = object} {touch} {other} alike (TouchesObject.header touches) =
-    let head = touched_one Touch.Wiped object in
-    TouchesObject.header (touch_alike
-    (λ at below. ap (λ (how : Touch). touched_again how (head at)) (alike at below)) touches)
 
 -- the object's header is none of the run, so wiping it fits there
 header_apart : {old new : Heap} {cell : Cell} {next : ℕ} {others made : List Cell} {before after : Path}

@@ -62,13 +62,6 @@ behind_length_of kind.Table layout long offset is there =
 behind_length_of kind.Gap layout long offset is there = absurd (none_in offset there)
 behind_length_of _ layout long offset is there = absurd (false≢true is)
 
--- the length of a store, a table or a gap is no slot
-pub length_is_no_slot : (cell : Cell) → IsTrue (has_length cell.layout.kind)
-    → IsSlotOf cell (cell.at + length_offset) → ⊥
-length_is_no_slot cell is slot =
-    let behind = behind_length_of cell.layout.kind cell.layout cell.length slot.offset is slot.visited in
-    omega (arith, slot.stands, behind)
-
 -- a box has no slots
 pub box_has_no_slots : {cell : Cell} {at : ℕ} → cell.layout.kind ≡ kind.Boxed → IsSlotOf cell at → ⊥
 box_has_no_slots of_kind slot = none_in slot.offset (offset_by_kind kind.Boxed of_kind slot)
@@ -102,10 +95,6 @@ list_slot of_kind slot =
 pub weak_slot : {cell : Cell} {at : ℕ} → cell.layout.kind ≡ kind.Weak → IsSlotOf cell at → cell.at + store_slot ≡ at
 weak_slot of_kind slot =
     let same = one_in store_slot slot.offset (offset_by_kind kind.Weak of_kind slot) in omega (arith, same, slot.stands)
-
--- the length of a list is no slot
-pub list_count_is_no_slot : (cell : Cell) → cell.layout.kind ≡ kind.List → IsSlotOf cell (cell.at + count_offset) → ⊥
-list_count_is_no_slot cell of_kind slot = let same = list_slot of_kind slot in omega (arith, same)
 
 -- nor is the count of a weak map
 pub weak_count_is_no_slot : (cell : Cell) → cell.layout.kind ≡ kind.Weak → IsSlotOf cell (cell.at + count_offset) → ⊥

@@ -36,6 +36,7 @@ before_segments_by main need tied (Taking.of_eden takes) =
 before_segments_by main need tied (Taking.of_granted takes) =
     omega (arith, takes.next, takes.room, (tied.granted takes.some).of_page)
 
+-- where cells are made next is before the segments
 pub next_before_segments : (main : Mutator) (need : ℕ) → IsTied main → HasRoom main.young need
     → next_at main + need ≤ segments_start main.seat.space
 next_before_segments main need tied room = before_segments_by main need tied (taking main.young need room)
@@ -94,6 +95,7 @@ filler_stands {heap} at fillers from below =
       ends = refl;
     }
 
+-- fillers of a page stand in one region
 fillers_region : {heap : Heap} {from to : ℕ} → AreFillers heap from to → AreOfRegion heap.space from to
 fillers_region {heap} fillers = record {
   end = fillers.extent.start + fillers.extent.words;

@@ -13,13 +13,6 @@ pub record UsesMore (old new : Mutator) (need : ℕ) : Type 0 where
   pub young : new.young ≡ bumped old.young need
   pub free : new.free ≡ old.free
 
--- the regions and the phase are the same, and the survivors are in the same half
-pub record KeepsRegions (old new : Mutator) : Type 0 where
-  pub space : new.seat.space ≡ old.seat.space
-  pub phase : new.seat.phase ≡ old.seat.phase
-  pub of_young : new.young.space ≡ old.young.space
-  pub half : new.young.half ≡ old.young.half
-
 -- So many words were taken from where cells are made, in which these cells stand; the regions and the phase are the
 -- same.
 pub record TakesRun (old new : Mutator) (made : List Cell) : Type 0 where

@@ -1,6 +1,6 @@
 -- What flags show, as they change.
 use Rattle.std.proofs.Common.{◌≡◌, ℕ, ◌<◌, ◌≤◌, ◌⊎◌, ◌↔◌, Bool, true, false, List, [], ◌∷◌, length, get_or, set}
-use Rattle.std.proofs.Common.{replicate, Contains, Option, Some, None, MatchOption, refl, subst, arith, inl, inr, sym}
+use Rattle.std.proofs.Common.{replicate, Contains, Option, Some, None, MatchOption, refl, arith, inl, inr, sym}
 use Rattle.std.proofs.Common.{◌∙◌}
 use Rattle.std.proofs.lemmas.Bool.{cases_lt, cases_eq}
 use Rattle.std.proofs.lemmas.List.{get_or_past, get_or-replicate, length-replicate, get_or-set_same, get_or-set_other}
@@ -48,17 +48,6 @@ has_noted flags slot below other = (
         | inr is_not ↦ get_or-set_other flags slot other true false is_not
             ∙ elim was [ inl is ↦ absurd (is_not is) | inr there ↦ flag_of_slot flags other there ]
       ]),
-)
-
--- where a flag is set already, its slot is recorded already
-pub has_noted_again : (flags : List Bool) (slot : ℕ) → get_or flags slot false ≡ true → (other : ℕ)
-    → Contains (slots_of flags) other ↔ ((other ≡ slot) ⊎ Contains (slots_of flags) other)
-has_noted_again flags slot is_set other = (
-  λ there. inr there,
-  λ was. elim was [
-    | inl is ↦ subst (λ (place : ℕ). Contains (slots_of flags) place) (sym is) (slot_of_flag flags slot is_set)
-    | inr there ↦ there
-  ],
 )
 
 -- where the flags of a range are clear, none of its slots is recorded

@@ -23,6 +23,7 @@ changes_nothing main = record {
   young = refl;
   bound = refl;
   count = refl;
+  rows = refl;
 }
 
 -- changes after changes
@@ -33,6 +34,7 @@ changes_again {first} {old} {new} before then = record {
   young = then.young ∙ before.young;
   bound = then.bound ∙ before.bound;
   count = then.count ∙ before.count;
+  rows = then.rows ∙ before.rows;
 }
 
 -- one word that is put before the marks is a change of heap words
@@ -45,6 +47,7 @@ put_changes {old} {new} a word is heap below = record {
   young = ap (λ (main : Mutator). main.young) is;
   bound = ap (λ (main : Mutator). main.recorded.bound) is ∙ wiped_bound old.recorded a (a + 1);
   count = ap length heap ∙ length-set (heap_words old.seat) a word;
+  rows = ap (λ (main : Mutator). length main.free) is;
 }
 
 -- words behind the place of a copy stay
@@ -94,4 +97,5 @@ copy_changes {old} {new} from to count is heap counted heap_counted within room 
       count = ap length heap
           ∙ length-copied (heap_words old.seat) from to count (omega (arith, within, heap_counted))
           (omega (arith, room, heap_counted));
+      rows = ap (λ (main : Mutator). length main.free) is;
     }

@@ -19,7 +19,7 @@ use Rattle.write_barrier.specs.MutatorState.{Mutator, heap_of, MainShows}
 use Rattle.write_barrier.specs.FreeCells.{with_free_cell, with_fillers}
 use Rattle.write_barrier.specs.Recording.{Touches, touched}
 use Rattle.scavenger.specs.Following.{IsFreeAt}
-use Rattle.scavenger.specs.Walking.{StandFree, TakesRun}
+use Rattle.scavenger.specs.Walking.{StandFree, CutsFreeCell}
 use Rattle.scavenger.specs.Granting.{Grants, granted_words}
 use Rattle.scavenger.proofs.CodePlaces.{wiped_range}
 use Rattle.scavenger.proofs.PagesRuns.{whole, whole_is, taken_at, taken_words}
@@ -52,7 +52,7 @@ grants_in_page shows some takes =
 
 module _ {old mid new : Mutator} {graph : Graph} {n : ℕ} {run : Run} {free : Cell} (shows : MainShows old graph)
     (some : 1 ≤ n) (own : AreFree old.free) (takes : TakesFront old.free mid.free n run)
-    (is_free : IsFreeAt old.seat.space (heap_words old.seat) free run.at) (taken : TakesRun old mid n run free)
+    (is_free : IsFreeAt old.seat.space (heap_words old.seat) free run.at) (taken : CutsFreeCell old mid n run free)
     (young : new.young ≡ with_granted mid.young run)
     (heap : heap_words new.seat ≡ with_fillers (heap_words mid.seat) run.at run.words)
     (beside : RestStays mid.seat new.seat) (paths : new.paths ≡ mid.paths)

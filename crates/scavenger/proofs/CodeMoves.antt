@@ -20,10 +20,10 @@ use Rattle.scav_copy.proofs.Ascending.{new_in, old_in}
 use Rattle.scavenger.specs.declared.progress.Progress.{Progress}
 use Rattle.scavenger.specs.Starts.{Start, start_of}
 use Rattle.scavenger.specs.Filling.{ChangesWords, Front, IsFilled, IsToDo, OthersAreDone}
-use Rattle.scavenger.specs.Following.{Copies, IsFreeAt, IsLeft, moved_words}
+use Rattle.scavenger.specs.Following.{Copies, IsFreeAt, IsFromSpace, moved_words}
 use Rattle.scavenger.specs.Walking.{AreCounted, AreKept, CopiesCell, HasMoved, IsPlaced, IsToPromote, Places}
 use Rattle.scavenger.specs.Walking.{Scavenging, stays_young, stays_in_vain}
-use Rattle.scavenger.specs.Walking.{RefersToRoom, TakesRun}
+use Rattle.scavenger.specs.Walking.{RefersToRoom, CutsFreeCell}
 use Rattle.scavenger.proofs.Sums.{one_home_more}
 use Rattle.scavenger.proofs.FollowTiles.{fill_above}
 use Rattle.scavenger.proofs.FollowCopies.{home_at}
@@ -128,7 +128,7 @@ module _ {start old : Mutator} {all : Bool} {before : Progress} {todo : List ℕ
   -- the copy in a free run
   copied_in_run : {mid : Mutator} (new : Mutator) (run : Run) (free : Cell)
       → IsToPromote start.seat.space all cell.at → TakesFront old.free mid.free cell.size run
-      → IsFreeAt start.seat.space (heap_words old.seat) free run.at → TakesRun old mid cell.size run free
+      → IsFreeAt start.seat.space (heap_words old.seat) free run.at → CutsFreeCell old mid cell.size run free
       → CopiesCell mid new cell run.at
       → Copied start old new all state.fixed state.homes before before cell run.at
   copied_in_run {mid} new run free promote takes is_free taken copies =
@@ -226,7 +226,7 @@ module _ {start old : Mutator} {all : Bool} {before : Progress} {todo : List ℕ
       (copied : Copied start old new all state.fixed state.homes before after cell to) (slot place : ℕ)
       (stood : StoodAt state.fixed state.homes slot place)
       (refers : RefersToAddress (heap_words old.seat) slot cell.at)
-      (is_left : IsLeft start.seat.space start.young.half cell.at)
+      (is_left : IsFromSpace start.seat.space start.young.half cell.at)
       (head : reference_in (get_or (heap_words old.seat) cell.at 0) ≡ None) where
     -- the homes with that of the copy
     abbrev all_homes : List Home

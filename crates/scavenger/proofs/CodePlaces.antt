@@ -1,6 +1,6 @@
 -- Where a copy goes: the front of a free run, of which the rest becomes one free cell; and the copy of one cell.
 use Rattle.std.proofs.Common.{◌≡◌, ℕ, ◌+◌, ◌-◌, ◌<◌, ◌≤◌, ◌↔◌, ◌⊎◌, inl, inr, List, Contains, length, slice_set}
-use Rattle.std.proofs.Common.{sym, ◌∙◌, ap, subst, arith}
+use Rattle.std.proofs.Common.{sym, ◌∙◌, ap, subst, arith, length-set}
 use Rattle.std.proofs.lemmas.Bool.{cases_lt}
 use Rattle.tagged_word.specs.declared.word.Class.TheVariants.{Ref}
 use Rattle.tagged_word.specs.Words.{bits_of}
@@ -19,7 +19,7 @@ use Rattle.write_barrier.proofs.JudgedSlots.{wiped_was, wiped_none, wiped_others
 use Rattle.write_barrier.proofs.TouchedRanges.{touched_inside, touched_outside}
 use Rattle.scavenger.specs.Filling.{ChangesWords}
 use Rattle.scavenger.specs.Following.{IsFreeAt}
-use Rattle.scavenger.specs.Walking.{StandFree, TakesRun, CopiesCell}
+use Rattle.scavenger.specs.Walking.{StandFree, CutsFreeCell, CopiesCell}
 use Rattle.scavenger.proofs.PagesRuns.{whole, whole_is, taken_at}
 
 -- the free cell whose first words are taken
@@ -79,11 +79,12 @@ wiped_range {old} {new} from to at touches below =
 
 -- The front of a run was taken, and then the rest made a free cell.
 pub run_taken : {old mid new : Mutator} {size : ℕ} {run : Run} (free : Cell) → mid ≡ record old { free = mid.free }
-    → size ≤ free.size → RestStays mid.seat new.seat → new.paths ≡ mid.paths → new.young ≡ mid.young
+    → TakesFront old.free mid.free size run → size ≤ free.size → RestStays mid.seat new.seat
+    → new.paths ≡ mid.paths → new.young ≡ mid.young
     → heap_words new.seat ≡ with_free_cell (heap_words mid.seat) (run.at + size) (free.size - size)
     → Touches mid new (touched Touch.Wiped (run.at + size) (run.at + size + (free.size - size)))
-    → TakesRun old new size run free
-run_taken {old} {mid} {new} {size} {run} free is enough rest paths young heap touches =
+    → CutsFreeCell old new size run free
+run_taken {old} {mid} {new} {size} {run} free is takes enough rest paths young heap touches =
     let from : ℕ = run.at + size in
     let to : ℕ = from + (free.size - size) in
     let ends : to ≡ run.at + free.size = omega (arith, enough) in
@@ -98,6 +99,7 @@ run_taken {old} {mid} {new} {size} {run} free is enough rest paths young heap to
         young = young ∙ ap (λ (main : Mutator). main.young) is;
         count = ap length words ∙ length-free_cell (heap_words old.seat) from (free.size - size);
         bound = touches.bound ∙ ap (λ (one : Recorded). one.bound) was;
+        rows = ap length touches.free ∙ ap length takes.others ∙ length-set old.free takes.page takes.row;
       };
       words = words;
       recorded = λ a below.

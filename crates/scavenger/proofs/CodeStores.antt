@@ -22,7 +22,7 @@ use Rattle.scav_copy.proofs.Spots.{home_fits}
 use Rattle.scavenger.specs.declared.progress.Progress.{Progress}
 use Rattle.scavenger.specs.Starts.{start_of}
 use Rattle.scavenger.specs.Filling.{ChangesWords, Front, IsFilled}
-use Rattle.scavenger.specs.Following.{IsLeft, HasRenamed}
+use Rattle.scavenger.specs.Following.{IsFromSpace, HasRenamed}
 use Rattle.scavenger.specs.Walking.{AreKept, GoesOn, HasFollowed, HasMoved, IsPlaced, Scavenging}
 use Rattle.scavenger.proofs.FollowSlots.{renaming_goes_on}
 use Rattle.scavenger.proofs.KeptSlots.{Judges, kept_slot}
@@ -70,6 +70,7 @@ store_changes {old} {new} slot word is heap below = record {
   young = ap (λ (main : Mutator). main.young) is;
   bound = ap (λ (main : Mutator). main.recorded.bound) is ∙ judged_bound old.recorded slot word;
   count = ap length heap ∙ length-set (heap_words old.seat) slot word;
+  rows = ap (λ (main : Mutator). length main.free) is;
 }
 
 -- nothing has changed, and the scavenge stands where it did
@@ -99,7 +100,7 @@ module _ {start mid new : Mutator} {all : Bool} {progress : Progress} {todo : Li
     (state : Scavenging start mid all progress todo front) (slot place word : ℕ)
     (home : Home) (there : Contains state.homes home) (stood : StoodAt state.fixed state.homes slot place)
     (refers : RefersToAddress (heap_words mid.seat) slot home.from)
-    (is_left : IsLeft start.seat.space start.young.half home.from) (stored : new ≡ with_slot mid slot word)
+    (is_left : IsFromSpace start.seat.space start.young.half home.from) (stored : new ≡ with_slot mid slot word)
     (heap : heap_words new.seat ≡ slice_set (heap_words mid.seat) slot word) (says : word ≡ bits_of (Ref home.to))
     (below : slot < marks_start mid.seat.space) where
   -- the words then
@@ -179,7 +180,7 @@ pub moved_follows : {start old mid new : Mutator} {all : Bool} {before after : P
     {front : Front} {state : Scavenging start old all before todo front} (at to word slot place : ℕ)
     → HasMoved start old mid all before after todo more front at to state
     → StoodAt state.fixed state.homes slot place → RefersToAddress (heap_words old.seat) slot at
-    → IsLeft start.seat.space start.young.half at → new ≡ with_slot mid slot word
+    → IsFromSpace start.seat.space start.young.half at → new ≡ with_slot mid slot word
     → heap_words new.seat ≡ slice_set (heap_words mid.seat) slot word → word ≡ bits_of (Ref to)
     → slot < marks_start mid.seat.space
     → HasFollowed start old new all before after todo more front slot state
@@ -188,8 +189,8 @@ moved_follows {start} {old} {mid} {new} {state = state} at to word slot place mo
     let on = moved.on in
     let points : RefersToAddress (heap_words mid.seat) slot moved.home.from =
     subst (RefersToAddress (heap_words mid.seat) slot) (sym moved.from) (moved.live slot place at stood refers) in
-    let left : IsLeft start.seat.space start.young.half moved.home.from =
-    subst (IsLeft start.seat.space start.young.half) (sym moved.from) is_left in
+    let left : IsFromSpace start.seat.space start.young.half moved.home.from =
+    subst (IsFromSpace start.seat.space start.young.half) (sym moved.from) is_left in
     let home_word : word ≡ bits_of (Ref moved.home.to) =
     says ∙ ap (λ (one : ℕ). bits_of (Ref one)) (sym moved.stands) in
     let then = stored_follows on.next slot place word moved.home moved.among (still_live slot place on stood)

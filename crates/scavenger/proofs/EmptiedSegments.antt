@@ -1,6 +1,6 @@
 -- First words of segments that are made 0, one after another.
 use Rattle.std.proofs.Common.{◌≡◌, ◌≢◌, ℕ, ◌+◌, ◌<◌, inl, inr, List, length, slice_get, Some}
-use Rattle.std.proofs.Common.{refl, sym, ◌∙◌, ap, subst, arith, length-set, below_more}
+use Rattle.std.proofs.Common.{sym, ◌∙◌, ap, subst, arith, length-set, below_more}
 use Rattle.std.specs.Prelude.{slice_set}
 use Rattle.object_graph.proofs.Lists.{slice_get-set_same, slice_get-set_other}
 use Rattle.page_space.specs.declared.region.Region.TheVariants.{Segment}
@@ -27,16 +27,6 @@ still_zero words put at within zero = elim (equal_or_not at put) [
       (slice_get-set_same words put 0 within)
   | inr apart ↦ slice_get-set_other words put at 0 apart ∙ zero
 ]
-
--- none is emptied
-pub empties_none : (space : Space) (half : ℕ) (words : List ℕ) → EmptiesBelow space half 0 words words
-empties_none space half words =
-    record {
-      length_same = refl;
-      zeros = λ at zero. zero;
-      starts = λ worker below. absurd (omega arith);
-      others = λ at none. refl;
-    }
 
 -- one more is emptied
 pub empties_more : (space : Space) (half worker put : ℕ) (old mid new : List ℕ)

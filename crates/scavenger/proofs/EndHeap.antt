@@ -22,7 +22,7 @@ use Rattle.heap_moves.specs.Moved.{moved_to}
 use Rattle.scav_copy.specs.declared.places.Home.{Home}
 use Rattle.scav_copy.specs.Places.{Fixed}
 use Rattle.scav_copy.proofs.Spots.{home_itself}
-use Rattle.scavenger.specs.Starts.{Start, IsYoungCell, IsRunOf, room_start}
+use Rattle.scavenger.specs.Starts.{Start, IsYoungCell, IsFreeRun, room_start}
 use Rattle.scavenger.specs.Scavenged.{words_of_homes, begins_free}
 use Rattle.scavenger.proofs.EndRanges.{room_extent, room_starts, room_among}
 use Rattle.scavenger.proofs.PagesRuns.{HasRun, first_of_run, one_run_at}
@@ -212,7 +212,7 @@ module _ {start : Start} {left : ℕ} {fixed : Fixed} {homes : List Home} {rows 
       subst (λ (one : Cell). HasCell end_heap one (words_of_cell end_heap one)) same has
 
   -- the cell that stands where a free run begins is that run
-  run_came : (run : Run) (cell : Cell) → IsRunOf rows run → cell.at ≡ run.at → CameFrom start homes rows cell
+  run_came : (run : Run) (cell : Cell) → IsFreeRun rows run → cell.at ≡ run.at → CameFrom start homes rows cell
       → (cell.size ≡ run.words) × (cell.at < eden_start start.heap.space) × IsTrue (is_free_kind cell.layout.kind)
   run_came run cell is stands (CameFrom.of_page body had below none) =
       let first = first_of_run rows run ending.filled.free is in
@@ -227,7 +227,7 @@ module _ {start : Start} {left : ℕ} {fixed : Fixed} {homes : List Home} {rows 
       (sym size ∙ ap (λ (each : Run). each.words) (sym one), below, free)
 
   -- each free run is one free cell
-  pub run_stands : (run : Run) → IsRunOf rows run → IsFreeCell end_heap run
+  pub run_stands : (run : Run) → IsFreeRun rows run → IsFreeCell end_heap run
   run_stands run is =
       let first = first_of_run rows run ending.filled.free is in
       let of_extent = run_extent run.at (was_free ending.begun ending.filled run.at first) in

@@ -18,7 +18,7 @@ use Rattle.heap_model.proofs.BoundHeaps.{none_in}
 use Rattle.scav_copy.specs.declared.places.Home.{Home}
 use Rattle.scav_copy.specs.Places.{Fixed}
 use Rattle.scav_copy.proofs.Spots.{home_itself}
-use Rattle.scavenger.specs.Starts.{Start, IsRunOf, room_start}
+use Rattle.scavenger.specs.Starts.{Start, IsFreeRun, room_start}
 use Rattle.scavenger.specs.Filling.{IsOfPage, StandsIn}
 use Rattle.scavenger.specs.Scavenged.{words_of_homes, begins_free}
 use Rattle.scavenger.proofs.TargetCells.{IsInSegment}
@@ -43,7 +43,7 @@ pub data CameFrom (start : Start) (homes : List Home) (rows : List (List Run)) (
   of_page : (words : List ℕ) → HasCell start.heap cell words → cell.at < eden_start start.heap.space
       → begins_free start.rows cell.at ≡ false → CameFrom start homes rows cell
   of_copy : (home : Home) → Contains homes home → home.to ≡ cell.at → CameFrom start homes rows cell
-  of_free : (run : Run) → IsRunOf rows run → run.at ≡ cell.at → run.words ≡ cell.size
+  of_free : (run : Run) → IsFreeRun rows run → run.at ≡ cell.at → run.words ≡ cell.size
       → cell.at < eden_start start.heap.space → IsTrue (is_free_kind cell.layout.kind) → HasNoNumber cell
       → CameFrom start homes rows cell
 
@@ -61,7 +61,7 @@ pub record EndRow (start : Start) (fixed : Fixed) (stayed homes : List Home) (ro
   pub pages : (cell : Cell) (words : List ℕ) → HasCell start.heap cell words → ContainsAddress extent cell.at
       → cell.at < eden_start start.heap.space → begins_free start.rows cell.at ≡ false → Contains cells cell
   pub copies : (home : Home) → Contains homes home → ContainsAddress extent home.to → StandsIn cells home.to
-  pub runs : (run : Run) → IsRunOf rows run → ContainsAddress extent run.at → StandsIn cells run.at
+  pub runs : (run : Run) → IsFreeRun rows run → ContainsAddress extent run.at → StandsIn cells run.at
 
 -- a cell of a page came from there
 came_to_page : {start : Start} {homes : List Home} {rows : List (List Run)} {cell : Cell}
@@ -115,7 +115,7 @@ module _ {start : Start} {left : ℕ} {fixed : Fixed} {homes : List Home} {rows 
 
   -- nor has it a free run
   no_page_run : (extent : Extent) (cells : List Cell) → eden_start start.heap.space ≤ extent.start
-      → (run : Run) → IsRunOf rows run → ContainsAddress extent run.at → StandsIn cells run.at
+      → (run : Run) → IsFreeRun rows run → ContainsAddress extent run.at → StandsIn cells run.at
   no_page_run extent cells behind run is holds =
       let first = first_of_run rows run ending.filled.free is in
       let below = free_below ending.begun ending.filled run.at first in

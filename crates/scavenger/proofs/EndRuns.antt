@@ -12,7 +12,7 @@ use Rattle.heap_model.specs.Collectable.{IsFreeCell}
 use Rattle.heap_model.proofs.BoundHeaps.{none_in}
 use Rattle.heap_model.proofs.CellsApart.{IsOfCell, one_at, cells_apart}
 use Rattle.scav_copy.specs.Places.{Fixed}
-use Rattle.scavenger.specs.Starts.{Start, IsBegun, IsRunOf}
+use Rattle.scavenger.specs.Starts.{Start, IsBegun, IsFreeRun}
 use Rattle.scavenger.specs.Scavenged.{begins_run, begins_free}
 use Rattle.scavenger.proofs.StartTargets.{StandsAt}
 use Rattle.scavenger.proofs.PagesRuns.{HasRun}
@@ -66,7 +66,7 @@ found_in_row (first ∷ more) at found =
 -- a free run that begins at the address
 pub record IsRunAt (rows : List (List Run)) (at : ℕ) : Type 0 where
   pub run : Run
-  pub is : IsRunOf rows run
+  pub is : IsFreeRun rows run
   pub stands : run.at ≡ at
 
 -- what is found in all rows is one
@@ -95,7 +95,7 @@ found_run (first ∷ more) at found =
     ]
 
 -- no run begins where none is
-pub no_run_begins : (rows : List (List Run)) (at : ℕ) → ((run : Run) → IsRunOf rows run → run.at ≡ at → ⊥)
+pub no_run_begins : (rows : List (List Run)) (at : ℕ) → ((run : Run) → IsFreeRun rows run → run.at ≡ at → ⊥)
     → begins_free rows at ≡ false
 no_run_begins rows at none =
     elim (cases_Bool (begins_free rows at)) [
@@ -105,17 +105,17 @@ no_run_begins rows at none =
 
 -- and where none is found, none is
 pub no_run_there : (rows : List (List Run)) (at : ℕ) → begins_free rows at ≡ false
-    → (run : Run) → IsRunOf rows run → run.at ≡ at → ⊥
+    → (run : Run) → IsFreeRun rows run → run.at ≡ at → ⊥
 no_run_there rows at none run is stands =
     false≢true (sym none ∙ free_begins rows is.row run at is.of_rows is.among stands)
 
 module _ {start : Start} {fixed : Fixed} (begun : IsBegun start fixed) where
   -- a free run is one free cell
-  pub run_cell : {run : Run} → IsRunOf start.rows run → IsFreeCell start.heap run
+  pub run_cell : {run : Run} → IsFreeRun start.rows run → IsFreeCell start.heap run
   run_cell {run} is = begun.free is.row run is.of_rows is.among
 
   -- its words are those of the cell
-  pub run_of_cell : {run : Run} {at : ℕ} (is : IsRunOf start.rows run) → IsOfRun run at
+  pub run_of_cell : {run : Run} {at : ℕ} (is : IsFreeRun start.rows run) → IsOfRun run at
       → IsOfCell (run_cell is).cell at
   run_of_cell is of_run =
       let free = run_cell is in

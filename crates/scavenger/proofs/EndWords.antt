@@ -16,7 +16,7 @@ use Rattle.scav_copy.specs.Places.{Fixed, size_of, IsInCells, IsInRooms}
 use Rattle.scav_copy.specs.Renamings.{Renaming, Outside}
 use Rattle.scav_copy.specs.Copies.{AreHoused, HomesDisjoint, LiesInRoom}
 use Rattle.scav_copy.proofs.Ending.{end_is_renaming}
-use Rattle.scavenger.specs.Starts.{Start, IsBegun, IsRunOf, IsRootAt, room_start, room_of, room_of_run}
+use Rattle.scavenger.specs.Starts.{Start, IsBegun, IsFreeRun, IsRootAt, room_start, room_of, room_of_run}
 use Rattle.scavenger.specs.Filling.{IsFilled, AllAreDone, IsEmptied}
 use Rattle.scavenger.specs.Following.{half_start, half_end}
 use Rattle.scavenger.proofs.Sums.{few_filled}
@@ -72,7 +72,7 @@ pub record StaysYoung (start : Start) (fixed : Fixed) (stayed : List Home) (fill
 pub record IsPromoted (start : Start) (fixed : Fixed) (home : Home) : Type 0 where
   pub below : home.to < eden_start start.heap.space
   pub run : Run
-  pub is : IsRunOf start.rows run
+  pub is : IsFreeRun start.rows run
   pub from : run.at ≤ home.to
   pub ends : home.to + size_of fixed home.from ≤ run.at + run.words
 

@@ -110,6 +110,7 @@ module _ {old new : Mutator} {all : Bool} {fixed : Fixed} {homes : List Home} {w
         stays = is.placed.promoted;
         left = is.filled.left;
         apart = apart;
+        rows = is.rows;
       }
 
   -- the heap that is left may be collected

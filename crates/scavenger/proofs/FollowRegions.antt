@@ -19,11 +19,11 @@ use Rattle.heap_model.proofs.CellsApart.{has_is_cell, cell_extent_stands, ends_w
 use Rattle.scav_copy.proofs.Redirecting.{equal_or_not}
 use Rattle.scav_copy.specs.Places.{Fixed}
 use Rattle.scavenger.specs.Starts.{Start, IsYoungCell, IsBegun}
-use Rattle.scavenger.specs.Following.{IsLeft}
+use Rattle.scavenger.specs.Following.{IsFromSpace}
 
 -- an address of a segment of the half that is left is left
 segment_is_left : (space : Space) (left worker at : ℕ) → IsInRegion space (Segment left worker) at
-    → IsLeft space left at
+    → IsFromSpace space left at
 segment_is_left space left worker at is =
     let workers : space.sizes.young * (worker + 1) ≤ space.sizes.young * half_segments space =
     mul-le-mul_left space.sizes.young (omega (arith, is.is_region.1)) in
@@ -32,7 +32,7 @@ segment_is_left space left worker at is =
 -- a cell of the young generation that stands in a row of this region, and not in the half that is filled, is left
 left_by : (heap : Heap) (half left at end : ℕ) (extent : Extent) (region : Region) → half + left ≡ 1
     → ((worker : ℕ) → region ≡ Segment half worker → ⊥) → eden_start heap.space ≤ at
-    → IsInRegion heap.space region at → EndsUsed heap extent end region → IsLeft heap.space left at
+    → IsInRegion heap.space region at → EndsUsed heap extent end region → IsFromSpace heap.space left at
 left_by heap half left at end extent (Page page) other empty young is ends =
     let before = page_ends heap.space page is.is_region in absurd (omega (arith, before, is.below))
 left_by heap half left at end extent Eden other empty young is ends = inl (is.from, is.below)
@@ -74,7 +74,7 @@ in_own_region {heap} {cell} rows has =
 
 -- a young cell is left
 young_is_left : {start : Start} {fixed : Fixed} (left at : ℕ) → IsBegun start fixed → start.half + left ≡ 1
-    → IsYoungCell start.heap at → IsLeft start.heap.space left at
+    → IsYoungCell start.heap at → IsFromSpace start.heap.space left at
 young_is_left {start} left at begun other young =
     let heap = start.heap in
     let has = young.has in
@@ -88,12 +88,12 @@ young_is_left {start} left at begun other young =
       segment = is;
       holds = region_holds rows has;
     }) in
-    subst (IsLeft heap.space left) young.stands
+    subst (IsFromSpace heap.space left) young.stands
     (left_by heap start.half left young.cell.at has.row.end has.row.extent has.row.extent.region other empty from
     (in_own_region rows has) has.used.ends)
 
 -- each of the cells is left
 pub cell_is_left : {start : Start} {fixed : Fixed} (left at : ℕ) → IsBegun start fixed → start.half + left ≡ 1
-    → Contains fixed.cells at → IsLeft start.heap.space left at
+    → Contains fixed.cells at → IsFromSpace start.heap.space left at
 cell_is_left left at begun other there =
     young_is_left left at begun other ((begun.begins.cells at).0 there)

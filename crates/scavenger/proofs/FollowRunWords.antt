@@ -14,7 +14,7 @@ use Rattle.scav_copy.specs.declared.places.Home.{Home}
 use Rattle.scav_copy.specs.declared.places.Room.{Room}
 use Rattle.scav_copy.specs.Places.{Fixed, IsInRooms, IsInCopies}
 use Rattle.scav_copy.specs.Copies.{LiesInRoom}
-use Rattle.scavenger.specs.Starts.{Start, IsBegun, IsRunOf}
+use Rattle.scavenger.specs.Starts.{Start, IsBegun, IsFreeRun}
 use Rattle.scavenger.specs.Filling.{IsFilled}
 use Rattle.scavenger.specs.Following.{IsFreeAt}
 use Rattle.scavenger.proofs.PagesRuns.{whole_is, taken_at, word_of_run}
@@ -64,7 +64,7 @@ pub takes_room : {start : Start} {fixed : Fixed} {words : List ℕ} {rows left :
     → IsFreeAt start.heap.space words free run.at → TakesRoom start fixed homes size free.size run
 takes_room {start} {words = words} {rows} {run = run} {free} begun filled takes is_free =
     let whole : Run = takes.takes.run in
-    let is : IsRunOf rows whole = whole_is takes in
+    let is : IsFreeRun rows whole = whole_is takes in
     let at : run.at ≡ whole.at = taken_at takes in
     let stands = run_stands begun filled whole is in
     let one : free ≡ stands.free =

@@ -12,7 +12,7 @@ use Rattle.scav_copy.specs.declared.places.Room.{Room}
 use Rattle.scav_copy.specs.Places.{Fixed}
 use Rattle.scav_copy.specs.Copies.{LiesInRoom}
 use Rattle.scav_copy.proofs.Spots.{none_in}
-use Rattle.scavenger.specs.Starts.{Start, IsBegun, IsRunOf, room_of_run}
+use Rattle.scavenger.specs.Starts.{Start, IsBegun, IsFreeRun, room_of_run}
 use Rattle.scavenger.specs.Filling.{IsFilled}
 use Rattle.scavenger.proofs.PagesRuns.{lies_in_row, run_in, one_run, run_of_word, word_of_run}
 
@@ -41,7 +41,7 @@ none_touches start end (first ∷ more) run other ascend there there_too same =
     ]
 
 -- where a run ends, in its page, no word is free
-behind_is_taken : (rows : List (List Run)) (run : Run) → (free : AreFree rows) → (is : IsRunOf rows run)
+behind_is_taken : (rows : List (List Run)) (run : Run) → (free : AreFree rows) → (is : IsFreeRun rows run)
     → run.at + run.words < page_words * (run_in rows run free is).page + page_words
     → IsFreeWord rows (run.at + run.words) → ⊥
 behind_is_taken rows run free is within word =
@@ -70,12 +70,12 @@ behind_is_taken rows run free is within word =
 -- a free run lies in one of the free runs of before
 record LiesInRun (rows : List (List Run)) (run : Run) : Type 0 where
   whole : Run
-  is : IsRunOf rows whole
+  is : IsFreeRun rows whole
   from : whole.at ≤ run.at
   ends : run.at + run.words ≤ whole.at + whole.words
 
 -- where each of its words was free
-lies_in_run : (rows now : List (List Run)) (run : Run) → AreFree rows → AreFree now → IsRunOf now run
+lies_in_run : (rows now : List (List Run)) (run : Run) → AreFree rows → AreFree now → IsFreeRun now run
     → ((at : ℕ) → IsFreeWord now at → IsFreeWord rows at) → LiesInRun rows run
 lies_in_run rows now run free free_now is were =
     let one = run_in now run free_now is in
@@ -95,7 +95,7 @@ lies_in_run rows now run free free_now is were =
 
 -- so it lies in a room
 pub run_lies : {start : Start} {fixed : Fixed} {words : List ℕ} {rows : List (List Run)} {homes : List Home}
-    {fill : ℕ} (run : Run) → IsBegun start fixed → IsFilled start fixed words rows homes fill → IsRunOf rows run
+    {fill : ℕ} (run : Run) → IsBegun start fixed → IsFilled start fixed words rows homes fill → IsFreeRun rows run
     → (room : Room) × LiesInRoom fixed room run.at run.words
 run_lies {start} {rows = rows} run begun filled is =
     let lies = lies_in_run start.rows rows run begun.apart filled.free is (λ at free. (filled.left at).1 (inl free)) in

@@ -12,7 +12,7 @@ use Rattle.scav_copy.specs.Places.{Fixed, size_of, IsInCopies}
 use Rattle.scav_copy.specs.Copies.{with_home, Copying}
 use Rattle.scav_copy.proofs.Ascending.{new_in, old_in, joined_is}
 use Rattle.scav_copy.proofs.Spots.{none_in}
-use Rattle.scavenger.specs.Starts.{Start, IsBegun, IsRunOf, room_start, room_of, room_of_run}
+use Rattle.scavenger.specs.Starts.{Start, IsBegun, IsFreeRun, room_start, room_of, room_of_run}
 use Rattle.scavenger.specs.Filling.{Tiles, none, next, IsFilled}
 use Rattle.scavenger.proofs.TargetCells.{run_ends}
 
@@ -167,7 +167,7 @@ young_within home filled there young =
 ends_by : {start : Start} {fixed : Fixed} (room : Room) (first many : ℕ) → IsBegun start fixed → room.from ≤ first
     → first + many ≤ room.to → first < eden_start start.heap.space
     → ((room ≡ room_of start.heap.space start.half)
-    ⊎ ((run : Run) × IsRunOf start.rows run × (room ≡ room_of_run start.heap.space run)))
+    ⊎ ((run : Run) × IsFreeRun start.rows run × (room ≡ room_of_run start.heap.space run)))
     → first + many ≤ eden_start start.heap.space
 ends_by {start} room first many begun from ends below (inl same) =
     let starts : room.from ≡ room_start start.heap.space start.half = ap (λ (one : Room). one.from) same in

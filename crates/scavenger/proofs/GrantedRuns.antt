@@ -12,7 +12,7 @@ use Rattle.heap_model.proofs.Patches.{row_holds}
 use Rattle.heap_model.proofs.StaysCollectable.{half_behind}
 use Rattle.write_barrier.specs.MutatorState.{AreGranted, AvoidsFree}
 use Rattle.write_barrier.proofs.FreeCells.{free_cell_by}
-use Rattle.scavenger.specs.Starts.{IsRunOf}
+use Rattle.scavenger.specs.Starts.{IsFreeRun}
 use Rattle.scavenger.proofs.PagesRuns.{whole, still_free, left_from, none_begins, first_of_run}
 use Rattle.scavenger.proofs.GrantedWords.{Granting, stood, in_page, rest, rest_after, filler_after, after_free}
 use Rattle.scavenger.proofs.GrantedCells.{granted, cell_stays, cell_from, after_stands, after_in_page}
@@ -61,7 +61,7 @@ module _ {heap : Heap} {rows left : List (List Run)} {n : ℕ} {taken : Run} (ta
       subst (AreGranted (granted granting)) (sym takes.takes.front) (λ some. fillers_stand granting)
 
   -- a free run that is left is one free cell
-  run_left : (run : Run) → IsRunOf left run → IsFreeCell (granted granting) run
+  run_left : (run : Run) → IsFreeRun left run → IsFreeCell (granted granting) run
   run_left run is = elim (left_from takes run is) [
     | inl was ↦
         let one = free was.row run was.of_rows was.among in

@@ -19,7 +19,7 @@ use Rattle.scav_copy.proofs.Spots.{cell_itself, elsewhere, slot_in_cell}
 use Rattle.scavenger.specs.Starts.{Start, IsBegun}
 use Rattle.scavenger.specs.Filling.{IsFilled}
 use Rattle.scavenger.specs.Following.{moved_words}
-use Rattle.scavenger.specs.Walking.{CopiesCell, RefersToRoom, TakesRun}
+use Rattle.scavenger.specs.Walking.{CopiesCell, RefersToRoom, CutsFreeCell}
 use Rattle.scavenger.proofs.FollowTiles.{fill_above}
 use Rattle.scavenger.proofs.FollowCopies.{cell_is_there, copy_is_there}
 use Rattle.scavenger.proofs.FollowRunWords.{TakesRoom}
@@ -164,7 +164,7 @@ records_behind {old} {new} {cell} eden to bound young cell_young copies = record
 
 -- and where it goes to a free run
 pub records_in_run : {old mid new : Mutator} {cell free : Cell} {run : Run} (eden : ℕ) → old.recorded.bound ≡ eden
-    → run.at + free.size ≤ eden → cell.size ≤ free.size → eden ≤ cell.at → TakesRun old mid cell.size run free
+    → run.at + free.size ≤ eden → cell.size ≤ free.size → eden ≤ cell.at → CutsFreeCell old mid cell.size run free
     → CopiesCell mid new cell run.at
     → Rerecords eden old.recorded.slots new.recorded.slots run.at (run.at + free.size)
 records_in_run {old} {mid} {new} {cell} {free} {run} eden bound in_page enough cell_young takes copies =

@@ -71,6 +71,7 @@ pub mod Ended
 pub mod LoopEnds
 pub mod LoopStages
 pub mod Tight
+pub mod PromotedCells
 pub mod TakenWords
 pub mod GrantedWords
 pub mod GrantedCells

@@ -80,6 +80,7 @@ ends_scavenging {start} {now} {emptied} {new} {all} {progress} limits state is_e
       seat = both.seat;
       paths = both.paths;
       bound = both.bound;
+      rows = both.rows;
       young = ap (λ (young : Young). turned young
           (progress.fill - room_start start.seat.space (other_half start.young.half))) both.young;
     })

@@ -49,6 +49,7 @@ changes_since {first} {old} {new} before now = record {
   young = now.young ∙ sym before.young;
   count = now.count ∙ sym before.count;
   bound = now.bound ∙ sym before.bound;
+  rows = now.rows ∙ sym before.rows;
 }
 
 -- no word was copied, and the list is the same

@@ -15,7 +15,7 @@ use Rattle.scav_copy.specs.Renamings.{RefersToAddress}
 use Rattle.scavenger.specs.declared.progress.Progress.{Progress}
 use Rattle.scavenger.specs.Starts.{start_of, room_start}
 use Rattle.scavenger.specs.Filling.{Front}
-use Rattle.scavenger.specs.Following.{IsLeft, IsTarget}
+use Rattle.scavenger.specs.Following.{IsFromSpace, IsTarget}
 use Rattle.scavenger.specs.Walking.{CopiesCell, HasFollowed, HasMoved, MayMove, Places, Scavenging}
 use Rattle.scavenger.proofs.CodeMoves.{copied_by, moved_by}
 use Rattle.scavenger.proofs.CodeStores.{goes_nowhere}
@@ -94,7 +94,7 @@ module _ {now : Mutator} {all : Bool} {progress : Progress} {todo : List ℕ} {a
 pub found_moves : {start now mid new : Mutator} {all : Bool} {progress after : Progress} {todo more : List ℕ}
     {front : Front} (state : Scavenging start now all progress todo front) (slot place at word to : ℕ) (found : Cell)
     → StoodAt state.fixed state.homes slot place → RefersToAddress (heap_words now.seat) slot at
-    → IsLeft now.seat.space now.young.half at → slice_get (heap_words now.seat) at ≡ Some word
+    → IsFromSpace now.seat.space now.young.half at → slice_get (heap_words now.seat) at ≡ Some word
     → reference_in word ≡ None
     → ((cell : Cell) → IsCell now.seat.space (heap_words now.seat) cell → cell.at ≡ at → found ≡ cell)
     → Places now mid all at found.size progress after to → CopiesCell mid new found to → more ≡ todo ++ to ∷ []
@@ -112,7 +112,7 @@ found_moves {start} {now} {mid} {new} {all} {progress} {after} {todo} {more} {fr
     (subst (λ (from : ℕ). Places now mid all from found.size progress after to) (sym stands) places) copies in
     let moved = moved_by state is_new copied slot place stood
     (subst (RefersToAddress (heap_words now.seat) slot) (sym stands) refers)
-    (subst (IsLeft start.seat.space start.young.half) (sym stands) (left_at_start state at left))
+    (subst (IsFromSpace start.seat.space start.young.half) (sym stands) (left_at_start state at left))
     (subst (λ (from : ℕ). reference_in (get_or (heap_words now.seat) from 0) ≡ None) (sym stands) head) in
     let After : Progress = record after { copied = after.copied + found.size } in
     subst (λ (from : ℕ). HasMoved start now new all progress After todo more front from to state) stands
@@ -123,7 +123,7 @@ found_moves {start} {now} {mid} {new} {all} {progress} {after} {todo} {more} {fr
 pub home_moves : {start now : Mutator} {all : Bool} {progress : Progress} {todo : List ℕ} {front : Front}
     (state : Scavenging start now all progress todo front) (slot place at to : ℕ)
     → StoodAt state.fixed state.homes slot place → RefersToAddress (heap_words now.seat) slot at
-    → IsLeft now.seat.space now.young.half at → RefersToAddress (heap_words now.seat) at to
+    → IsFromSpace now.seat.space now.young.half at → RefersToAddress (heap_words now.seat) at to
     → HasMoved start now now all progress progress todo todo front at to state
 home_moves {start} {now} {all} {progress} {todo} {front} state slot place at to stood refers left points =
     let Moved : Type 0 = HasMoved start now now all progress progress todo todo front at to state in
@@ -145,7 +145,7 @@ home_moves {start} {now} {all} {progress} {todo} {front} state slot place at to 
 -- a slot that refers to nothing that is left is done
 pub done_already : {start now : Mutator} {all : Bool} {progress : Progress} {todo : List ℕ} {front : Front} (slot : ℕ)
     (state : Scavenging start now all progress todo front)
-    → ((cell : ℕ) → RefersToAddress (heap_words now.seat) slot cell → IsLeft now.seat.space now.young.half cell → ⊥)
+    → ((cell : ℕ) → RefersToAddress (heap_words now.seat) slot cell → IsFromSpace now.seat.space now.young.half cell → ⊥)
     → HasFollowed start now now all progress progress todo todo front slot state
 done_already slot state none = record {
   on = goes_nowhere state;

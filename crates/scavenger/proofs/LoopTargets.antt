@@ -25,8 +25,8 @@ use Rattle.scav_copy.proofs.Spots.{live_is_there, cell_within}
 use Rattle.scavenger.specs.declared.progress.Progress.{Progress}
 use Rattle.scavenger.specs.Starts.{Start, start_of, room_start}
 use Rattle.scavenger.specs.Filling.{Front}
-use Rattle.scavenger.specs.Following.{IsFreeAt, IsLeft, IsTarget}
-use Rattle.scavenger.specs.Walking.{Places, Scavenging, StandFree, TakesRun}
+use Rattle.scavenger.specs.Following.{IsFreeAt, IsFromSpace, IsTarget}
+use Rattle.scavenger.specs.Walking.{Places, Scavenging, StandFree, CutsFreeCell}
 use Rattle.scavenger.proofs.CodeMoves.{two_halves}
 use Rattle.scavenger.proofs.CodeSegments.{room_before_marks}
 use Rattle.scavenger.proofs.FollowFilled.{IsNew, fits_behind}
@@ -118,17 +118,17 @@ module _ {start now : Mutator} {all : Bool} {progress : Progress} {todo : List �
       omega (arith, there, counted, state.filled.copying.long)
 
   -- what is left is what was to be left at the start
-  pub left_at_start : (at : ℕ) → IsLeft now.seat.space now.young.half at
-      → IsLeft start.seat.space start.young.half at
+  pub left_at_start : (at : ℕ) → IsFromSpace now.seat.space now.young.half at
+      → IsFromSpace start.seat.space start.young.half at
   left_at_start at left =
-      subst (λ (space : Space). IsLeft space start.young.half at) state.changes.seat.space
-      (subst (λ (young : Young). IsLeft now.seat.space young.half at) state.changes.young left)
+      subst (λ (space : Space). IsFromSpace space start.young.half at) state.changes.seat.space
+      (subst (λ (young : Young). IsFromSpace now.seat.space young.half at) state.changes.young left)
 
   -- a cell that is to be copied is left
-  pub cell_left : (at : ℕ) → Contains state.fixed.cells at → IsLeft now.seat.space now.young.half at
+  pub cell_left : (at : ℕ) → Contains state.fixed.cells at → IsFromSpace now.seat.space now.young.half at
   cell_left at is =
-      subst (λ (young : Young). IsLeft now.seat.space young.half at) (sym state.changes.young)
-      (subst (λ (space : Space). IsLeft space start.young.half at) (sym state.changes.seat.space)
+      subst (λ (young : Young). IsFromSpace now.seat.space young.half at) (sym state.changes.young)
+      (subst (λ (space : Space). IsFromSpace space start.young.half at) (sym state.changes.seat.space)
       (cell_is_left start.young.half at state.begun (two_halves start.young.half state.two) is))
 
   -- each free run is a free cell
@@ -143,7 +143,7 @@ module _ {start now : Mutator} {all : Bool} {progress : Progress} {todo : List �
       )
 
   module _ (slot place at : ℕ) (stood : StoodAt state.fixed state.homes slot place)
-      (refers : RefersToAddress (heap_words now.seat) slot at) (left : IsLeft now.seat.space now.young.half at) where
+      (refers : RefersToAddress (heap_words now.seat) slot at) (left : IsFromSpace now.seat.space now.young.half at) where
     -- what a live slot refers to has a target, and is one of the cells
     pub has_target : Contains state.fixed.cells at
         × IsTarget start.seat.space state.fixed (heap_words now.seat) state.homes
@@ -206,7 +206,7 @@ module _ {start now : Mutator} {all : Bool} {progress : Progress} {todo : List �
 
       -- and to the front of a free run that was taken
       copied_in_run : {mid : Mutator} (run : Run) (free : Cell) → TakesFront now.free mid.free cell.size run
-          → IsFreeAt now.seat.space (heap_words now.seat) free run.at → TakesRun now mid cell.size run free
+          → IsFreeAt now.seat.space (heap_words now.seat) free run.at → CutsFreeCell now mid cell.size run free
           → MayBeCopied mid cell run.at
       copied_in_run {mid} run free takes is_free taken =
           let words : List ℕ = heap_words now.seat in

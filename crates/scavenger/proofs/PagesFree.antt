@@ -1,6 +1,6 @@
 -- The free runs of pages while a scavenge goes on: each is one free cell, of words that a run had before.
-use Rattle.std.proofs.Common.{◌≡◌, ℕ, ◌+◌, ◌*◌, ◌/◌, ◌<◌, inl, inr, List, Contains, IsTrue}
-use Rattle.std.proofs.Common.{refl, sym, ◌∙◌, ap, subst, arith}
+use Rattle.std.proofs.Common.{◌≡◌, ℕ, ◌+◌, ◌*◌, ◌/◌, ◌<◌, inl, List, Contains, IsTrue}
+use Rattle.std.proofs.Common.{sym, ◌∙◌, ap, subst, arith}
 use Rattle.tagged_word.specs.Cells.{is_free_kind}
 use Rattle.page_space.specs.Sizes.{page_words}
 use Rattle.page_space.specs.Extents.{eden_start}
@@ -12,11 +12,11 @@ use Rattle.heap_model.specs.Types.{Cell, Run}
 use Rattle.heap_model.specs.Heaps.{HasCell}
 use Rattle.heap_model.proofs.CellsApart.{cells_apart, first_of_cell}
 use Rattle.scav_copy.specs.declared.places.Home.{Home}
-use Rattle.scav_copy.specs.Places.{Fixed, IsInRooms}
+use Rattle.scav_copy.specs.Places.{Fixed}
 use Rattle.scav_copy.proofs.Spots.{home_itself}
-use Rattle.scavenger.specs.Starts.{Start, IsBegun, IsRunOf, room_of_run}
+use Rattle.scavenger.specs.Starts.{Start, IsBegun, IsFreeRun}
 use Rattle.scavenger.specs.Filling.{IsFilled, IsOfPage, PageStands, StandsIn}
-use Rattle.scavenger.specs.Paging.{IsRunStanding, FreeRunsStand, FreeWordsAreApart}
+use Rattle.scavenger.specs.Paging.{IsRunStanding, FreeRunsStand}
 use Rattle.scavenger.proofs.TargetCells.{run_ends}
 use Rattle.scavenger.proofs.PagesRuns.{HasRun, run_of_word, first_of_run, one_run_at}
 use Rattle.scavenger.proofs.PagesWords.{page_of, ends_in}
@@ -43,7 +43,7 @@ module _ {start : Start} {fixed : Fixed} {words : List ℕ} {rows : List (List R
 
   -- a cell of before that has a free word stood where a free run began
   pub free_began : (cell : Cell) (body : List ℕ) → HasCell start.heap cell body → IsFreeWord rows cell.at
-      → (run : Run) × IsRunOf start.rows run × (run.at ≡ cell.at)
+      → (run : Run) × IsFreeRun start.rows run × (run.at ≡ cell.at)
   free_began cell body has is =
       let was = was_free cell.at is in
       let run : Run = was.run in
@@ -62,7 +62,7 @@ module _ {start : Start} {fixed : Fixed} {words : List ℕ} {rows : List (List R
       filled.apart home.to is (home, there, home_itself home begun.laid filled.copying there)
 
   -- the cell of a page that stands where a free run begins is that run
-  run_by : (run : Run) (cell : Cell) → IsRunOf rows run → cell.at ≡ run.at → IsOfPage start rows homes cell
+  run_by : (run : Run) (cell : Cell) → IsFreeRun rows run → cell.at ≡ run.at → IsOfPage start rows homes cell
       → (cell.size ≡ run.words) × IsTrue (is_free_kind cell.layout.kind)
   run_by run cell is stands (IsOfPage.stays body has none) =
       let first = first_of_run rows run filled.free is in
@@ -76,7 +76,7 @@ module _ {start : Start} {fixed : Fixed} {words : List ℕ} {rows : List (List R
       (sym size ∙ ap (λ (each : Run). each.words) (sym one), free)
 
   -- each free run is one free cell, and ends before eden
-  pub run_stands : (run : Run) → IsRunOf rows run → IsRunStanding start words run
+  pub run_stands : (run : Run) → IsFreeRun rows run → IsRunStanding start words run
   run_stands run is =
       let space = start.heap.space in
       let below = free_below run.at (first_of_run rows run filled.free is) in
@@ -96,19 +96,6 @@ module _ {start : Start} {fixed : Fixed} {words : List ℕ} {rows : List (List R
         in_page = omega (arith, ends, one.stands, by.0, page_ends space page known);
       }
 
-  -- each word of a free run is one of a room
-  free_in_room : (at : ℕ) → IsFreeWord rows at → IsInRooms fixed at
-  free_in_room at is =
-      let was = was_free at is in
-      let room = room_of_run start.heap.space was.run in
-      let here = (begun.begins.rooms room).1 (inr (was.run, was.is, refl)) in
-      (room, here, record { from = was.of_run.from; below = was.of_run.below })
-
 -- each free run is a free cell, and ends before eden
 pub free_runs_stand : FreeRunsStand
 free_runs_stand start fixed words rows homes fill run begun filled is = run_stands begun filled run is
-
--- each word of a free run is one of a room, and in no copy
-pub free_words_are_apart : FreeWordsAreApart
-free_words_are_apart start fixed words rows homes fill at begun filled is =
-    (free_in_room begun filled at is, filled.apart at is)

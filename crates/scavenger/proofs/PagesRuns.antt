@@ -15,7 +15,7 @@ use Rattle.free_runs.proofs.Pages.{page_put, row_taken}
 use Rattle.free_runs.proofs.TakenWords.{taken_are_apart}
 use Rattle.heap_model.specs.Types.{Run}
 use Rattle.scav_copy.proofs.Spots.{none_in}
-use Rattle.scavenger.specs.Starts.{IsRunOf}
+use Rattle.scavenger.specs.Starts.{IsFreeRun}
 use Rattle.scavenger.specs.Paging.{FreeIsLeft}
 
 -- each run of a row lies where the row does
@@ -63,7 +63,7 @@ pub record IsRunIn (rows : List (List Run)) (run : Run) : Type 0 where
   pub below : run.at + run.words ≤ page_words * page + page_words
 
 -- so is each run
-pub run_in : (rows : List (List Run)) (run : Run) → AreFree rows → IsRunOf rows run → IsRunIn rows run
+pub run_in : (rows : List (List Run)) (run : Run) → AreFree rows → IsFreeRun rows run → IsRunIn rows run
 run_in rows run free is =
     let page : ℕ = is.of_rows.0 in
     let there : page < length rows = is.of_rows.1 in
@@ -82,7 +82,7 @@ run_in rows run free is =
 
 -- a run of the row of a page is one of all
 pub run_of : (rows : List (List Run)) (page : ℕ) (run : Run) → page < length rows → Contains (row_of rows page) run
-    → IsRunOf rows run
+    → IsFreeRun rows run
 run_of rows page run there among = record {
   row = row_of rows page;
   of_rows = (page, there, get_or_default rows page (row_of rows page) [] there);
@@ -99,14 +99,14 @@ row_there rows page run among =
     ]
 
 -- each word of a run is free
-pub word_of_run : (rows : List (List Run)) (run : Run) (at : ℕ) → AreFree rows → IsRunOf rows run → IsOfRun run at
+pub word_of_run : (rows : List (List Run)) (run : Run) (at : ℕ) → AreFree rows → IsFreeRun rows run → IsOfRun run at
     → IsFreeWord rows at
 word_of_run rows run at free is of_run =
     let one = run_in rows run free is in
     record { page = one.page; free = record { run = run; among = one.among; of_run = of_run } }
 
 -- the first one is
-pub first_of_run : (rows : List (List Run)) (run : Run) → AreFree rows → IsRunOf rows run → IsFreeWord rows run.at
+pub first_of_run : (rows : List (List Run)) (run : Run) → AreFree rows → IsFreeRun rows run → IsFreeWord rows run.at
 first_of_run rows run free is =
     let one = run_in rows run free is in
     word_of_run rows run run.at free is (record { from = omega arith; below = omega (arith, one.some) })
@@ -114,7 +114,7 @@ first_of_run rows run free is =
 -- the run that a free word is of
 pub record HasRun (rows : List (List Run)) (at : ℕ) : Type 0 where
   pub run : Run
-  pub is : IsRunOf rows run
+  pub is : IsFreeRun rows run
   pub of_run : IsOfRun run at
 
 -- each free word is one of a run
@@ -126,8 +126,8 @@ run_of_word rows at is = record {
 }
 
 -- two runs that share a word are one
-pub one_run : (rows : List (List Run)) (run other : Run) (at : ℕ) → AreFree rows → IsRunOf rows run
-    → IsRunOf rows other → IsOfRun run at → IsOfRun other at → run ≡ other
+pub one_run : (rows : List (List Run)) (run other : Run) (at : ℕ) → AreFree rows → IsFreeRun rows run
+    → IsFreeRun rows other → IsOfRun run at → IsOfRun other at → run ≡ other
 one_run rows run other at free is is_other of_run of_other =
     let one = run_in rows run free is in
     let two = run_in rows other free is_other in
@@ -148,7 +148,7 @@ one_run rows run other at free is is_other of_run of_other =
     (free one.page one.there) one.among among of_run of_other
 
 -- so are two that begin at one address
-pub one_run_at : (rows : List (List Run)) (run other : Run) → AreFree rows → IsRunOf rows run → IsRunOf rows other
+pub one_run_at : (rows : List (List Run)) (run other : Run) → AreFree rows → IsFreeRun rows run → IsFreeRun rows other
     → run.at ≡ other.at → run ≡ other
 one_run_at rows run other free is is_other same =
     let one = run_in rows run free is in
@@ -178,7 +178,7 @@ module _ {rows left : List (List Run)} {n : ℕ} {taken : Run} (takes : TakesFro
   as_many = ap (λ (all : List (List Run)). length all) takes.others ∙ length-set rows takes.page takes.row
 
   -- it is a run, and begins where what is taken does
-  pub whole_is : IsRunOf rows whole
+  pub whole_is : IsFreeRun rows whole
   whole_is =
       run_of rows takes.page whole takes.there
       (subst (λ (row : List Run). Contains row whole) (sym takes.takes.stood)
@@ -194,7 +194,7 @@ module _ {rows left : List (List Run)} {n : ℕ} {taken : Run} (takes : TakesFro
   taken_words = ap (λ (run : Run). run.words) takes.takes.front
 
   -- A run of before that begins elsewhere stays.
-  pub others_stay : (other : Run) → IsRunOf rows other → AreFree rows → other.at ≢ whole.at → IsRunOf left other
+  pub others_stay : (other : Run) → IsFreeRun rows other → AreFree rows → other.at ≢ whole.at → IsFreeRun left other
   others_stay other is free apart =
       let one = run_in rows other free is in
       let there : one.page < length left = omega (arith, one.there, as_many) in
@@ -226,7 +226,7 @@ module _ {rows left : List (List Run)} {n : ℕ} {taken : Run} (takes : TakesFro
   rest_of = record { at = whole.at + n; words = whole.words - n }
 
   -- it is a run then
-  pub rest_stays : n < whole.words → IsRunOf left rest_of
+  pub rest_stays : n < whole.words → IsFreeRun left rest_of
   rest_stays more =
       elim (left_is whole n takes.takes.enough) [
         | inl none ↦ absurd (omega (arith, more, none.0))
@@ -240,8 +240,8 @@ module _ {rows left : List (List Run)} {n : ℕ} {taken : Run} (takes : TakesFro
       ]
 
   -- A run of afterwards was one before, or is what is left of that one.
-  pub left_from : (other : Run) → IsRunOf left other
-      → IsRunOf rows other ⊎ ((n < whole.words) × (rest_of ≡ other))
+  pub left_from : (other : Run) → IsFreeRun left other
+      → IsFreeRun rows other ⊎ ((n < whole.words) × (rest_of ≡ other))
   left_from other is =
       let page : ℕ = is.of_rows.0 in
       let there : page < length left = is.of_rows.1 in
@@ -256,7 +256,7 @@ module _ {rows left : List (List Run)} {n : ℕ} {taken : Run} (takes : TakesFro
             let stands : Contains (takes.takes.before ++ (left_of whole n ++ takes.takes.behind)) other =
             subst (λ (row : List Run). Contains row other) row_after
             (subst (λ (one : ℕ). Contains (row_of left one) other) here among) in
-            let was : Contains (takes.takes.before ++ whole ∷ takes.takes.behind) other → IsRunOf rows other =
+            let was : Contains (takes.takes.before ++ whole ∷ takes.takes.behind) other → IsFreeRun rows other =
             λ stood. run_of rows takes.page other takes.there
             (subst (λ (row : List Run). Contains row other) (sym takes.takes.stood) stood) in
             elim (Contains-append_cases takes.takes.before (left_of whole n ++ takes.takes.behind) other stands) [
@@ -283,7 +283,7 @@ module _ {rows left : List (List Run)} {n : ℕ} {taken : Run} (takes : TakesFro
       (row_taken takes.page n (row_of rows takes.page) takes.row taken (free takes.page takes.there) some takes.takes))
 
   -- no run begins where the taken words do
-  pub none_begins : (other : Run) → 1 ≤ n → AreFree rows → IsRunOf left other → other.at ≢ whole.at
+  pub none_begins : (other : Run) → 1 ≤ n → AreFree rows → IsFreeRun left other → other.at ≢ whole.at
   none_begins other some free is same =
       taken_are_apart rows left n taken other.at free takes
       (record { from = omega (arith, same, taken_at); below = omega (arith, same, taken_at, taken_words, some) })

@@ -17,7 +17,7 @@ use Rattle.heap_model.proofs.CellsApart.{one_at}
 use Rattle.scav_copy.specs.declared.places.Home.{Home}
 use Rattle.scav_copy.specs.Places.{Fixed, size_of, offsets_of, StoodAt}
 use Rattle.scav_copy.proofs.Spots.{none_in, copy_in_room, slot_in_cell, within_by}
-use Rattle.scavenger.specs.Starts.{Start, IsBegun, IsRootAt, IsRunOf}
+use Rattle.scavenger.specs.Starts.{Start, IsBegun, IsRootAt, IsFreeRun}
 use Rattle.scavenger.specs.Filling.{IsFilled, IsInPage, PageStands, StandsIn}
 use Rattle.scavenger.specs.Paging.{PagesStayForSlots}
 use Rattle.scavenger.proofs.TargetCells.{in_segment_or_page}
@@ -132,7 +132,7 @@ module _ {start : Start} {fixed : Fixed} {words : List ℕ} {rows : List (List R
   put_recorded slot word page known is =
       let own : ℕ = is.cell.at / page_words in
       let own_known : own < start.heap.space.sizes.pages = omega (arith, is.of_page) in
-      let not_free : (run : Run) → IsRunOf start.rows run → run.at ≡ is.cell.at → ⊥ = λ run of_rows same.
+      let not_free : (run : Run) → IsFreeRun start.rows run → run.at ≡ is.cell.at → ⊥ = λ run of_rows same.
       let free = begun.free of_rows.row run of_rows.of_rows of_rows.among in
       let one : free.cell ≡ is.cell = one_at free.has is.has (omega (arith, free.stands, same)) in
       let slots = free_slots free.cell.layout.kind free.cell.layout free.cell.length free.free in

@@ -17,7 +17,7 @@ use Rattle.scav_copy.specs.declared.places.Home.{Home}
 use Rattle.scav_copy.specs.Places.{Fixed}
 use Rattle.scav_copy.specs.Copies.{with_home}
 use Rattle.scav_copy.proofs.Ascending.{new_in, joined_is}
-use Rattle.scavenger.specs.Starts.{Start, IsRunOf}
+use Rattle.scavenger.specs.Starts.{Start, IsFreeRun}
 use Rattle.scavenger.specs.Filling.{IsOfPage, IsInPage, PageStands, StandsIn}
 use Rattle.scavenger.specs.Paging.{PagesTakeCopies}
 use Rattle.scavenger.proofs.PagesRuns.{whole, whole_is, rest_of, rest_stays, left_from, none_begins}
@@ -142,7 +142,7 @@ module _ {start : Start} {fixed : Fixed} {words : List ℕ} {rows left : List (L
 
   -- a cell that stays does not stand where a free run did
   not_the_run : (one : Cell) (were : List ℕ) → HasCell start.heap one were
-      → ((other : Run) → IsRunOf start.rows other → other.at ≡ one.at → ⊥) → one.at ≢ run.at
+      → ((other : Run) → IsFreeRun start.rows other → other.at ≡ one.at → ⊥) → one.at ≢ run.at
   not_the_run one were has none same =
       let they = they_stand taking in
       let free_word = subst (IsFreeWord rows) (sym (same ∙ they.at)) (run_is_free taking) in
@@ -171,7 +171,7 @@ module _ {start : Start} {fixed : Fixed} {words : List ℕ} {rows left : List (L
   ]
 
   -- and so does each free run
-  runs_stand : (other : Run) → IsRunOf left other → IsInPage (own taking) other.at → StandsIn after other.at
+  runs_stand : (other : Run) → IsFreeRun left other → IsInPage (own taking) other.at → StandsIn after other.at
   runs_stand other is here =
       let they = they_stand taking in
       elim (left_from taking.takes other is) [

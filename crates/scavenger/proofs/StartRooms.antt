@@ -21,7 +21,7 @@ use Rattle.heap_model.proofs.RememberedSlots.{ends_in_page, slot_of_cell}
 use Rattle.scav_copy.specs.declared.places.Room.{Room}
 use Rattle.scav_copy.specs.Places.{Fixed, IsInRoom, IsInRooms}
 use Rattle.scav_copy.proofs.Spots.{none_in}
-use Rattle.scavenger.specs.Starts.{Start, Begins, IsRunOf, room_of, room_of_run, room_start}
+use Rattle.scavenger.specs.Starts.{Start, Begins, IsFreeRun, room_of, room_of_run, room_start}
 use Rattle.scavenger.proofs.PagesRuns.{HasRun, one_run}
 use Rattle.scavenger.proofs.PagesSlots.{free_slots}
 
@@ -84,11 +84,11 @@ in_run space run room at same inside =
 
 module _ {start : Start} {fixed : Fixed} (ready : IsReady start fixed) where
   -- each free run is a free cell
-  pub run_is_free : {run : Run} → IsRunOf start.rows run → IsFreeCell start.heap run
+  pub run_is_free : {run : Run} → IsFreeRun start.rows run → IsFreeCell start.heap run
   run_is_free {run} is = ready.free is.row run is.of_rows is.among
 
   -- no word of a free run is one of the segment
-  run_not_in_segment : {run : Run} {at : ℕ} → IsRunOf start.rows run → IsOfRun run at
+  run_not_in_segment : {run : Run} {at : ℕ} → IsFreeRun start.rows run → IsOfRun run at
       → ContainsAddress (segment_of start) at → ⊥
   run_not_in_segment is of_run in_one = omega (arith, run_in_page (run_is_free is), of_run.below, in_one.from)
 

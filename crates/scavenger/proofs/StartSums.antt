@@ -96,10 +96,11 @@ if_young_words heap row Eden ends full = omega (arith, full)
 if_young_words heap row (Segment half worker) ends full = omega (arith, full)
 if_young_words heap row _ ends full = absurd ends
 
--- the survivors' words of a row, and its used ones
+-- how many of a row's words are survivors'
 abbrev survivors_by : Row → ℕ
 survivors_by row = survivors_in row row.extent.region
 
+-- how many of a row's words are used ones of eden, where eden has so many
 abbrev used_by : ℕ → Row → ℕ
 used_by used row = used_in used row.extent.region
 

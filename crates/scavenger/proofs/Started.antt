@@ -21,7 +21,7 @@ use Rattle.heap_model.proofs.CellsApart.{has_is_cell, ends_within, used_few}
 use Rattle.scav_copy.specs.declared.places.Room.{Room}
 use Rattle.scav_copy.specs.Places.{Fixed, size_of, offsets_of}
 use Rattle.scav_copy.specs.Renamings.{RefersToAddress}
-use Rattle.scavenger.specs.Starts.{Start, Begins, IsBegun, IsSlotPlace, IsYoungCell, IsRootAt, IsRunOf, room_of}
+use Rattle.scavenger.specs.Starts.{Start, Begins, IsBegun, IsSlotPlace, IsYoungCell, IsRootAt, IsFreeRun, room_of}
 use Rattle.scavenger.specs.Starts.{room_of_run, start_of}
 use Rattle.scavenger.specs.Laws.{ShownHeapsMayBegin}
 use Rattle.scavenger.proofs.StartReadings.{low_within, size_is, offsets_are}
@@ -103,7 +103,7 @@ slots_are start rows at =
 
 -- a free run as a room is one of those of all rows
 run_rooms_are : (space : Space) (rows : List (List Run)) (room : Room) → Contains (run_rooms space rows) room
-    ↔ ((run : Run) × IsRunOf rows run × (room ≡ room_of_run space run))
+    ↔ ((run : Run) × IsFreeRun rows run × (room ≡ room_of_run space run))
 run_rooms_are space rows room =
     let of_row : List Run → List Room = map (room_of_run space) in (
       λ among.
@@ -120,7 +120,7 @@ run_rooms_are space rows room =
 -- its rooms are the segment and the free runs
 rooms_are : (start : Start) (rows : HasRows start.heap) (room : Room) → Contains (fixed_of start rows).rooms room
     ↔ ((room ≡ room_of start.heap.space start.half)
-    ⊎ ((run : Run) × IsRunOf start.rows run × (room ≡ room_of_run start.heap.space run)))
+    ⊎ ((run : Run) × IsFreeRun start.rows run × (room ≡ room_of_run start.heap.space run)))
 rooms_are start rows room =
     let space : Space = start.heap.space in
     let own : Room = room_of space start.half in

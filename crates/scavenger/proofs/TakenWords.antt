@@ -1,19 +1,12 @@
 -- A scavenge takes words of free runs for cells that it promotes, and throws none away.
-use Rattle.std.proofs.Common.{◌≡◌, ℕ, ◌+◌, ◌<◌, ◌≤◌, inl, inr, Bool, List, Contains, Option, Some, None, slice_get}
-use Rattle.std.proofs.Common.{refl, sym, ◌∙◌, ap, subst, arith}
+use Rattle.std.proofs.Common.{◌≡◌, ℕ, ◌+◌, ◌<◌, ◌≤◌, inl, inr, Bool, Contains, Some, slice_get}
+use Rattle.std.proofs.Common.{sym, ◌∙◌, ap, subst, arith}
+use Rattle.std.proofs.lemmas.Bool.{cases_Bool}
 use Rattle.std.proofs.lemmas.Option.{slice_get-get_or}
-use Rattle.tagged_word.specs.declared.reading.Reading.{Reading}
-use Rattle.tagged_word.specs.Cells.{ReadsAs}
-use Rattle.tagged_word.specs.Readings.{read_cell}
-use Rattle.tagged_word.proofs.Cells.{same_reading}
-use Rattle.tagged_word.proofs.CellReadings.{cell_from}
 use Rattle.page_space.specs.Extents.{Space, eden_start, marks_start}
 use Rattle.page_space.proofs.Starts.{layouts_start_is, marks_start_is}
-use Rattle.cell_layout.specs.Cells.{reading_of}
 use Rattle.cell_layout.proofs.OneCell.{slots_lie_within}
 use Rattle.handle_roots.specs.Roots.{root_at}
-use Rattle.heap_model.specs.Types.{Cell}
-use Rattle.heap_model.specs.Heaps.{HasCell}
 use Rattle.heap_model.specs.Slots.{reference_word}
 use Rattle.heap_model.specs.Wholeness.{HasSizes}
 use Rattle.heap_model.specs.Remembered.{AreRemembered}
@@ -22,41 +15,22 @@ use Rattle.heap_model.proofs.CellsApart.{has_is_cell}
 use Rattle.heap_model.proofs.CellWords.{word_there}
 use Rattle.write_barrier.specs.MutatorState.{Mutator, heap_of, MainShows}
 use Rattle.object_graph.specs.Graphs.{Graph}
-use Rattle.scav_copy.specs.Places.{Fixed, last_address, cell_before, words_in, size_of, offsets_of}
+use Rattle.scav_copy.specs.Places.{Fixed, offsets_of}
 use Rattle.scav_copy.specs.Renamings.{IsReachable, RefersToAddress}
 use Rattle.scav_copy.proofs.Spots.{reached_is}
 use Rattle.scavenger.specs.Starts.{Start, Begins, IsYoungCell, IsRootAt, start_of}
 use Rattle.scavenger.specs.Filling.{IsInPromoted}
 use Rattle.scavenger.specs.Walking.{IsToPromote}
-use Rattle.scavenger.specs.Scavenged.{Scavenges, place_after}
-use Rattle.scavenger.specs.Laws.{IsOfPromoted, ScavengesTakeWords}
-use Rattle.scavenger.proofs.EndPlaces.{goes_home, home_found}
+use Rattle.scavenger.specs.Scavenged.{Scavenges, begins_free, place_after}
+use Rattle.scavenger.specs.Laws.{IsOfPromoted, KeepsPlaces, ScavengesTakeWords}
+use Rattle.scavenger.proofs.EndPlaces.{stays_in_page}
+use Rattle.scavenger.proofs.EndRuns.{found_run}
 use Rattle.scavenger.proofs.EndSlots.{word_found}
+use Rattle.scavenger.proofs.PromotedCells.{copy_at, promotes_what_fits, promotes_no_other}
 use Rattle.scavenger.proofs.Tight.{own_slot, refers_by, word_refers}
-
--- the size of a cell that is read is no more than that of the only reading
-size_by_reading : (words layouts : List ℕ) (at bound : ℕ) (cell : Option Reading) (reading : Reading)
-    → read_cell words layouts at last_address ≡ cell → ReadsAs words layouts at bound reading
-    → words_in cell ≤ reading.size
-size_by_reading words layouts at bound None reading is reads = omega arith
-size_by_reading words layouts at bound (Some other) reading is reads =
-    let same : other ≡ reading = same_reading (cell_from words layouts at last_address other is) reads in
-    subst (λ (one : Reading). words_in (Some other) ≤ one.size) same (omega arith)
 
 module _ {start : Start} {fixed : Fixed} (sized : HasSizes start.heap)
     (remembered : AreRemembered start.heap start.recorded) (begins : Begins start fixed) where
-  -- the cell that was read at an address has no more words than the cell there
-  own_size : {cell : Cell} {body : List ℕ} → HasCell start.heap cell body → size_of fixed cell.at ≤ cell.size
-  unfolding cell_before
-  own_size {cell} has =
-      let is_cell = has_is_cell has in
-      let Reads : List ℕ → List ℕ → Type 0 = λ words layouts.
-      ReadsAs words layouts cell.at is_cell.end (reading_of cell) in
-      let reads : Reads fixed.before fixed.layouts =
-      subst (λ words. Reads words fixed.layouts) (sym begins.before)
-      (subst (λ layouts. Reads start.heap.words layouts) (sym begins.layouts) is_cell.reads) in
-      size_by_reading fixed.before fixed.layouts cell.at is_cell.end _ (reading_of cell) refl reads
-
   -- what a variable referred to was reached
   variable_reached : (slot at : ℕ) → IsRootAt start.heap.space slot → RefersToAddress fixed.before slot at
       → IsReached start.heap at
@@ -108,19 +82,8 @@ of_promoted : (old new : Mutator) (graph : Graph) (all : Bool) (at : ℕ) → Ma
     → (scavenged : Scavenges old new all) → IsInPromoted (start_of old) scavenged.fixed scavenged.homes at
     → IsOfPromoted (heap_of old) (heap_of new) all (place_after (start_of old) scavenged.homes) at
 of_promoted old new graph all at shows scavenged (home, among, in_page, in_copy) =
-    let start : Start = start_of old in
-    let fixed : Fixed = scavenged.fixed in
-    let begins = scavenged.begins in
-    let reached = (scavenged.renaming.survivors home.from).0 (home, among, refl) in
-    let is : IsYoungCell start.heap home.from = (begins.cells home.from).0 (reached_is fixed home.from reached) in
-    let came : place_after start scavenged.homes is.cell.at ≡ Some home.to =
-    ap (place_after start scavenged.homes) is.stands
-    ∙ goes_home start scavenged.homes home.from is.young
-    ∙ home_found scavenged.homes home scavenged.renaming.one_each among in
-    let stands = scavenged.moved.stands is.cell is.words home.to is.has came in
-    let size : size_of fixed home.from ≤ is.cell.size =
-    subst (λ n. size_of fixed n ≤ is.cell.size) is.stands
-    (own_size shows.shows.whole.sized shows.remembered begins is.has) in
+    let copy = copy_at scavenged home among in
+    let is = copy.is in
     record {
       cell = is.cell;
       words = is.words;
@@ -128,27 +91,43 @@ of_promoted old new graph all at shows scavenged (home, among, in_page, in_copy)
       young = subst (λ n. eden_start old.seat.space ≤ n) (sym is.stands) is.young;
       reached =
           subst (IsReached (heap_of old)) (sym is.stands)
-          (was_reached shows.shows.whole.sized shows.remembered begins home.from reached);
+          (was_reached shows.shows.whole.sized shows.remembered scavenged.begins home.from copy.reached);
       to_promote = subst (λ n. IsToPromote old.seat.space all n) (sym is.stands) (scavenged.stays home among in_page);
       now = home.to;
-      came = came;
-      others = stands.others;
-      has = stands.has;
+      came = copy.came;
+      others = copy.stands.others;
+      has = copy.stands.has;
       of_page = subst (λ space. home.to < eden_start space) (sym scavenged.moved.space) in_page;
       from = in_copy.from;
-      below = omega (arith, in_copy.below, size);
+      below = omega (arith, in_copy.below, copy.size);
     }
 
--- a scavenge takes words of free runs for cells that it promotes alone
+-- each cell of a page stays where it stands, unless a free run begins there
+keeps_places : {old new : Mutator} {all : Bool} (scavenged : Scavenges old new all)
+    → KeepsPlaces (heap_of old) old.free (place_after (start_of old) scavenged.homes)
+keeps_places {old} scavenged cell words has below none =
+    elim (cases_Bool (begins_free old.free cell.at)) [
+      | inl found ↦
+          let one = found_run old.free cell.at found in
+          absurd (none one.is.row one.run one.is.of_rows one.is.among one.stands)
+      | inr free ↦ stays_in_page (start_of old) scavenged.homes cell.at below free
+    ]
+
+-- a scavenge takes words of free runs for cells that it promotes alone, promotes just what fits, and leaves cells of
+-- pages in their places
 pub scavenges_take_words : ScavengesTakeWords
-scavenges_take_words old new graph all shows scavenged =
-    record {
-      to = place_after (start_of old) scavenged.homes;
-      moved = scavenged.moved;
-      taken = λ at was.
-          elim ((scavenged.left at).0 was) [
-            | inl is_free ↦ inl is_free
-            | inr inside ↦ inr (of_promoted old new graph all at shows scavenged inside)
-          ];
-      no_other = λ at is_free. (scavenged.left at).1 (inl is_free);
-    }
+scavenges_take_words old new graph all shows scavenged = (
+  record {
+    to = place_after (start_of old) scavenged.homes;
+    moved = scavenged.moved;
+    taken = λ at was.
+        elim ((scavenged.left at).0 was) [
+          | inl is_free ↦ inl is_free
+          | inr inside ↦ inr (of_promoted old new graph all at shows scavenged inside)
+        ];
+    no_other = λ at is_free. (scavenged.left at).1 (inl is_free);
+  },
+  promotes_what_fits scavenged,
+  promotes_no_other scavenged,
+  keeps_places scavenged,
+)

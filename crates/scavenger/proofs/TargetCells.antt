@@ -19,7 +19,7 @@ use Rattle.scav_copy.specs.declared.places.Home.{Home}
 use Rattle.scav_copy.specs.declared.places.Room.{Room}
 use Rattle.scav_copy.specs.Places.{Fixed, last_address, cell_before, words_in, size_of, IsInCells, IsInRoom, IsInRooms}
 use Rattle.scav_copy.specs.Copies.{Copying}
-use Rattle.scavenger.specs.Starts.{Start, IsBegun, IsYoungCell, IsRootAt, IsRunOf, room_start, room_of, room_of_run}
+use Rattle.scavenger.specs.Starts.{Start, IsBegun, IsYoungCell, IsRootAt, IsFreeRun, room_start, room_of, room_of_run}
 use Rattle.scavenger.proofs.StartReadings.{low_sized, cell_before_is}
 use Rattle.scavenger.proofs.TargetNumbers.{room_below_roots}
 
@@ -75,7 +75,7 @@ layout_is_no_slot {start} shape begun there =
     layout_by shape begun ((begun.begins.slots (layouts_start start.heap.space + shape)).0 there)
 
 -- a free run that a scavenge begins with ends before eden
-pub run_ends : {start : Start} {fixed : Fixed} (run : Run) → IsBegun start fixed → IsRunOf start.rows run
+pub run_ends : {start : Start} {fixed : Fixed} (run : Run) → IsBegun start fixed → IsFreeRun start.rows run
     → run.at + run.words ≤ eden_start start.heap.space
 run_ends run begun is =
     let free = begun.free is.row run is.of_rows is.among in
@@ -90,7 +90,7 @@ pub record IsInSegment (start : Start) (at : ℕ) : Type 0 where
 -- a word of a room is one of that segment, or of a page
 room_by : {start : Start} {fixed : Fixed} (room : Room) (at : ℕ) → IsBegun start fixed → IsInRoom room at
     → ((room ≡ room_of start.heap.space start.half)
-    ⊎ ((run : Run) × IsRunOf start.rows run × (room ≡ room_of_run start.heap.space run)))
+    ⊎ ((run : Run) × IsFreeRun start.rows run × (room ≡ room_of_run start.heap.space run)))
     → IsInSegment start at ⊎ (at < eden_start start.heap.space)
 room_by {start} room at begun inside (inl same) =
     let from : room.from ≡ room_start start.heap.space start.half = ap (λ (one : Room). one.from) same in

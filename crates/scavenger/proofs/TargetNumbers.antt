@@ -4,7 +4,7 @@ use Rattle.std.proofs.lemmas.Bool.{cases_lt}
 use Rattle.page_space.specs.Extents.{Space, eden_start, roots_start}
 use Rattle.page_space.proofs.LawsHold.{kinds_by_number}
 use Rattle.scavenger.specs.Starts.{room_start}
-use Rattle.scavenger.specs.Following.{half_start, half_end, IsLeft}
+use Rattle.scavenger.specs.Following.{half_start, half_end, IsFromSpace}
 
 -- the last segment of the first half ends where the second half begins
 first_room : (young helpers half left : ℕ) → half ≡ 0 → left ≡ 1
@@ -40,7 +40,7 @@ room_beside space half left both = elim (which_half half left both) [
 
 -- no address of the room is left
 pub room_is_not_left : (space : Space) (half left at : ℕ) → half + left ≡ 1 → room_start space half ≤ at
-    → at < room_start space half + space.sizes.young → IsLeft space left at → ⊥
+    → at < room_start space half + space.sizes.young → IsFromSpace space left at → ⊥
 room_is_not_left space half left at both from below (inl eden) = omega (arith, from, eden.1)
 room_is_not_left space half left at both from below (inr in_half) = elim (room_beside space half left both) [
   | inl before ↦ omega (arith, before, below, in_half.0)
@@ -48,7 +48,7 @@ room_is_not_left space half left at both from below (inr in_half) = elim (room_b
 ]
 
 -- what is left is not in a page
-pub left_is_young : (space : Space) (left at : ℕ) → IsLeft space left at → eden_start space ≤ at
+pub left_is_young : (space : Space) (left at : ℕ) → IsFromSpace space left at → eden_start space ≤ at
 left_is_young space left at (inl eden) = eden.0
 left_is_young space left at (inr in_half) = omega (arith, in_half.0)
 

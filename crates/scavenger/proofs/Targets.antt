@@ -15,7 +15,7 @@ use Rattle.scav_copy.proofs.Spots.{home_fits, home_itself, copy_in_room, from_is
 use Rattle.scav_copy.proofs.Continuing.{slots_are_followed}
 use Rattle.scavenger.specs.Starts.{Start, IsBegun, IsSlotPlace, room_start}
 use Rattle.scavenger.specs.Filling.{IsFilled}
-use Rattle.scavenger.specs.Following.{IsLeft, IsTarget, SlotsHaveTargets}
+use Rattle.scavenger.specs.Following.{IsFromSpace, IsTarget, SlotsHaveTargets}
 use Rattle.scavenger.proofs.Sums.{room_for_one}
 use Rattle.scavenger.proofs.TargetNumbers.{room_is_not_left, left_is_young}
 use Rattle.scavenger.proofs.TargetCells.{IsInSegment, in_segment_or_page, young_size, young_is_cell}
@@ -29,7 +29,7 @@ live_has_place slot place copying (StoodAt.in_cell home offset there is e f) =
 
 -- a word of the room, or of a page, is not left
 room_not_left : {start : Start} (left at : ℕ) → start.half + left ≡ 1
-    → IsInSegment start at ⊎ (at < eden_start start.heap.space) → IsLeft start.heap.space left at → ⊥
+    → IsInSegment start at ⊎ (at < eden_start start.heap.space) → IsFromSpace start.heap.space left at → ⊥
 room_not_left {start} left at both (inl segment) is_left =
     room_is_not_left start.heap.space start.half left at both segment.from segment.below is_left
 room_not_left {start} left at both (inr below) is_left =
@@ -38,7 +38,7 @@ room_not_left {start} left at both (inr below) is_left =
 -- a home is not left
 pub home_is_not_left : {start : Start} {fixed : Fixed} {words : List ℕ} {homes : List Home} (left : ℕ)
     (home : Home) → IsBegun start fixed → start.half + left ≡ 1 → Copying fixed words homes → Contains homes home
-    → IsLeft start.heap.space left home.to → ⊥
+    → IsFromSpace start.heap.space left home.to → ⊥
 home_is_not_left left home begun both copying there =
     room_not_left left home.to both (in_segment_or_page home.to begun
     (copy_in_room home home.to copying there (home_itself home begun.laid copying there)))
@@ -46,19 +46,19 @@ home_is_not_left left home begun both copying there =
 -- a word that refers to what is left was not renamed
 kept_where_left : {start : Start} {fixed : Fixed} {words : List ℕ} {homes : List Home} {old new : ℕ}
     (left at : ℕ) → IsBegun start fixed → start.half + left ≡ 1 → Copying fixed words homes
-    → reference_in new ≡ Some at → IsLeft start.heap.space left at → IsKeptOrRenamed homes old new → new ≡ old
+    → reference_in new ≡ Some at → IsFromSpace start.heap.space left at → IsKeptOrRenamed homes old new → new ≡ old
 kept_where_left left at begun both copying refers is_left (IsKeptOrRenamed.kept same) = same
 kept_where_left {start} {new = new} left at begun both copying refers is_left
     (IsKeptOrRenamed.renamed home there was is) =
     let same : home.to ≡ at =
     some_same (reference_to new home.to (home_fits home begun.laid copying there) is) refers in
     absurd (home_is_not_left left home begun both copying there
-    (subst (IsLeft start.heap.space left) (sym same) is_left))
+    (subst (IsFromSpace start.heap.space left) (sym same) is_left))
 
 -- what a live slot refers to, where that is left, its place referred to before
 pub referred_before : {start : Start} {fixed : Fixed} {words : List ℕ} {homes : List Home}
     (left slot place at : ℕ) → IsBegun start fixed → start.half + left ≡ 1 → Copying fixed words homes
-    → StoodAt fixed homes slot place → RefersToAddress words slot at → IsLeft start.heap.space left at
+    → StoodAt fixed homes slot place → RefersToAddress words slot at → IsFromSpace start.heap.space left at
     → RefersToAddress fixed.before place at
 referred_before left slot place at begun both copying stood refers is_left =
     let same = kept_where_left left at begun both copying refers is_left (copying.live slot place stood) in
@@ -67,7 +67,7 @@ referred_before left slot place at begun both copying stood refers is_left =
 -- so it is one of the cells
 pub left_is_cell : {start : Start} {fixed : Fixed} {words : List ℕ} {homes : List Home}
     (left slot place at : ℕ) → IsBegun start fixed → start.half + left ≡ 1 → Copying fixed words homes
-    → StoodAt fixed homes slot place → RefersToAddress words slot at → IsLeft start.heap.space left at
+    → StoodAt fixed homes slot place → RefersToAddress words slot at → IsFromSpace start.heap.space left at
     → Contains fixed.cells at
 left_is_cell {start} left slot place at begun both copying stood refers is_left =
     begun.targets place at (live_has_place slot place copying stood)

@@ -17,7 +17,7 @@ use Rattle.scav_copy.specs.declared.places.Home.{Home}
 use Rattle.scav_copy.specs.Places.{Fixed, size_of, IsInCopy, IsInCopies, StoodAt}
 use Rattle.scav_copy.specs.Renamings.{RefersToAddress}
 use Rattle.scav_copy.specs.Copies.{Copying}
-use Rattle.scavenger.specs.Starts.{Start, IsRunOf, room_start}
+use Rattle.scavenger.specs.Starts.{Start, IsFreeRun, room_start}
 
 -- the copies stand one behind another from an address to another, in this order
 pub data Tiles (fixed : Fixed) : ℕ → ℕ → List Home → Type 0 where
@@ -29,9 +29,9 @@ pub data Tiles (fixed : Fixed) : ℕ → ℕ → List Home → Type 0 where
 -- what a free run is now.
 pub data IsOfPage (start : Start) (rows : List (List Run)) (homes : List Home) (cell : Cell) : Type 0 where
   stays : (words : List ℕ) → HasCell start.heap cell words
-      → ((run : Run) → IsRunOf start.rows run → run.at ≡ cell.at → ⊥) → IsOfPage start rows homes cell
+      → ((run : Run) → IsFreeRun start.rows run → run.at ≡ cell.at → ⊥) → IsOfPage start rows homes cell
   copy : (home : Home) → Contains homes home → home.to ≡ cell.at → IsOfPage start rows homes cell
-  free : (run : Run) → IsRunOf rows run → run.at ≡ cell.at → run.words ≡ cell.size
+  free : (run : Run) → IsFreeRun rows run → run.at ≡ cell.at → run.words ≡ cell.size
       → IsTrue (is_free_kind cell.layout.kind) → HasNoNumber cell → IsOfPage start rows homes cell
 
 -- the address is one of the page's
@@ -52,9 +52,9 @@ pub record PageStands (start : Start) (words : List ℕ) (rows : List (List Run)
   pub row : IsRow start.heap.space words (page_words * page) (page_words * page + page_words) cells
   pub each : (cell : Cell) → Contains cells cell → IsOfPage start rows homes cell
   pub stay : (cell : Cell) (were : List ℕ) → HasCell start.heap cell were → IsInPage page cell.at
-      → ((run : Run) → IsRunOf start.rows run → run.at ≡ cell.at → ⊥) → Contains cells cell
+      → ((run : Run) → IsFreeRun start.rows run → run.at ≡ cell.at → ⊥) → Contains cells cell
   pub copies : (home : Home) → Contains homes home → IsInPage page home.to → StandsIn cells home.to
-  pub runs : (run : Run) → IsRunOf rows run → IsInPage page run.at → StandsIn cells run.at
+  pub runs : (run : Run) → IsFreeRun rows run → IsInPage page run.at → StandsIn cells run.at
 
 -- all pages
 abbrev pub PagesStand : Start → List ℕ → List (List Run) → List Home → Type 0
@@ -113,13 +113,15 @@ AllAreDone fixed words homes =
     (slot place cell : ℕ) → StoodAt fixed homes slot place → RefersToAddress words slot cell
     → Contains fixed.cells cell → ⊥
 
--- of all that the mutator has only heap words, free runs and what is recorded are others
+-- of all that the mutator has only heap words, free runs and what is recorded are others; as many pages have a row of
+-- free runs
 pub record ChangesWords (old new : Mutator) : Type 0 where
   pub seat : RestStays old.seat new.seat
   pub paths : new.paths ≡ old.paths
   pub young : new.young ≡ old.young
   pub count : length (heap_words new.seat) ≡ length (heap_words old.seat)
   pub bound : new.recorded.bound ≡ old.recorded.bound
+  pub rows : length new.free ≡ length old.free
 
 -- the address is the first one of a segment of this half
 abbrev pub IsSegmentStart : Space → ℕ → ℕ → Type 0

@@ -26,9 +26,9 @@ half_start space half = segments_start space + space.sizes.young * (half * half_
 abbrev pub half_end : Space → ℕ → ℕ
 half_end space half = half_start space half + space.sizes.young * half_segments space
 
--- the address is in eden, or in the half that is left
-abbrev pub IsLeft : Space → ℕ → ℕ → Type 0
-IsLeft space left at =
+-- the address is in from-space: in eden, or in the half that is left
+abbrev pub IsFromSpace : Space → ℕ → ℕ → Type 0
+IsFromSpace space left at =
     ((eden_start space ≤ at) × (at < segments_start space)) ⊎ ((half_start space left ≤ at) × (at < half_end space left))
 
 -- What stands where a live slot refers to, among the words that are left: a header that is the reference to a home; or
@@ -46,7 +46,7 @@ SlotsHaveTargets =
     (start : Start) (left : ℕ) (fixed : Fixed) (words : List ℕ) (rows : List (List Run)) (homes : List Home)
     (fill slot place at : ℕ)
     → IsBegun start fixed → start.half + left ≡ 1 → IsFilled start fixed words rows homes fill
-    → StoodAt fixed homes slot place → RefersToAddress words slot at → IsLeft start.heap.space left at
+    → StoodAt fixed homes slot place → RefersToAddress words slot at → IsFromSpace start.heap.space left at
     → Contains fixed.cells at
     × IsTarget start.heap.space fixed words homes (room_start start.heap.space start.half + start.heap.space.sizes.young)
     fill at
@@ -84,7 +84,7 @@ CopyingGoesOn =
     (start : Start) (left : ℕ) (fixed : Fixed) (words now : List ℕ) (rows after : List (List Run)) (homes : List Home)
     (todo : List ℕ) (front : Front) (cell : Cell) (fill behind to slot place : ℕ)
     → IsBegun start fixed → start.half + left ≡ 1 → IsFilled start fixed words rows homes fill
-    → StoodAt fixed homes slot place → RefersToAddress words slot cell.at → IsLeft start.heap.space left cell.at
+    → StoodAt fixed homes slot place → RefersToAddress words slot cell.at → IsFromSpace start.heap.space left cell.at
     → reference_in (slice_index words cell.at) ≡ None → IsCell start.heap.space words cell
     → Copies start.heap.space words rows fill cell now after behind to
     → HasCopied start fixed words now after homes todo front behind cell.at to
@@ -102,6 +102,6 @@ RenamingGoesOn =
     (start : Start) (left : ℕ) (fixed : Fixed) (words : List ℕ) (rows : List (List Run)) (homes : List Home)
     (todo : List ℕ) (front : Front) (home : Home) (fill slot place : ℕ)
     → IsBegun start fixed → start.half + left ≡ 1 → IsFilled start fixed words rows homes fill
-    → StoodAt fixed homes slot place → RefersToAddress words slot home.from → IsLeft start.heap.space left home.from
+    → StoodAt fixed homes slot place → RefersToAddress words slot home.from → IsFromSpace start.heap.space left home.from
     → Contains homes home
     → HasRenamed start fixed words (slice_set words slot (bits_of (Ref home.to))) rows homes todo front fill slot

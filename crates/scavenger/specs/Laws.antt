@@ -1,11 +1,12 @@
 -- What a scavenge leaves of the graph that the heap shows, of the rooms of its objects and of free runs; and what it
 -- begins with.
-use Rattle.std.specs.Prelude.{◌≡◌, ℕ, ◌+◌, ◌-◌, ◌<◌, ◌≤◌, ◌↔◌, ◌⊎◌, Bool, List, Option, Some}
+use Rattle.std.specs.Prelude.{◌≡◌, ℕ, ◌+◌, ◌-◌, ◌<◌, ◌≤◌, ◌↔◌, ◌⊎◌, Bool, true, List, Option, Some}
+use Rattle.std.specs.Prelude.{Contains, length}
 use Rattle.object_graph.specs.Graphs.{Graph}
 use Rattle.page_space.specs.Extents.{eden_start}
 use Rattle.page_space.specs.RegionLaws.{IsSpace}
 use Rattle.nursery.specs.Young.{IsYoung, turned}
-use Rattle.free_runs.specs.FreeRuns.{AreFree}
+use Rattle.free_runs.specs.FreeRuns.{AreFree, longest_of}
 use Rattle.free_runs.specs.Laws.{IsFreeWord}
 use Rattle.heap_table.specs.Seats.{RestStays, heap_words}
 use Rattle.heap_model.specs.Types.{Cell, Run}
@@ -49,6 +50,7 @@ pub record IsEnded (old new : Mutator) (all : Bool) (fixed : Fixed) (homes : Lis
   pub seat : RestStays old.seat new.seat
   pub paths : new.paths ≡ old.paths
   pub bound : new.recorded.bound ≡ old.recorded.bound
+  pub rows : length new.free ≡ length old.free
   pub young : new.young ≡ turned old.young (fill - room_start old.seat.space (start_of old).half)
 
 -- Then it is a scavenge, and the heap that is left shows the graph, with the same rooms.
@@ -97,8 +99,44 @@ pub record TakesWords (old new : Heap) (all : Bool) (rows left : List (List Run)
   pub taken : (at : ℕ) → IsFreeWord rows at → IsFreeWord left at ⊎ IsOfPromoted old new all to at
   pub no_other : (at : ℕ) → IsFreeWord left at → IsFreeWord rows at
 
--- So a scavenge of a heap that shows a graph throws no word of a free run away.
+-- Each cell of the young generation that was to be promoted, and stays, came to a page, or is longer than each free run
+-- that is left.
+abbrev pub PromotesWhatFits : Heap → Bool → List (List Run) → (ℕ → Option ℕ) → Type 0
+PromotesWhatFits old all left to =
+    (cell : Cell) (words : List ℕ) (now : ℕ) → HasCell old cell words → eden_start old.space ≤ cell.at
+    → IsToPromote old.space all cell.at → to cell.at ≡ Some now
+    → (now < eden_start old.space) ⊎ (longest_of left < cell.size)
+
+-- No other cell of the young generation came to a page.
+abbrev pub PromotesNoOther : Heap → Bool → (ℕ → Option ℕ) → Type 0
+PromotesNoOther old all to =
+    (cell : Cell) (words : List ℕ) (now : ℕ) → HasCell old cell words → eden_start old.space ≤ cell.at
+    → to cell.at ≡ Some now → now < eden_start old.space → IsToPromote old.space all cell.at
+
+-- Each cell of a page stays where it stands, unless a free run begins there.
+abbrev pub KeepsPlaces : Heap → List (List Run) → (ℕ → Option ℕ) → Type 0
+KeepsPlaces old rows to =
+    (cell : Cell) (words : List ℕ) → HasCell old cell words → cell.at < eden_start old.space
+    → ((row : List Run) (run : Run) → Contains rows row → Contains row run → run.at ≡ cell.at → ⊥)
+    → to cell.at ≡ Some cell.at
+
+-- So a scavenge of a heap that shows a graph throws no word of a free run away, promotes just what fits, and leaves each
+-- cell of a page in its place, also one that nothing leads to.
 abbrev pub ScavengesTakeWords : Type 0
 ScavengesTakeWords =
     (old new : Mutator) (graph : Graph) (all : Bool) → MainShows old graph → Scavenges old new all
-    → TakesWords (heap_of old) (heap_of new) all old.free new.free
+    → (takes : TakesWords (heap_of old) (heap_of new) all old.free new.free)
+    × PromotesWhatFits (heap_of old) all new.free takes.to
+    × PromotesNoOther (heap_of old) all takes.to × KeepsPlaces (heap_of old) old.free takes.to
+
+-- What is young is stuck there: each cell of the young generation is longer than each free run.
+abbrev pub IsStuck : Heap → List (List Run) → Type 0
+IsStuck heap rows =
+    (cell : Cell) (words : List ℕ) → HasCell heap cell words → eden_start heap.space ≤ cell.at
+    → longest_of rows < cell.size
+
+-- So it is behind a scavenge that promotes all that lives.
+abbrev pub ScavengesOfAllLeaveStuck : Type 0
+ScavengesOfAllLeaveStuck =
+    (old new : Mutator) (graph : Graph) → MainShows old graph → Scavenges old new true
+    → IsStuck (heap_of new) new.free

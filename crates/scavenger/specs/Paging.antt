@@ -8,9 +8,9 @@ use Rattle.free_runs.specs.Laws.{IsFreeWord}
 use Rattle.heap_model.specs.Types.{Cell, Run}
 use Rattle.write_barrier.specs.FreeCells.{with_free_cell}
 use Rattle.scav_copy.specs.declared.places.Home.{Home}
-use Rattle.scav_copy.specs.Places.{Fixed, IsInRooms, IsInCopies, StoodAt}
+use Rattle.scav_copy.specs.Places.{Fixed, IsInCopies, StoodAt}
 use Rattle.scav_copy.specs.Copies.{with_home}
-use Rattle.scavenger.specs.Starts.{Start, IsBegun, IsRunOf, room_start}
+use Rattle.scavenger.specs.Starts.{Start, IsBegun, IsFreeRun, room_start}
 use Rattle.scavenger.specs.Filling.{IsFilled, IsInPromoted, PagesStand}
 use Rattle.scavenger.specs.Following.{IsFreeAt, moved_words}
 
@@ -24,15 +24,8 @@ pub record IsRunStanding (start : Start) (words : List ℕ) (run : Run) : Type 0
 abbrev pub FreeRunsStand : Type 0
 FreeRunsStand =
     (start : Start) (fixed : Fixed) (words : List ℕ) (rows : List (List Run)) (homes : List Home) (fill : ℕ) (run : Run)
-    → IsBegun start fixed → IsFilled start fixed words rows homes fill → IsRunOf rows run
+    → IsBegun start fixed → IsFilled start fixed words rows homes fill → IsFreeRun rows run
     → IsRunStanding start words run
-
--- Each word of a free run is one of a room, and in no copy.
-abbrev pub FreeWordsAreApart : Type 0
-FreeWordsAreApart =
-    (start : Start) (fixed : Fixed) (words : List ℕ) (rows : List (List Run)) (homes : List Home) (fill at : ℕ)
-    → IsBegun start fixed → IsFilled start fixed words rows homes fill → IsFreeWord rows at
-    → IsInRooms fixed at × (IsInCopies fixed homes at → ⊥)
 
 -- a live slot may become any word
 abbrev pub PagesStayForSlots : Type 0

@@ -1,6 +1,6 @@
 -- What a scavenge comes to.
 use Rattle.std.specs.Prelude.{◌≡◌, ℕ, ◌+◌, ◌<◌, ◌≤◌, ◌↔◌, ◌⊎◌, Bool, false, ◌||◌, List, [], ◌∷◌, Option, Some, None, Contains}
-use Rattle.std.specs.Prelude.{sum_by, slice_get, nat_lt, ◌==◌, if◌then◌else◌}
+use Rattle.std.specs.Prelude.{length, sum_by, slice_get, nat_lt, ◌==◌, if◌then◌else◌}
 use Rattle.page_space.specs.Extents.{eden_start, roots_start}
 use Rattle.nursery.specs.Young.{turned}
 use Rattle.free_runs.specs.FreeRuns.{AreFree, longest_of}
@@ -51,7 +51,8 @@ words_of_homes fixed homes = sum_by (λ home. size_of fixed home.from) homes
 -- that. Those that stay young fill the main side's segment of the half that was empty, from its start on; they are the
 -- survivors, and eden is empty. A survivor, or any where all are promoted, has its home in a page, unless it is longer
 -- than each free run that is left; no other has. Each word that was in a free run is in one, or in such a copy, and the
--- runs that are left neither overlap nor touch. Else nothing changed in pages, in second root words and in layout words.
+-- runs that are left neither overlap nor touch; as many pages have a row of them. Else nothing changed in pages, in
+-- second root words and in layout words.
 pub record Scavenges (old new : Mutator) (all : Bool) : Type 0 where
   pub fixed : Fixed
   pub homes : List Home
@@ -80,6 +81,7 @@ pub record Scavenges (old new : Mutator) (all : Bool) : Type 0 where
   pub left : (at : ℕ) → IsFreeWord old.free at
       ↔ (IsFreeWord new.free at ⊎ IsInPromoted (start_of old) fixed homes at)
   pub apart : AreFree new.free
+  pub rows : length new.free ≡ length old.free
 
 -- What is told of a scavenge: how many words the cells have that were to be promoted and stay young, and how many the
 -- first of them has, by where they stand now, if there is one.

@@ -50,7 +50,7 @@ abbrev pub room_of_run : Space → Run → Room
 room_of_run space run = record { worker = space.sizes.helpers; from = run.at; to = run.at + run.words }
 
 -- the run is one of these rows
-pub record IsRunOf (rows : List (List Run)) (run : Run) : Type 0 where
+pub record IsFreeRun (rows : List (List Run)) (run : Run) : Type 0 where
   pub row : List Run
   pub of_rows : Contains rows row
   pub among : Contains row run
@@ -78,7 +78,7 @@ pub record Begins (start : Start) (fixed : Fixed) : Type 0 where
   pub slots : (at : ℕ) → Contains fixed.slots at ↔ (IsRootAt start.heap.space at ⊎ Contains start.recorded at)
   pub rooms : (room : Room) → Contains fixed.rooms room
       ↔ ((room ≡ room_of start.heap.space start.half)
-      ⊎ ((run : Run) × IsRunOf start.rows run × (room ≡ room_of_run start.heap.space run)))
+      ⊎ ((run : Run) × IsFreeRun start.rows run × (room ≡ room_of_run start.heap.space run)))
 
 -- the word at this place is that of a slot: one of the slots outside, or one that a scavenge visits in one of the cells
 abbrev pub IsSlotPlace : Fixed → ℕ → Type 0

@@ -19,9 +19,9 @@ use Rattle.scav_copy.specs.Places.{Fixed, size_of, offsets_of, StoodAt}
 use Rattle.scav_copy.specs.Renamings.{RefersToAddress}
 use Rattle.scavenger.specs.declared.spaces.Spaces.{Spaces}
 use Rattle.scavenger.specs.declared.progress.Progress.{Progress}
-use Rattle.scavenger.specs.Starts.{Start, IsBegun, IsRunOf, start_of, room_start}
+use Rattle.scavenger.specs.Starts.{Start, IsBegun, IsFreeRun, start_of, room_start}
 use Rattle.scavenger.specs.Filling.{IsFilled, Front, OthersAreDone, ChangesWords, IsSegmentStart}
-use Rattle.scavenger.specs.Following.{half_start, half_end, moved_words, IsFreeAt, IsLeft}
+use Rattle.scavenger.specs.Following.{half_start, half_end, moved_words, IsFreeAt, IsFromSpace}
 
 -- the address behind the room that copies go to
 abbrev pub room_end : Space → ℕ → ℕ
@@ -173,7 +173,7 @@ pub record MayMove (now : Mutator) (all : Bool) (progress : Progress) (todo : Li
   pub slot : ℕ
   pub may : MayFollow now all progress todo slot
   pub refers : RefersToAddress (heap_words now.seat) slot at
-  pub left : IsLeft now.seat.space now.young.half at
+  pub left : IsFromSpace now.seat.space now.young.half at
 
 -- The cell at an address has its home at another then, and each slot that was live refers to what it did.
 pub record HasMoved (start old new : Mutator) (all : Bool) (before after : Progress) (todo left : List ℕ)
@@ -188,7 +188,7 @@ pub record HasMoved (start old new : Mutator) (all : Bool) (before after : Progr
 
 -- The first words of a free cell, so many, were taken, and the others are one free cell, of which nothing is recorded;
 -- else what was recorded is.
-pub record TakesRun (old new : Mutator) (size : ℕ) (run : Run) (free : Cell) : Type 0 where
+pub record CutsFreeCell (old new : Mutator) (size : ℕ) (run : Run) (free : Cell) : Type 0 where
   pub changes : ChangesWords old new
   pub words : heap_words new.seat ≡ with_free_cell (heap_words old.seat) (run.at + size) (free.size - size)
   pub recorded : (a : ℕ) → a < old.recorded.bound → Contains new.recorded.slots a
@@ -205,7 +205,7 @@ pub data Places (old new : Mutator) (all : Bool) (at size : ℕ) (before : Progr
   refuses : new ≡ old → IsToPromote old.seat.space all at → size < before.refused → FitsNowhere old.free size
       → Places old new all at size before (stays_in_vain (record before { refused = size }) size) before.fill
   promotes : (run : Run) (free : Cell) → IsToPromote old.seat.space all at → TakesFront old.free new.free size run
-      → IsFreeAt old.seat.space (heap_words old.seat) free run.at → TakesRun old new size run free
+      → IsFreeAt old.seat.space (heap_words old.seat) free run.at → CutsFreeCell old new size run free
       → Places old new all at size before before run.at
 
 -- The words of the cell were copied to an address, and its header refers to the copy. Nothing is recorded of the copy;
@@ -249,7 +249,7 @@ pub record IsCopyAt (now : Mutator) (at : ℕ) : Type 0 where
 -- each free run is a free cell
 abbrev pub StandFree : Mutator → Type 0
 StandFree main =
-    (run : Run) → IsRunOf main.free run
+    (run : Run) → IsFreeRun main.free run
     → (free : Cell) × IsFreeAt main.seat.space (heap_words main.seat) free run.at × (free.size ≡ run.words)
 
 -- the front when the roots are being followed, from an address on; when the recorded slots are; when copies are; and

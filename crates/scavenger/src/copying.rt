@@ -14,9 +14,9 @@ ghost use Rattle.write_barrier.specs.MutatorState.{Mutator};
 ghost use Rattle.scavenger.specs.Filling.{Front};
 ghost use Rattle.scav_copy.specs.Places.{StoodAt};
 ghost use Rattle.scav_copy.specs.Renamings.{RefersToAddress};
-ghost use Rattle.scavenger.specs.Following.{IsFreeAt, IsLeft};
+ghost use Rattle.scavenger.specs.Following.{IsFreeAt, IsFromSpace};
 ghost use Rattle.scavenger.specs.Walking.{AreSpaces, CopiesCell, MayMove, HasMoved, Places, Scavenging};
-ghost use Rattle.scavenger.specs.Walking.{StandFree, TakesRun};
+ghost use Rattle.scavenger.specs.Walking.{StandFree, CutsFreeCell};
 
 use crate::known_cells::known_cell;
 use crate::progress::Progress;
@@ -34,7 +34,7 @@ pub(crate) fn take_run(main: &mut Main, size: u32) -> Option<u32>
     ensures taken { IfSome result (λ at. (run : Run) × (free : Cell) × (run.at ≡ at)
         × TakesFront main.old.free main.new.free size run
         × IsFreeAt main.old.seat.space (heap_words main.old.seat) free at
-        × TakesRun main.old main.new size run free) }
+        × CutsFreeCell main.old main.new size run free) }
     ensures none { IsNone result → FitsNowhere main.old.free size × (main.new ≡ main.old) }
 {
     // There is a word for each address before the marks.
@@ -104,7 +104,7 @@ fn move_cell(
         (state : Scavenging start main.old all progress.old list.old.items front) (slot place : ℕ) →
         AreSpaces main.old.seat.space main.old.young.half all spaces.now →
         StoodAt state.fixed state.homes slot place → RefersToAddress (heap_words main.old.seat) slot at →
-        IsLeft main.old.seat.space main.old.young.half at →
+        IsFromSpace main.old.seat.space main.old.young.half at →
         HasMoved start main.old main.new all progress.old progress.new list.old.items list.new.items front at result
         state }
     ensures capacity { vec_capacity list.new ≡ vec_capacity list.old }
@@ -135,7 +135,7 @@ pub(crate) fn home_of(
         (state : Scavenging start main.old all progress.old list.old.items front) (slot place : ℕ) →
         AreSpaces main.old.seat.space main.old.young.half all spaces.now →
         StoodAt state.fixed state.homes slot place → RefersToAddress (heap_words main.old.seat) slot at →
-        IsLeft main.old.seat.space main.old.young.half at →
+        IsFromSpace main.old.seat.space main.old.young.half at →
         HasMoved start main.old main.new all progress.old progress.new list.old.items list.new.items front at result
         state }
     ensures capacity { vec_capacity list.new ≡ vec_capacity list.old }

@@ -2,17 +2,19 @@
 //! is followed.
 ghost use Rattle.scavenger.specs.Following.{SlotsHaveTargets, CopyingGoesOn, RenamingGoesOn};
 ghost use Rattle.scavenger.specs.Laws.{ShownHeapsMayBegin, EndsAreScavenges, ScavengesAreTight};
-ghost use Rattle.scavenger.specs.Laws.{ScavengesFillPages, ScavengesTakeWords};
+ghost use Rattle.scavenger.specs.Laws.{ScavengesFillPages, ScavengesTakeWords, ScavengesOfAllLeaveStuck};
 ghost use Rattle.scavenger.specs.Granting.{GrantsMakeRoom, GrantsKeepGraphs, GrantsKeepStores, GrantsStayTight};
 
 /// A heap that shows a graph may be scavenged. What is young behind a scavenge is reached, from variables
 /// or from slots of pages; what came to pages is so too, or free. Words of free runs are taken for cells
-/// that are promoted, and no others.
+/// that are promoted, and no others; what was to be promoted is, if a free run has its words. Where all
+/// was to be, what is young is longer than each free run. Each cell of a page stays in its place.
 pub fn laws_of_scavenges()
     ensures begin { ShownHeapsMayBegin }
     ensures tight { ScavengesAreTight }
     ensures pages { ScavengesFillPages }
     ensures words { ScavengesTakeWords }
+    ensures stuck { ScavengesOfAllLeaveStuck }
 {}
 
 /// Each live slot that refers to words that are left refers to one of the cells there: to a header

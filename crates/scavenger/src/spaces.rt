@@ -1,7 +1,7 @@
 //! Where a scavenge takes cells from, and where their copies go.
 ghost use Rattle.std.specs.Prelude.{ℕ, ◌≤◌, ◌↔◌, Bool, IsTrue};
 ghost use Rattle.page_space.specs.Extents.{Space};
-ghost use Rattle.scavenger.specs.Following.{IsLeft};
+ghost use Rattle.scavenger.specs.Following.{IsFromSpace};
 ghost use Rattle.scavenger.specs.Walking.{AreSpaces, IsToPromote};
 
 use page_space::{Region, Regions};
@@ -69,7 +69,7 @@ impl Spaces {
     #[inline(always)]
     pub(crate) fn are_left(&self, at: u32) -> bool
         ensures { (space : Space) (half : ℕ) (all : Bool) → AreSpaces space half all self.now →
-            IsTrue result ↔ IsLeft space half at }
+            IsTrue result ↔ IsFromSpace space half at }
     {
         (self.eden <= at && at < self.eden_end) || (self.left <= at && at < self.left_end)
     }

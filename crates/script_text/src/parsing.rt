@@ -8,7 +8,7 @@ use crate::lines::lines;
 use crate::numbering::with_numbers;
 use crate::script::{BadScript, Script};
 use crate::statements::statements_of;
-use crate::table::{Keyword, UNBUILT_TODAY};
+use crate::table::{Keyword, UNBUILT_KEYWORDS};
 use std::alloc::Global;
 
 /// Reads a source as a script. A source of 4 GiB or more is refused as `NoMemory`.
@@ -19,7 +19,7 @@ pub fn parse<'s>(alloc: Global, source: &'s [u8]) -> Result<Script<'s>, BadScrip
     ensures refused { IfErr result (λ stop.
         stop ≢ BadScript.NoMemory → reading_with unbuilt_keywords source.now ≡ Err stop) }
 {
-    parse_with_table(alloc, source, UNBUILT_TODAY)
+    parse_with_table(alloc, source, UNBUILT_KEYWORDS)
 }
 
 /// Reads a source as a script, where these commands are not built.

@@ -55,7 +55,7 @@ pub enum OperandKind {
 pub(crate) const PLACES_MOST: usize = 3;
 
 /// The commands that are not built.
-pub(crate) const UNBUILT_TODAY: &[Keyword] = &[
+pub(crate) const UNBUILT_KEYWORDS: &[Keyword] = &[
     Keyword::Mark,
     Keyword::Finish,
     Keyword::Gc,

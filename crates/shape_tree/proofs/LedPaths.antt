@@ -1,11 +1,11 @@
 -- What a change of fields that was carried out, or refused, leaves.
-use Rattle.std.proofs.Common.{◌≡◌, ℕ, ◌+◌, ◌<◌, ◌≤◌, List, [], ◌∷◌, ◌++◌, length, Some, None, refl, sym, ap}
+use Rattle.std.proofs.Common.{◌≡◌, ℕ, ◌+◌, ◌<◌, ◌≤◌, List, [], ◌∷◌, ◌++◌, length, Some, None, sym, ap}
 use Rattle.std.proofs.Common.{◌∙◌}
 use Rattle.std.proofs.Common.{arith, subst, append-nil, length-append}
 use Rattle.std.specs.Prelude.{Result, Err}
 use Rattle.std.specs.Result.{IsErrAnd}
 use Rattle.std.proofs.lemmas.Result.{err_from_is_err_and}
-use Rattle.std.proofs.lemmas.Bool.{leb-true, le-leb, lt-leb, cond-true, cond-false}
+use Rattle.std.proofs.lemmas.Bool.{leb-true, le-leb, cond-true}
 use Rattle.std.proofs.lemmas.Option.{cond_some}
 use Rattle.tagged_word.specs.Shapes.{first_path_shape}
 use Rattle.object_graph.specs.declared.path.Path.{Path}
@@ -14,8 +14,7 @@ use Rattle.object_graph.specs.Paths.{missing, may_have, with_path}
 use Rattle.object_graph.specs.Limits.{paths_most}
 use Rattle.object_graph.specs.Invariants.{IsPath}
 use Rattle.object_graph.proofs.AddedPaths.{adds}
-use Rattle.shape_tree.specs.declared.full.ShapesFull.{ShapesFull}
-use Rattle.shape_tree.specs.Shapes.{AreShapes, IsPathShape, IsShapeOf, shape_path, Leads, LacksPathsFor}
+use Rattle.shape_tree.specs.Shapes.{AreShapes, IsPathShape, IsShapeOf, shape_path, Leads}
 use Rattle.shape_tree.specs.Growth.{extended, IsMissing}
 use Rattle.shape_tree.proofs.ShapePaths.{has_its_path, has_shape_path, IsShapeOf-last}
 use Rattle.shape_tree.proofs.GrownPaths.{missing-there, missing-extended}
@@ -45,22 +44,6 @@ with_path-added old new path is few =
     let more = missing old path in
     cond-true (may_have (Some paths_most) (length old + length more)) (Some (old ++ more)) None
     (le-leb (length old + length more) paths_most few) ∙ ap Some (sym is)
-
--- and where not, nothing is added
-pub with_path-refused : (old : List Path) (path : Path) → paths_most < length old + length (missing old path)
-    → with_path (Some paths_most) old path ≡ None
-with_path-refused old path many =
-    let more = missing old path in
-    cond-false (may_have (Some paths_most) (length old + length more)) (Some (old ++ more)) None
-    (lt-leb (length old + length more) paths_most many)
-
--- so a change is not refused where there may be so many
-pub not_refused : (old new : List Path) (path : Path) (full : ShapesFull) → LacksPathsFor old new path full
-    → length old + length (missing old path) ≤ paths_most → ⊥
-not_refused old new path full is few =
-    let added = with_path-added old (old ++ missing old path) path refl few in
-    let refused = is.refused in
-    cc
 
 -- a path that is there is led to with nothing added
 pub leads_there : (paths : List Path) (path : Path) (shape : ℕ) → AreShapes paths → IsShapeOf paths path shape

@@ -18,12 +18,6 @@ use Rattle.shape_tree.specs.Shapes.{IsPathShape, IsShapeOf, shape_path}
 abbrev no_path : Path
 no_path = record { cap = 0; fields = [] }
 
--- a path is read alike, whatever stands for none
-pub get_or-shape_path : (paths : List Path) (shape : ℕ) (d : Path) → IsPathShape paths shape
-    → get_or paths (shape - first_path_shape) d ≡ shape_path paths shape
-get_or-shape_path paths shape d is =
-    get_or_default paths (shape - first_path_shape) d no_path (omega arith)
-
 -- the path of a shape is there
 pub has_shape_path : (paths : List Path) (shape : ℕ) → IsPathShape paths shape → Contains paths (shape_path paths shape)
 has_shape_path paths shape is = Contains-get_or paths (shape - first_path_shape) no_path (omega arith)

@@ -4,21 +4,19 @@ use cell_list::CellList;
 use std::test::Fail;
 
 #[test]
-fn an_address_is_listed_once_and_the_last_comes_first(rt: HostRuntime) -> Result<(), Fail> {
+fn an_address_is_listed_once_and_in_order(rt: HostRuntime) -> Result<(), Fail> {
     let mut list = CellList::new(rt.alloc(), 8)?;
-    assert!(rt; list.is_empty());
+    assert!(rt; list.len() == 0);
     assert!(rt; list.push(5));
     assert!(rt; list.push(0));
     assert!(rt; !list.push(5));
     assert!(rt; list.push(7));
     assert!(rt; list.contains(5) && list.contains(7) && !list.contains(6));
-    assert!(rt; list.pop() == Some(7));
-    assert!(rt; list.push(7));
-    assert!(rt; list.pop() == Some(7));
-    assert!(rt; list.pop() == Some(0));
-    assert!(rt; !list.is_empty());
+    assert!(rt; list.len() == 3);
+    assert!(rt; list.get(0) == 5 && list.get(1) == 0 && list.get(2) == 7);
     list.clear();
-    assert!(rt; list.is_empty() && !list.contains(5));
-    assert!(rt; list.pop() == None);
+    assert!(rt; list.len() == 0 && !list.contains(5));
+    assert!(rt; list.push(5));
+    assert!(rt; list.get(0) == 5);
     Ok(())
 }

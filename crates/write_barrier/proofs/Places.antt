@@ -48,10 +48,6 @@ layout_before_marks space paths shape are in_use = omega (arith, marks_start_is 
 pub layouts_within : (space : Space) → layouts_start space ≤ words_count space
 layouts_within space = omega (arith, marks_start_is space, board_start_is space, words_count_is space)
 
--- so do the marks
-pub marks_within : (space : Space) → marks_start space ≤ words_count space
-marks_within space = omega (arith, board_start_is space, words_count_is space)
-
 -- what a variable holds among all words of the table, it holds among those before the marks
 pub holds_before_marks : (seat : Seat) (variable : ℕ) (held : Held) → length seat.table ≡ words_count seat.space
     → variable < seat.space.variables → Holds seat.space seat.table variable held

@@ -15,7 +15,7 @@ use Rattle.heap_model.specs.Changes.{CellsChange}
 use Rattle.heap_model.specs.Remembered.{RefersToYoung, AreRemembered, Touch, IsRecordedBy, Records}
 use Rattle.heap_model.proofs.RememberedStays.{changes_stay_remembered}
 use Rattle.write_barrier.specs.MutatorState.{Mutator, heap_of, put_word, wiped, forgets, is_young}
-use Rattle.write_barrier.specs.MutatorState.{with_word, with_slot, with_table, judged}
+use Rattle.write_barrier.specs.MutatorState.{with_word, with_slot, judged}
 use Rattle.write_barrier.specs.Recording.{Touches, untouched, touched, touched_one, touched_again, touched_then}
 use Rattle.write_barrier.specs.Recording.{Remembers}
 use Rattle.write_barrier.proofs.JudgedSlots.{wiped_behind, wiped_bound, wiped_was, wiped_none, wiped_others}
@@ -152,14 +152,6 @@ wiped_touch old new from to free is words =
 -- words that are forgotten are wiped
 pub forget_touch : (main : Mutator) (from to : ℕ) → Touches main (forgets main from to) (touched Touch.Wiped from to)
 forget_touch main from to = wiped_touch main (forgets main from to) from to refl refl (λ at below out. refl)
-
--- words that are forgotten and become others are wiped
-pub range_touch : (main : Mutator) (from to : ℕ) (table : List ℕ)
-    → ((at : ℕ) → at < main.recorded.bound → (at < from) ⊎ (to ≤ at)
-    → slice_get (heap_words (with_table main table).seat) at ≡ slice_get (heap_words main.seat) at)
-    → Touches main (with_table (forgets main from to) table) (touched Touch.Wiped from to)
-range_touch main from to table words =
-    wiped_touch main (with_table (forgets main from to) table) from to refl refl words
 
 -- one word that is put changes no other word before the marks
 put_other : (main : Mutator) (at word other : ℕ) → at < marks_start main.seat.space → other ≢ at

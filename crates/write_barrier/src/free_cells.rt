@@ -1,8 +1,9 @@
 //! Free runs of pages, the free cells that they are, and the recorded slots in their order.
-ghost use Rattle.std.specs.Prelude.{◌≡◌, ◌+◌, ◌<◌, ◌≤◌, ◌↔◌, IsNone, IfSome, IfNone, MatchOption};
+ghost use Rattle.std.specs.Prelude.{◌≡◌, ◌+◌, ◌*◌, ◌<◌, ◌≤◌, ◌↔◌, [], ◌∷◌, ◌++◌, length, set};
+ghost use Rattle.std.specs.Prelude.{IsNone, IfSome, IfNone, MatchOption};
 ghost use Rattle.page_space.specs.Sizes.{page_words};
 ghost use Rattle.page_space.specs.Extents.{marks_start};
-ghost use Rattle.free_runs.specs.FreeRuns.{AreFree, FitsNowhere, TakesFront, longest_of};
+ghost use Rattle.free_runs.specs.FreeRuns.{AreFree, FitsNowhere, IsBehind, LiesIn, TakesFront, longest_of, row_of};
 ghost use Rattle.remembered_set.specs.Recorded.{HasNoneFrom, IsNextRecorded};
 ghost use Rattle.heap_table.specs.declared.phase.Phase.TheVariants.{Quiet};
 ghost use Rattle.heap_table.specs.Seats.{RestStays, heap_words};
@@ -48,6 +49,26 @@ impl Main {
         ensures own { AreFree self.now.free }
     {
         self.free.longest()
+    }
+
+    /// A page has no free run any more. The words of the heap are neither read nor written.
+    pub fn clear_free(&mut self, page: u32)
+        requires { page < length self.old.free }
+        ensures { self.new ≡ record self.old { free = set self.old.free page [] } }
+    {
+        self.free.clear_page(page);
+    }
+
+    /// A page has one free run more, which begins behind the last of those that it has, and does not
+    /// touch it. The words of the heap are neither read nor written.
+    pub fn add_free(&mut self, page: u32, run: Run)
+        requires there { page < length self.old.free }
+        requires lies { LiesIn (page_words * page) (page_words * (page + 1)) run }
+        requires behind { IsBehind (row_of self.old.free page) run }
+        ensures { let runs = row_of self.old.free page ++ run ∷ [] in
+            self.new ≡ record self.old { free = set self.old.free page runs } }
+    {
+        self.free.add(page, run);
     }
 
     /// The first recorded slot that is not below an address: none where each is below it.

@@ -1,10 +1,10 @@
-use Rattle.std.proofs.Common.{◌≡◌, ◌∙◌, sym, ap, subst, rules, List, ℕ, ◌∷◌, ◌++◌, ◌<◌, [], reverse, length, get_or}
+use Rattle.std.proofs.Common.{◌≡◌, ◌∙◌, sym, ap, subst, rules, List, ℕ, ◌∷◌, ◌++◌, ◌<◌, [], length, get_or}
 use Rattle.std.proofs.Common.{false, true, set, arith, ◌≤◌, vec_capacity}
 use Rattle.std.proofs.lemmas.Bool.{false≢true}
-use Rattle.std.proofs.lemmas.List.{length-set, length-reverse, get_or_default}
-use Rattle.cell_list.specs.Listing.{Listing, IsListing, pushed}
+use Rattle.std.proofs.lemmas.List.{length-set, get_or_default}
+use Rattle.cell_list.specs.Listing.{Listing, IsListing}
 use Rattle.cell_list.specs.Kept.{listing_of}
-use Rattle.cell_list.proofs.Flags.{Tell, tell_pushed, is_pushed, clear_not_listed, listed_are_few, reverse_pushed}
+use Rattle.cell_list.proofs.Flags.{Tell, tell_pushed, is_pushed, clear_not_listed, pushed_are_few}
 use Rattle.cell_list.proofs.CellList.push.Goals as goal
 
 pub returns-then-index-clause-was_new : goal.returns-then-index-clause-was_new
@@ -28,12 +28,11 @@ unreachable-requires c =
     let is_clear : get_or flags at false ≡ false =
     get_or_default flags at false c.index.result.now below ∙ sym c.index.ensures ∙ c.if-index.false in
     let is = is_pushed (listing_of c.self.inside) at c.self.invariant.listing below
-    (clear_not_listed flags (reverse old) at c.self.invariant.told is_clear) in
+    (clear_not_listed flags old at c.self.invariant.told is_clear) in
     let full : vec_capacity c.self.inside.addresses ≤ length old = search rules in
     omega (
       arith,
-      listed_are_few (pushed (listing_of c.self.inside) at) is,
-      length-reverse old,
+      pushed_are_few (listing_of c.self.inside) at is,
       c.self.invariant.room,
       full,
     )
@@ -48,12 +47,12 @@ invariant_of-self c =
     let is_clear : get_or flags at false ≡ false =
     get_or_default flags at false c.index.result.now below ∙ sym c.index.ensures ∙ c.if-index.false in
     let items : c.push.new.self.items ≡ old ++ at ∷ [] = search rules in
-    let back : at ∷ reverse old ≡ reverse c.push.new.self.items = sym (ap reverse items ∙ reverse_pushed old at) in
+    let back = sym items in
     let is = is_pushed (listing_of c.self.inside) at c.self.invariant.listing below
-    (clear_not_listed flags (reverse old) at c.self.invariant.told is_clear) in
+    (clear_not_listed flags old at c.self.invariant.told is_clear) in
     record {
       listing = rw (length-set flags at true)
           (subst (λ (all : List ℕ). IsListing (record { bound = length flags; addresses = all })) back is);
       room = omega (arith, length-set flags at true, c.push.ensures.capacity, c.self.invariant.room);
-      told = subst (Tell (set flags at true)) back (tell_pushed flags (reverse old) at below c.self.invariant.told);
+      told = subst (Tell (set flags at true)) back (tell_pushed flags old at below c.self.invariant.told);
     }

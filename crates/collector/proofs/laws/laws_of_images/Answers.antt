@@ -2,6 +2,8 @@ use Rattle.collector.proofs.ImagesShow.{images_show, images_are_blank}
 use Rattle.collector.proofs.ImageStores.{images_keep_stores, images_have_rooms}
 use Rattle.collector.proofs.ImagesTight.{images_are_tight}
 use Rattle.collector.proofs.ImagesFree.{images_keep_free}
+use Rattle.collector.proofs.ImagesStuck.{images_stay_stuck}
+use Rattle.collector.proofs.ImagesRooted.{images_keep_rooted, images_keep_runs}
 use Rattle.collector.proofs.laws.laws_of_images.Goals as goal
 
 pub returns : goal.returns
@@ -12,4 +14,7 @@ returns c = record {
   rooms = images_have_rooms;
   tight = images_are_tight;
   free = images_keep_free;
+  stuck = images_stay_stuck;
+  rooted = images_keep_rooted;
+  runs = images_keep_runs;
 }

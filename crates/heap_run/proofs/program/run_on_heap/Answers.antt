@@ -7,6 +7,8 @@ use Rattle.collector.proofs.ImagesShow.{images_show, images_are_blank}
 use Rattle.collector.proofs.ImageStores.{images_keep_stores, images_have_rooms}
 use Rattle.collector.proofs.ImagesTight.{images_are_tight}
 use Rattle.collector.proofs.ImagesFree.{images_keep_free}
+use Rattle.collector.proofs.ImagesStuck.{images_stay_stuck}
+use Rattle.collector.proofs.ImagesRooted.{images_keep_rooted, images_keep_runs}
 use Rattle.heap_run.proofs.Concluding.{IsKeepable, Runs-finished}
 use Rattle.heap_run.proofs.Imaged.{Laws, finishes_imaged}
 use Rattle.heap_run.proofs.program.run_on_heap.Goals as goal
@@ -27,6 +29,9 @@ returns g c = λ bytes is.
       rooms = images_have_rooms;
       tight = images_are_tight;
       free = images_keep_free;
+      stuck = images_stay_stuck;
+      rooted = images_keep_rooted;
+      runs = images_keep_runs;
     } in
     let finishes = finishes_imaged finished _ _ _ _ laws imaged ran.finishes in
     let keepable : IsKeepable space.sizes script image = record {

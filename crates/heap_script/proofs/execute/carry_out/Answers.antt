@@ -1,7 +1,7 @@
 use Rattle.std.proofs.Common.{◌≡◌, ◌∙◌, refl}
 use Rattle.mutator.specs.declared.stop.Stop.TheVariants.{NoRoom}
 use Rattle.heap_script.proofs.Retrying.{IsReady, ready_shows, ready_space, ready_spare, was_first}
-use Rattle.heap_script.proofs.Retrying.{refused_always, unchanged_first, scavenged_for, made_room, fewer_tries}
+use Rattle.heap_script.proofs.Retrying.{refused_always, unchanged_first, collected_for, made_room, fewer_tries}
 use Rattle.heap_script.proofs.Retrying.{gives_up, carried_at}
 use Rattle.heap_script.proofs.execute.carry_out.Goals.{then-again-via-then-again}
 use Rattle.heap_script.proofs.execute.carry_out.Goals.{then-again-via-else-again+then-not-ensure_room}
@@ -45,10 +45,10 @@ tries-preserved c =
     c.in-Err.ensures.carried c.in-Err.ensures.spare c.requires.shown in
     let gone = c.ensure_room.ensures in
     let one = told graph shown made in
-    let scavenged = scavenged_for same one gone.scavenged gone.shows gone.rooms gone.spare in
+    let collected = collected_for same one gone.collected gone.shows gone.rooms gone.spare in
     let (text, tries, out-is) = c.in-Err.ensures.carried graph (ready_shows now.ready shown) (now.objects ∙ made) in
     record {
-      ready = IsReady.again (made_room scavenged one.apart told (gone.room c.if-not-ensure_room.false));
+      ready = IsReady.again (made_room collected one.apart told (gone.room c.if-not-ensure_room.false));
       objects = c.in-Err.ensures.uncounted refl ∙ now.objects;
       out = out-is ∙ now.out;
     }
@@ -71,8 +71,8 @@ returns-then-again-clause-carried c = λ graph shown made.
       | then-again-via-then-again w ↦ let none = first.1 in let some = w.if-again.true in absurd (cc)
       | then-again-via-else-again+then-not-ensure_room w ↦
           let gone = w.ensure_room.ensures in
-          let scavenged = scavenged_for same one gone.scavenged gone.shows gone.rooms gone.spare in
-          let kept = gives_up scavenged shown one tries c.in-NoRoom.is (gone.full w.if-not-ensure_room.true) in
+          let collected = collected_for same one gone.collected gone.shows gone.rooms gone.spare in
+          let kept = gives_up collected shown one tries c.in-NoRoom.is (gone.full w.if-not-ensure_room.true) in
           (text, rw w.heap-is kept, out-is ∙ now.out)
     ]
 

@@ -96,7 +96,8 @@ returns-in-Weak-clause-carried c = λ graph shown made.
 pub returns-in-LetValue-clause-carried : goal.returns-in-LetValue-clause-carried
 returns-in-LetValue-clause-carried c = λ graph shown made.
     let carries =
-    c.let_value.ensures.carried graph c.args.script.now.fields (shows_lent c.main_mut-in-LetValue.ensures.main shown) in (
+    c.let_value.ensures.carried graph c.args.script.now.fields
+    (shows_lent c.main_mut-in-LetValue.ensures.main shown) in (
       [],
       rw c.in-LetValue.is (tried c.main_mut-in-LetValue.ensures.main (λ e. cc) carries),
       written_nothing (is_ok c.let_value.result) c.args.out.now,
@@ -113,7 +114,8 @@ returns-in-DropVar-clause-carried c = λ graph shown made.
 
 pub returns-in-Add-clause-carried : goal.returns-in-Add-clause-carried
 returns-in-Add-clause-carried c = λ graph shown made.
-    let carries = c.add.ensures.carried graph c.args.script.now.fields (shows_lent c.main_mut-in-Add.ensures.main shown) in (
+    let carries = c.add.ensures.carried graph c.args.script.now.fields
+    (shows_lent c.main_mut-in-Add.ensures.main shown) in (
       [],
       rw c.in-Add.is (tried c.main_mut-in-Add.ensures.main (λ e. cc) carries),
       written_nothing (is_ok c.add.result) c.args.out.now,
@@ -121,7 +123,8 @@ returns-in-Add-clause-carried c = λ graph shown made.
 
 pub returns-in-Set-clause-carried : goal.returns-in-Set-clause-carried
 returns-in-Set-clause-carried c = λ graph shown made.
-    let carries = c.set.ensures.carried graph c.args.script.now.fields (shows_lent c.main_mut-in-Set.ensures.main shown) in (
+    let carries = c.set.ensures.carried graph c.args.script.now.fields
+    (shows_lent c.main_mut-in-Set.ensures.main shown) in (
       [],
       rw c.in-Set.is (tried c.main_mut-in-Set.ensures.main (λ e. cc) carries),
       written_nothing (is_ok c.set.result) c.args.out.now,
@@ -129,7 +132,8 @@ returns-in-Set-clause-carried c = λ graph shown made.
 
 pub returns-in-Get-clause-carried : goal.returns-in-Get-clause-carried
 returns-in-Get-clause-carried c = λ graph shown made.
-    let carries = c.get.ensures.carried graph c.args.script.now.fields (shows_lent c.main_mut-in-Get.ensures.main shown) in (
+    let carries = c.get.ensures.carried graph c.args.script.now.fields
+    (shows_lent c.main_mut-in-Get.ensures.main shown) in (
       [],
       rw c.in-Get.is (tried c.main_mut-in-Get.ensures.main (λ e. cc) carries),
       written_nothing (is_ok c.get.result) c.args.out.now,
@@ -137,7 +141,8 @@ returns-in-Get-clause-carried c = λ graph shown made.
 
 pub returns-in-Del-clause-carried : goal.returns-in-Del-clause-carried
 returns-in-Del-clause-carried c = λ graph shown made.
-    let carries = c.del.ensures.carried graph c.args.script.now.fields (shows_lent c.main_mut-in-Del.ensures.main shown) in (
+    let carries = c.del.ensures.carried graph c.args.script.now.fields
+    (shows_lent c.main_mut-in-Del.ensures.main shown) in (
       [],
       rw c.in-Del.is (tried c.main_mut-in-Del.ensures.main (λ e. cc) carries),
       written_nothing (is_ok c.del.result) c.args.out.now,
@@ -145,7 +150,8 @@ returns-in-Del-clause-carried c = λ graph shown made.
 
 pub returns-in-Push-clause-carried : goal.returns-in-Push-clause-carried
 returns-in-Push-clause-carried c = λ graph shown made.
-    let carries = c.push.ensures.carried graph c.args.script.now.fields (shows_lent c.main_mut-in-Push.ensures.main shown) in (
+    let carries = c.push.ensures.carried graph c.args.script.now.fields
+    (shows_lent c.main_mut-in-Push.ensures.main shown) in (
       [],
       rw c.in-Push.is (tried c.main_mut-in-Push.ensures.main (λ e. cc) carries),
       written_nothing (is_ok c.push.result) c.args.out.now,
@@ -153,7 +159,8 @@ returns-in-Push-clause-carried c = λ graph shown made.
 
 pub returns-in-Put-clause-carried : goal.returns-in-Put-clause-carried
 returns-in-Put-clause-carried c = λ graph shown made.
-    let carries = c.put.ensures.carried graph c.args.script.now.fields (shows_lent c.main_mut-in-Put.ensures.main shown) in (
+    let carries = c.put.ensures.carried graph c.args.script.now.fields
+    (shows_lent c.main_mut-in-Put.ensures.main shown) in (
       [],
       rw c.in-Put.is (tried c.main_mut-in-Put.ensures.main (λ e. cc) carries),
       written_nothing (is_ok c.put.result) c.args.out.now,
@@ -161,7 +168,8 @@ returns-in-Put-clause-carried c = λ graph shown made.
 
 pub returns-in-At-clause-carried : goal.returns-in-At-clause-carried
 returns-in-At-clause-carried c = λ graph shown made.
-    let carries = c.at.ensures.carried graph c.args.script.now.fields (shows_lent c.main_mut-in-At.ensures.main shown) in (
+    let carries = c.at.ensures.carried graph c.args.script.now.fields
+    (shows_lent c.main_mut-in-At.ensures.main shown) in (
       [],
       rw c.in-At.is (tried c.main_mut-in-At.ensures.main (λ e. cc) carries),
       written_nothing (is_ok c.at.result) c.args.out.now,
@@ -169,7 +177,8 @@ returns-in-At-clause-carried c = λ graph shown made.
 
 pub returns-in-Shift-clause-carried : goal.returns-in-Shift-clause-carried
 returns-in-Shift-clause-carried c = λ graph shown made.
-    let carries = c.shift.ensures.carried graph c.args.script.now.fields (shows_lent c.main_mut-in-Shift.ensures.main shown) in (
+    let carries = c.shift.ensures.carried graph c.args.script.now.fields
+    (shows_lent c.main_mut-in-Shift.ensures.main shown) in (
       [],
       rw c.in-Shift.is (tried c.main_mut-in-Shift.ensures.main (λ e. cc) carries),
       written_nothing (is_ok c.shift.result) c.args.out.now,
@@ -177,7 +186,8 @@ returns-in-Shift-clause-carried c = λ graph shown made.
 
 pub returns-in-Trunc-clause-carried : goal.returns-in-Trunc-clause-carried
 returns-in-Trunc-clause-carried c = λ graph shown made.
-    let carries = c.trunc.ensures.carried graph c.args.script.now.fields (shows_lent c.main_mut-in-Trunc.ensures.main shown) in (
+    let carries = c.trunc.ensures.carried graph c.args.script.now.fields
+    (shows_lent c.main_mut-in-Trunc.ensures.main shown) in (
       [],
       rw c.in-Trunc.is (tried c.main_mut-in-Trunc.ensures.main (λ e. cc) carries),
       written_nothing (is_ok c.trunc.result) c.args.out.now,
@@ -185,7 +195,8 @@ returns-in-Trunc-clause-carried c = λ graph shown made.
 
 pub returns-in-WPut-clause-carried : goal.returns-in-WPut-clause-carried
 returns-in-WPut-clause-carried c = λ graph shown made.
-    let carries = c.wput.ensures.carried graph c.args.script.now.fields (shows_lent c.main_mut-in-WPut.ensures.main shown) in (
+    let carries = c.wput.ensures.carried graph c.args.script.now.fields
+    (shows_lent c.main_mut-in-WPut.ensures.main shown) in (
       [],
       rw c.in-WPut.is (tried c.main_mut-in-WPut.ensures.main (λ e. cc) carries),
       written_nothing (is_ok c.wput.result) c.args.out.now,
@@ -193,7 +204,8 @@ returns-in-WPut-clause-carried c = λ graph shown made.
 
 pub returns-in-WGet-clause-carried : goal.returns-in-WGet-clause-carried
 returns-in-WGet-clause-carried c = λ graph shown made.
-    let carries = c.wget.ensures.carried graph c.args.script.now.fields (shows_lent c.main_mut-in-WGet.ensures.main shown) in (
+    let carries = c.wget.ensures.carried graph c.args.script.now.fields
+    (shows_lent c.main_mut-in-WGet.ensures.main shown) in (
       [],
       rw c.in-WGet.is (tried c.main_mut-in-WGet.ensures.main (λ e. cc) carries),
       written_nothing (is_ok c.wget.result) c.args.out.now,
@@ -201,7 +213,8 @@ returns-in-WGet-clause-carried c = λ graph shown made.
 
 pub returns-in-WDel-clause-carried : goal.returns-in-WDel-clause-carried
 returns-in-WDel-clause-carried c = λ graph shown made.
-    let carries = c.wdel.ensures.carried graph c.args.script.now.fields (shows_lent c.main_mut-in-WDel.ensures.main shown) in (
+    let carries = c.wdel.ensures.carried graph c.args.script.now.fields
+    (shows_lent c.main_mut-in-WDel.ensures.main shown) in (
       [],
       rw c.in-WDel.is (tried c.main_mut-in-WDel.ensures.main (λ e. cc) carries),
       written_nothing (is_ok c.wdel.result) c.args.out.now,

@@ -47,6 +47,7 @@ returns-then-executed-eq-LINES_MOST-clause-pauses g c =
     r.left in
     record {
       reached = r.reached;
+      collections = 0;
       spends = r.spends;
       free = r.shown.main.free;
       halts = (
@@ -72,6 +73,7 @@ returns-clause-pauses g c =
     rw (← c.lines-lines.ensures.all) (slice_get_past lines c.loop-at.at c.loop-at-test.false) in
     record {
       reached = r.reached;
+      collections = 0;
       spends = r.spends;
       free = r.shown.main.free;
       halts = (
@@ -101,10 +103,11 @@ returns-in_default g c =
     record {
       pauses = record {
         reached = r.reached;
+        collections = 0;
         spends = r.spends;
         free = r.shown.main.free;
         halts = (
-          (refl, refl, due),
+          (refl, refl, refl, due),
           CutsOff-handed r.handed c.in_default.ensures.stopped,
           rw c.loop-at.invariant.steady at c.in_default.ensures.failed,
         );
@@ -121,7 +124,7 @@ returns-in-Err g c =
     let lines = c.lines-lines.result.now in
     let line = get_or lines c.loop-at.at past_end in
     let heap = c.loop-at.heap in
-    let r = Running-handed script heap _ _ c.flush_if_full.new.out _ _ _ _ _ _ before c.in-Ok.ensures.handed in
+    let r = Running-handed script heap _ _ c.flush_if_full.new.out _ _ _ _ _ _ _ before c.in-Ok.ensures.handed in
     let goes = goes_on lines script.lines c.loop-at.at c.loop-at.turns _ c.lines-lines.ensures.all c.loop-at-test.true
     r.left in
     let below : n < lines_most = omega (arith, r.reached.few) in
@@ -132,8 +135,8 @@ returns-in-Err g c =
     carries in
     record {
       pauses = rw (out-is, c.stopped.ensures)
-          (Pauses-line script heap after _ c.flush_if_full.new.out _ _ c.loop-at.at _ c.loop-at.turns _ n line.number _ text
-          c.in-Err.stop _ _ r below goes carries (c.in-Ok.ensures.steady ∙ c.loop-at.invariant.steady));
+          (Pauses-line script heap after _ c.flush_if_full.new.out _ _ c.loop-at.at _ c.loop-at.turns _ n line.number _
+          text c.in-Err.stop _ _ r below goes carries (c.in-Ok.ensures.steady ∙ c.loop-at.invariant.steady));
       shows = (graph, shows);
       space = space ∙ c.loop-at.invariant.space;
     }
@@ -146,7 +149,7 @@ loop-at-preserved g c =
     let lines = c.lines-lines.result.now in
     let line = get_or lines c.loop-at.at past_end in
     let heap = c.loop-at.heap in
-    let r = Running-handed script heap _ _ c.flush_if_full.new.out _ _ _ _ _ _ before c.in-Ok.ensures.handed in
+    let r = Running-handed script heap _ _ c.flush_if_full.new.out _ _ _ _ _ _ _ before c.in-Ok.ensures.handed in
     let goes = goes_on lines script.lines c.loop-at.at c.loop-at.turns _ c.lines-lines.ensures.all c.loop-at-test.true
     r.left in
     let below : n < lines_most = omega (arith, r.reached.few) in
@@ -161,6 +164,7 @@ loop-at-preserved g c =
           (Running-line script heap c.execute_line.new.heap c.loop-at.objects c.flush_if_full.new.out _ _
           c.loop-at.at _ c.loop-at.turns _ n line.number _ text r below goes ran.spare carries);
       holds = rw out-is holds;
-      space = same_space heap c.execute_line.new.heap _ _ script.fields text r.shown.main carries ∙ c.loop-at.invariant.space;
+      space = same_space heap c.execute_line.new.heap _ _ script.fields text r.shown.main carries
+          ∙ c.loop-at.invariant.space;
       steady = c.in-Ok.ensures.steady ∙ c.loop-at.invariant.steady;
     }

@@ -7,7 +7,7 @@ use Rattle.heap_script.proofs.interpreter.run_lines.Given as goal
 abbrev pub invariant-loop-at : goal.invariant-loop-at
 invariant-loop-at g l = record {
   running : Running l.script l.heap l.objects l.out (g.K.Sink.HasTaken l.initial.sink) (g.K.Sink.HasTaken l.sink)
-      l.at l.turns l.executed;
+      l.at l.turns l.executed 0;
   holds : OutputHolds l.script l.executed l.out;
   space : l.heap.main.seat.space ≡ l.initial.heap.main.seat.space;
   steady : g.K.Sink.faults l.sink ≡ g.K.Sink.faults l.initial.sink;

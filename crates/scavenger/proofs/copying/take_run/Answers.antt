@@ -7,7 +7,7 @@ use Rattle.cell_layout.proofs.OneCell.{cells_have_words}
 use Rattle.heap_table.specs.Seats.{Seat, heap_words}
 use Rattle.heap_model.specs.Types.{Cell, Run}
 use Rattle.write_barrier.specs.MutatorState.{Mutator}
-use Rattle.scavenger.specs.Walking.{TakesRun}
+use Rattle.scavenger.specs.Walking.{CutsFreeCell}
 use Rattle.scavenger.proofs.CodePlaces.{free_of, run_taken}
 use Rattle.scavenger.proofs.copying.take_run.Goals as goal
 
@@ -77,15 +77,15 @@ returns-clause-taken c =
     (subst (λ (seat : Seat). IsCell seat.space (heap_words seat) found.free) (sym same) found.is.is_cell)
     found.is.stands in
     let size = ap (λ (one : Cell). one.size) known in
-    let takes : TakesRun main new c.args.size run c.known_cell-free.result =
-    run_taken c.known_cell-free.result c.take_free.ensures.rest (omega (arith, found.enough, size))
-    c.put_free_cell.ensures.beside c.put_free_cell.ensures.paths c.put_free_cell.ensures.young
-    c.put_free_cell.ensures.heap c.put_free_cell.ensures.touches in (
+    let takes : CutsFreeCell main new c.args.size run c.known_cell-free.result =
+    run_taken c.known_cell-free.result c.take_free.ensures.rest c.in_ok-run.ensures.taken
+    (omega (arith, found.enough, size)) c.put_free_cell.ensures.beside c.put_free_cell.ensures.paths
+    c.put_free_cell.ensures.young c.put_free_cell.ensures.heap c.put_free_cell.ensures.touches in (
       run,
       found.free,
       refl,
       subst (λ (rows : List (List Run)). TakesFront main.free rows c.args.size run)
           (sym c.put_free_cell.ensures.touches.free) c.in_ok-run.ensures.taken,
       found.is,
-      subst (TakesRun main new c.args.size run) known takes,
+      subst (CutsFreeCell main new c.args.size run) known takes,
     )

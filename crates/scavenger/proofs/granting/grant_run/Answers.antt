@@ -3,7 +3,7 @@ use Rattle.std.proofs.Common.{◌≡◌, ℕ, sym, ◌∙◌, ap, subst, arith}
 use Rattle.page_space.specs.Extents.{eden_start}
 use Rattle.free_runs.specs.FreeRuns.{TakesFront}
 use Rattle.heap_model.specs.Types.{Cell, Run}
-use Rattle.scavenger.specs.Walking.{TakesRun}
+use Rattle.scavenger.specs.Walking.{CutsFreeCell}
 use Rattle.scavenger.specs.Granting.{Grants}
 use Rattle.scavenger.proofs.Granted.{grants_keep_graphs}
 use Rattle.scavenger.proofs.CodeGrants.{stand_free, fits_somewhere, grants_in_page, run_granted}
@@ -39,7 +39,7 @@ is_granted c =
     let taken = c.in-Some.ensures.taken in
     let free : Cell = taken.1 in
     let takes = subst (λ (one : Run). TakesFront old.free mid.free n one) (given c) taken.3 in
-    let took = subst (λ (one : Run). TakesRun old mid n one free) (given c) taken.5 in
+    let took = subst (λ (one : Run). CutsFreeCell old mid n one free) (given c) taken.5 in
     run_granted c.requires.shown.1 c.requires.some c.longest_free-longest.ensures.own takes taken.4 took
     c.grant.ensures.young c.grant.ensures.heap c.grant.ensures.beside c.grant.ensures.paths c.grant.ensures.touches
 

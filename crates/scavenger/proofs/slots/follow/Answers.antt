@@ -3,7 +3,7 @@ use Rattle.std.proofs.Common.{◌≡◌, ◌+◌, ◌<◌, ◌∙◌, ℕ, slice
 use Rattle.page_space.specs.Extents.{Space, marks_start}
 use Rattle.heap_table.specs.Seats.{heap_words}
 use Rattle.write_barrier.specs.MutatorState.{with_slot}
-use Rattle.scavenger.specs.Following.{IsLeft}
+use Rattle.scavenger.specs.Following.{IsFromSpace}
 use Rattle.scavenger.proofs.CodeStores.{moved_follows}
 use Rattle.scavenger.proofs.LoopTargets.{refers_by, refers_nowhere, passed, failed, slot_before_marks, left_at_start}
 use Rattle.scavenger.proofs.LoopMoves.{done_already}
@@ -25,11 +25,11 @@ returns-then-not-are_left-clause-followed c start all front state place are stoo
     let main = c.args.main.now in
     let refers = refers_by (heap_words main.seat) c.args.slot c.word.result c.in-Some.at c.word.ensures.of_heap
     c.in-Some.ensures in
-    let not_left : IsLeft main.seat.space main.young.half c.in-Some.at → ⊥ =
+    let not_left : IsFromSpace main.seat.space main.young.half c.in-Some.at → ⊥ =
     failed c.are_left.result c.if-not-are_left.true (c.are_left.ensures main.seat.space main.young.half all are) in
     done_already c.args.slot state (λ cell says left.
     let same : cell ≡ c.in-Some.at = cc in
-    not_left (subst (IsLeft main.seat.space main.young.half) same left))
+    not_left (subst (IsFromSpace main.seat.space main.young.half) same left))
 
 pub home_of-home-requires-clause-spaces : goal.home_of-home-requires-clause-spaces
 home_of-home-requires-clause-spaces c =
@@ -53,7 +53,7 @@ store-requires-clause-quiet c =
     let may = c.requires.spaces.2 in
     let refers = refers_by (heap_words main.seat) c.args.slot c.word.result c.in-Some.at c.word.ensures.of_heap
     c.in-Some.ensures in
-    let left : IsLeft main.seat.space main.young.half c.in-Some.at =
+    let left : IsFromSpace main.seat.space main.young.half c.in-Some.at =
     passed c.are_left.result c.if-not-are_left.false
     (c.are_left.ensures main.seat.space main.young.half c.requires.spaces.0 c.requires.spaces.1) in
     let moved = c.home_of-home.ensures.moved may.start c.requires.spaces.0 may.front may.scavenging c.args.slot
@@ -66,7 +66,7 @@ store-requires-clause-within c =
     let may = c.requires.spaces.2 in
     let refers = refers_by (heap_words main.seat) c.args.slot c.word.result c.in-Some.at c.word.ensures.of_heap
     c.in-Some.ensures in
-    let left : IsLeft main.seat.space main.young.half c.in-Some.at =
+    let left : IsFromSpace main.seat.space main.young.half c.in-Some.at =
     passed c.are_left.result c.if-not-are_left.false
     (c.are_left.ensures main.seat.space main.young.half c.requires.spaces.0 c.requires.spaces.1) in
     let moved = c.home_of-home.ensures.moved may.start c.requires.spaces.0 may.front may.scavenging c.args.slot
@@ -81,7 +81,7 @@ returns-clause-followed c start all front state place are stood =
     let main = c.args.main.now in
     let refers = refers_by (heap_words main.seat) c.args.slot c.word.result c.in-Some.at c.word.ensures.of_heap
     c.in-Some.ensures in
-    let left : IsLeft main.seat.space main.young.half c.in-Some.at =
+    let left : IsFromSpace main.seat.space main.young.half c.in-Some.at =
     passed c.are_left.result c.if-not-are_left.false (c.are_left.ensures main.seat.space main.young.half all are) in
     let moved = c.home_of-home.ensures.moved start all front state c.args.slot place are stood refers left in
     let before = slot_before_marks state c.args.slot place stood c.addresses_fit.ensures.heap_counted in

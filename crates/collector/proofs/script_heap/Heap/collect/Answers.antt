@@ -19,13 +19,15 @@ returns c =
       image = c.self.inside.spare;
       reserved = vec_capacity c.self.inside.memory;
       places = vec_capacity c.self.inside.list;
+      marks = c.self.inside.cells.bound;
     } in
     let spare = ap (λ (places : ℕ). record old { places = places }) done.capacity in
     rw (← c.self.view_is)
     (record {
       scavenged = done.scavenged;
       shows = λ graph shown.
-          still_shows _ _ graph shown spare done.scavenged.seat.space (done.keeps.shows graph shown.main);
+          still_shows _ _ graph shown spare done.scavenged.seat.space done.scavenged.rows
+          (done.keeps.shows graph shown.main);
       rooms = done.keeps;
       spare = spare;
     })

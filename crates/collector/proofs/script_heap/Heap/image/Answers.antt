@@ -15,7 +15,8 @@ returns c =
     let unchanged : IsUnchanged heap c.make_image.new.self = record {
       main = made.main;
       shows = λ graph shown.
-          imaged_shows heap c.make_image.new.self graph shown made.main made.image made.places;
+          imaged_shows heap c.make_image.new.self graph shown made.main made.image made.places
+          made.marks;
     } in
     let Shown : HeapState → Type 0 = λ one. IsImageOf (heap_of heap.main) (image_heap one.spare.image) in (
       (refl, (λ one. tt), subst (IsUnchanged heap) back unchanged),

@@ -1,0 +1,73 @@
+//! Reading a cell where one is known to stand: a full collection visits such cells when it marks, and
+//! again when it goes along the rows of pages.
+//!
+//! Model: none of its own. `StandsAt` of `specs/Standing.antt` says which cell stands at an address.
+//! Invariant: none. A call changes nothing, and reads three words at most: the header, the layout word
+//! of its shape, and the length of a kind that has one.
+#![tactic(auto)]
+
+ghost use Rattle.std.specs.Prelude.{◌≡◌, ℕ, ◌+◌, slice_get, Some};
+ghost use Rattle.tagged_word.specs.Cells.{has_length, length_by};
+ghost use Rattle.cell_layout.specs.Cells.{IsLayoutOf};
+ghost use Rattle.heap_model.specs.Types.{Cell, LayoutWord};
+ghost use Rattle.heap_table.specs.declared.phase.Phase.TheVariants.{Quiet};
+ghost use Rattle.heap_table.specs.Seats.{heap_words};
+ghost use Rattle.cell_reading.specs.Standing.{StandsAt};
+
+use cell_layout::Cell;
+use tagged_word::{Kind, LayoutWord};
+use write_barrier::Main;
+
+/// The cell that stands at an address.
+pub fn known_cell(main: &Main, at: u32) -> Cell
+    requires quiet { main.now.seat.phase ≡ Quiet }
+    requires stands { (cell : Cell) × StandsAt main.now.seat.space (heap_words main.now.seat) at cell }
+    ensures stands { StandsAt main.now.seat.space (heap_words main.now.seat) at result }
+    ensures one { (cell : Cell) → StandsAt main.now.seat.space (heap_words main.now.seat) at cell →
+        result ≡ cell }
+{
+    let header = main.header(at);
+    let layout = known_layout(main, header.shape);
+    let length = known_length(main, at, layout.kind);
+    match layout.size(length) {
+        Some(size) => Cell {
+            at,
+            header,
+            layout,
+            length,
+            size,
+        },
+        None => unreachable!(),
+    }
+}
+
+/// The layout of a shape that has one.
+fn known_layout(main: &Main, shape: u32) -> LayoutWord
+    requires quiet { main.now.seat.phase ≡ Quiet }
+    requires known { (layout : LayoutWord) ×
+        IsLayoutOf main.now.seat.space (heap_words main.now.seat) shape layout }
+    ensures { (layout : LayoutWord) →
+        IsLayoutOf main.now.seat.space (heap_words main.now.seat) shape layout → result ≡ layout }
+{
+    let at = main.regions().layout_at(shape);
+    match LayoutWord::parse(main.word(at)) {
+        Some(layout) => layout,
+        None => unreachable!(),
+    }
+}
+
+/// The length of the cell of a kind at an address: its second word where that is one, else 0.
+fn known_length(main: &Main, at: u32, kind: Kind) -> u64
+    requires quiet { main.now.seat.phase ≡ Quiet }
+    requires stands { let second = slice_get (heap_words main.now.seat) (at + 1) in
+        (length : ℕ) × (length_by (has_length kind) second ≡ Some length) }
+    ensures { let second = slice_get (heap_words main.now.seat) (at + 1) in
+        length_by (has_length kind) second ≡ Some result }
+{
+    if !kind.has_length() {
+        return 0;
+    }
+    // There is a word for each address before the marks.
+    main.addresses_fit();
+    main.slot(at, 1)
+}

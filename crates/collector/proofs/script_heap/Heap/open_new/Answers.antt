@@ -1,0 +1,23 @@
+-- A heap that was just opened has a row of free runs for each page, and each cell can be marked.
+use Rattle.std.proofs.Common.{rules, ◌∙◌, length, ap, sym}
+use Rattle.std.proofs.lemmas.List.FromFn.{length-map-range_with_len}
+use Rattle.page_space.specs.Extents.{roots_start}
+use Rattle.cell_list.specs.Listing.{Listing}
+use Rattle.free_runs.specs.FreeRuns.{whole_row}
+use Rattle.collector.proofs.script_heap.Heap.open_new.Goals as goal
+
+pub returns-clause-opened : goal.returns-clause-opened
+returns-clause-opened c =
+    let main = c.in_ok-main.main in
+    let opened = c.in_ok-main.ensures.opened in (
+      record {
+        main = opened.0;
+        rows = ap length opened.1.free ∙ length-map-range_with_len whole_row 0 main.seat.space.sizes.pages;
+        regions = search rules;
+        ready = search rules;
+        listed = search rules;
+        marks = ap (λ (list : Listing). list.bound) c.in_ok-cells.ensures ∙ c.cells_end.ensures
+            ∙ ap roots_start (sym c.in_ok-main.ensures.regions);
+      },
+      opened.1,
+    )

@@ -1,0 +1,13 @@
+pub mod LiveStands
+mod GrownLists
+mod CellSlots
+mod LastPairs
+mod AddedPairs
+mod AddedWaits
+mod KindTests
+mod PairSlots
+mod WaitingKeys
+mod ReadPairs
+mod VisitedCells
+mod NotedMaps
+mod EndMarks

@@ -1,0 +1,4 @@
+pub mod Marked
+pub mod Pairs
+pub mod Kept
+pub mod Progress

@@ -1,0 +1,103 @@
+-- How far a marking has come.
+use Rattle.std.specs.Prelude.{◌≡◌, ◌≢◌, ℕ, ◌+◌, ◌≤◌, ◌<◌, ◌⊎◌, ◌↔◌, List, [], ◌∷◌, ◌++◌, Contains, Some, length}
+use Rattle.std.specs.Prelude.{slice_get}
+use Rattle.std.specs.List.{AllPairs}
+use Rattle.page_space.specs.Extents.{roots_start}
+use Rattle.tagged_word.specs.declared.layout.Kind.TheVariants as kind
+use Rattle.heap_model.specs.Types.{Kind, Cell}
+use Rattle.heap_table.specs.declared.phase.Phase.TheVariants.{Quiet}
+use Rattle.heap_model.specs.Heaps.{Heap, HasCell}
+use Rattle.heap_model.specs.Slots.{reference_word}
+use Rattle.heap_model.specs.Wholeness.{Whole}
+use Rattle.live_cells.specs.Live.{HasSlotTo, HasEntry, IsRootTarget}
+use Rattle.cell_list.specs.Listing.{Listing}
+use Rattle.write_barrier.specs.MutatorState.{Mutator, heap_of}
+use Rattle.ephemeron_mark.specs.Marked.{IsLiveAt, IsMapAt}
+use Rattle.ephemeron_mark.specs.Pairs.{Waits, WaitsFor}
+
+-- the word at an address is a reference to the other one
+abbrev pub HoldsReference : Heap → ℕ → ℕ → Type 0
+HoldsReference heap slot at = slice_get heap.words slot ≡ Some (reference_word at)
+
+-- Only the mutator runs, its heap is whole, and only live cells are marked so far.
+pub record IsMarking (main : Mutator) (cells : Listing) : Type 0 where
+  pub quiet : main.seat.phase ≡ Quiet
+  pub whole : Whole (heap_of main)
+  pub bound : cells.bound ≡ roots_start main.seat.space
+  pub live : (at : ℕ) → Contains cells.addresses at → IsLiveAt (heap_of main) at
+
+-- more cells are marked, behind those that were
+pub record HasGrown (main : Mutator) (old new : Listing) : Type 0 where
+  pub marking : IsMarking main new
+  pub kept : (place at : ℕ) → slice_get old.addresses place ≡ Some at → slice_get new.addresses place ≡ Some at
+
+-- the cell is the heap's
+abbrev pub IsCellOf : Heap → Cell → Type 0
+IsCellOf heap cell = (words : List ℕ) × HasCell heap cell words
+
+-- A pair of a marked table has its key and its value at these addresses.
+pub record IsPairOf (heap : Heap) (cells : Listing) (of_key of_value : ℕ) : Type 0 where
+  pub table : ℕ
+  pub marked : Contains cells.addresses table
+  pub within : of_value < roots_start heap.space
+  pub next : of_value ≡ of_key + 1
+  pub entry : (key value : ℕ) → HoldsReference heap of_key key → HoldsReference heap of_value value
+      → HasEntry heap table key value
+
+-- A pair of a marked table has its value at this address, and its key refers to this one.
+pub record IsPairFor (heap : Heap) (cells : Listing) (key of_value : ℕ) : Type 0 where
+  pub of_key : ℕ
+  pub refers : HoldsReference heap of_key key
+  pub pair : IsPairOf heap cells of_key of_value
+
+-- each pair that waits is one of a marked table
+pub record AreWaiting (heap : Heap) (cells : Listing) (waits : Waits) : Type 0 where
+  pub bound : waits.bound ≡ roots_start heap.space
+  pub each : (key slot : ℕ) → WaitsFor waits key slot → IsPairFor heap cells key slot
+
+-- more pairs wait: for keys that were not marked
+pub record WaitsMore (cells : Listing) (old new : Waits) : Type 0 where
+  pub kept : (key slot : ℕ) → WaitsFor old key slot → WaitsFor new key slot
+  pub fresh : (key slot : ℕ) → WaitsFor new key slot → WaitsFor old key slot ⊎ (Contains cells.addresses key → ⊥)
+
+-- a pair waits for the key, and its value refers to the address
+pub record WaitsWith (heap : Heap) (waits : Waits) (key value : ℕ) : Type 0 where
+  pub slot : ℕ
+  pub waits_for : WaitsFor waits key slot
+  pub refers : HoldsReference heap slot value
+
+-- the value is marked, or waits for its key
+abbrev pub IsMarkedOrWaits : Heap → Listing → Waits → ℕ → ℕ → Type 0
+IsMarkedOrWaits heap cells waits key value = Contains cells.addresses value ⊎ WaitsWith heap waits key value
+
+-- What the cell at the address leads to is marked: what its slots refer to; the values of its pairs, but for those that
+-- wait; and the values that waited for it.
+pub record IsVisited (heap : Heap) (cells : Listing) (waits : Waits) (at : ℕ) : Type 0 where
+  pub slots : (to : ℕ) → HasSlotTo heap at to → Contains cells.addresses to
+  pub pairs : (key value : ℕ) → HasEntry heap at key value → IsMarkedOrWaits heap cells waits key value
+  pub woken : (value : ℕ) → WaitsWith heap waits at value → Contains cells.addresses value
+
+-- the cell is among the first so many that were marked
+pub record IsAmong (cells : Listing) (count at : ℕ) : Type 0 where
+  pub place : ℕ
+  pub below : place < count
+  pub there : slice_get cells.addresses place ≡ Some at
+
+-- the first so many cells are visited
+abbrev pub AreVisited : Heap → Listing → Waits → ℕ → Type 0
+AreVisited heap cells waits count = (at : ℕ) → IsAmong cells count at → IsVisited heap cells waits at
+
+-- what root words refer to is marked
+abbrev pub HasTargets : Heap → Listing → Type 0
+HasTargets heap cells = (at : ℕ) → IsRootTarget heap at → Contains cells.addresses at
+
+-- the addresses with that of a cell of this kind, if it is a weak map's
+abbrev pub noted : Kind → List ℕ → ℕ → List ℕ
+noted kind.Weak maps at = maps ++ at ∷ []
+noted _ maps at = maps
+
+-- these are the weak maps among the first so many cells, each once
+pub record AreMaps (heap : Heap) (cells : Listing) (maps : List ℕ) (count : ℕ) : Type 0 where
+  pub are : (at : ℕ) → Contains maps at ↔ (IsAmong cells count at × IsMapAt heap at)
+  pub once : AllPairs (λ at other. at ≢ other) maps
+  pub few : length maps ≤ count

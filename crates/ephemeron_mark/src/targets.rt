@@ -1,0 +1,56 @@
+//! Marking what words refer to: those of variables, and those of the slots of a cell.
+ghost use Rattle.std.specs.Prelude.{◌≡◌, ℕ, ◌<◌, Contains};
+ghost use Rattle.page_space.specs.Extents.{marks_start};
+ghost use Rattle.live_cells.specs.Live.{HasSlotTo};
+ghost use Rattle.write_barrier.specs.MutatorState.{heap_of};
+ghost use Rattle.ephemeron_mark.specs.Marked.{IsLiveAt};
+ghost use Rattle.ephemeron_mark.specs.Progress.{HoldsReference, IsMarking, HasGrown, HasTargets, IsCellOf};
+
+use cell_layout::{Cell, next_tagged};
+use cell_list::CellList;
+use tagged_word::Word;
+use write_barrier::Main;
+
+/// Marks what the word at an address refers to, where it is a reference.
+pub(crate) fn mark_target(main: &Main, cells: &mut CellList, slot: u32)
+    requires marking { IsMarking main.now cells.old }
+    requires within { slot < marks_start main.now.seat.space }
+    requires live { (at : ℕ) → HoldsReference (heap_of main.now) slot at → IsLiveAt (heap_of main.now) at }
+    ensures grown { HasGrown main.now cells.old cells.new }
+    ensures marked { (at : ℕ) → HoldsReference (heap_of main.now) slot at → Contains cells.new.addresses at }
+{
+    // No address is past 32 bits.
+    main.addresses_fit();
+    if let Some(at) = Word(main.word(slot)).address() {
+        cells.push(at);
+    }
+}
+
+/// Marks what the first root words of variables refer to.
+pub(crate) fn mark_roots(main: &Main, cells: &mut CellList)
+    requires marking { IsMarking main.now cells.old }
+    ensures grown { HasGrown main.now cells.old cells.new }
+    ensures targets { HasTargets (heap_of main.now) cells.new }
+{
+    let regions = main.regions();
+    for variable in 0..regions.variables() {
+        mark_target(main, cells, regions.root_at(variable));
+    }
+}
+
+/// Marks what the slots of a live cell refer to, of those that marking visits.
+pub(crate) fn mark_slots(main: &Main, cells: &mut CellList, cell: &Cell)
+    requires marking { IsMarking main.now cells.old }
+    requires live { IsLiveAt (heap_of main.now) cell.now.at }
+    requires stands { IsCellOf (heap_of main.now) cell.now }
+    ensures grown { HasGrown main.now cells.old cells.new }
+    ensures slots { (at : ℕ) → HasSlotTo (heap_of main.now) cell.now.at at → Contains cells.new.addresses at }
+{
+    // No address is past 32 bits.
+    main.addresses_fit();
+    let mut from = 0;
+    'slots: while let Some(offset) = next_tagged(cell, from) {
+        mark_target(main, cells, cell.at + offset);
+        from = offset + 1;
+    }
+}

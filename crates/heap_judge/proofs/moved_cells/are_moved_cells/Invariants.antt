@@ -1,0 +1,17 @@
+use Rattle.std.proofs.Common.{◌-◌}
+use Rattle.page_space.specs.Extents.{roots_start}
+use Rattle.heap_model.specs.Images.{image_heap}
+use Rattle.heap_check.specs.NextCell.{IsBoundary}
+use Rattle.heap_judge.specs.Moves.{to_of}
+use Rattle.heap_judge.specs.MovedCells.{IsMovedCell}
+use Rattle.heap_judge.proofs.EachCell.{EachBefore}
+use Rattle.heap_judge.proofs.moved_cells.are_moved_cells.Given as goal
+
+abbrev pub invariant-loop-cell : goal.invariant-loop-cell
+invariant-loop-cell l = record {
+  boundary : IsBoundary (image_heap l.old) l.at;
+  each : EachBefore (image_heap l.old) (IsMovedCell (image_heap l.old) (image_heap l.new) (to_of l.moves)) l.at;
+}
+
+abbrev pub decreases-loop-cell : goal.decreases-loop-cell
+decreases-loop-cell l = roots_start l.old.regions - l.at

@@ -1,0 +1,5 @@
+pub mod RootedStands
+mod GrownLists
+mod CellSlots
+mod VisitedCells
+mod EndMarks

@@ -1,0 +1,16 @@
+-- What the slots before an offset refer to is marked.
+use Rattle.std.proofs.Common.{ℕ, ◌+◌, ◌-◌, ◌<◌, Contains}
+use Rattle.tagged_word.specs.Cells.{scavenge_offsets}
+use Rattle.write_barrier.specs.MutatorState.{heap_of}
+use Rattle.root_mark.specs.Progress.{RefersTo, HasGrown}
+use Rattle.root_mark.proofs.mark_slots.Given as goal
+
+abbrev pub invariant-slots : goal.invariant-slots
+invariant-slots l = record {
+  grown : HasGrown l.main l.initial.cells l.cells;
+  slots : (offset at : ℕ) → Contains (scavenge_offsets l.cell.layout l.cell.length) offset → offset < l.from
+      → RefersTo (heap_of l.main) (l.cell.at + offset) at → Contains l.cells.addresses at;
+}
+
+abbrev pub decreases-slots : goal.decreases-slots
+decreases-slots l = l.cell.size - l.from

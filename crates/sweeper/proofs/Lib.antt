@@ -1,0 +1,17 @@
+pub mod Gaps
+pub mod FreedParts
+pub mod SweptRows
+pub mod GapRuns
+pub mod GapRecords
+pub mod PageRuns
+pub mod SweepSteps
+pub mod RowSteps
+pub mod PassedCells
+pub mod RowWalks
+pub mod RowLimits
+pub mod SweptHeap
+pub mod KeptPlaces
+pub mod SweptMoves
+pub mod SweptRuns
+pub mod SweptRecords
+pub mod SweepEnds

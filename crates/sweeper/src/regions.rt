@@ -1,0 +1,75 @@
+//! The sweep of all regions of cells, one after another.
+ghost use Rattle.std.specs.Prelude.{◌≡◌, ◌≤◌, ℕ, length};
+ghost use Rattle.page_space.specs.Extents.{roots_start};
+ghost use Rattle.heap_table.specs.declared.phase.Phase.TheVariants.{Quiet};
+ghost use Rattle.heap_model.specs.Heaps.{Heap};
+ghost use Rattle.heap_model.specs.RegionRows.{StandsBetween};
+ghost use Rattle.heap_model.specs.Wholeness.{HasRows, Whole};
+ghost use Rattle.write_barrier.specs.MutatorState.{Mutator, heap_of};
+ghost use Rattle.sweeper.specs.Swept.{IsSweepable, Sweeps};
+ghost use Rattle.sweeper.specs.Sweeping.{IsBegun, IsLimit, MaySweep, Sweeping};
+
+use crate::covering::clear_pages;
+use crate::rows::sweep_row;
+use cell_list::CellList;
+use page_space::Region;
+use write_barrier::Main;
+
+/// Where the row of the region that stands between two addresses ends at the latest.
+fn row_limit(main: &Main, start: u32, end: u32) -> u32
+    requires stands { StandsBetween main.now.seat.space start end }
+    requires few { main.now.young.used ≤ main.now.seat.space.sizes.young }
+    ensures { (heap : Heap) → heap.space ≡ main.now.seat.space → heap.used ≡ main.now.young.used →
+        HasRows heap → IsLimit heap start end result }
+{
+    match main.regions().region(start) {
+        Region::Eden => start + main.used(),
+        _ => end,
+    }
+}
+
+/// Sweeps the region that stands between two addresses.
+fn sweep_region(main: &mut Main, marked: &CellList, start: u32, end: u32)
+    requires may { (first : Mutator) × MaySweep first main.old marked.now.addresses start end }
+    requires bound { marked.now.bound ≡ roots_start main.old.seat.space }
+    ensures { (first : Mutator) → MaySweep first main.old marked.now.addresses start end →
+        Sweeping first main.new marked.now.addresses end }
+{
+    let limit = row_limit(main, start, end);
+    sweep_row(main, marked, start, limit);
+}
+
+/// Sweeps all regions of cells.
+fn sweep_regions(main: &mut Main, marked: &CellList)
+    requires begun { (first : Mutator) × IsBegun first × Sweeping first main.old marked.now.addresses 0 }
+    requires bound { marked.now.bound ≡ roots_start main.old.seat.space }
+    ensures { (first : Mutator) → IsBegun first → Sweeping first main.old marked.now.addresses 0 →
+        Sweeping first main.new marked.now.addresses (roots_start first.seat.space) }
+{
+    let regions = main.regions();
+    let mut at = 0;
+    while let Some(end) = regions.cells_end(at) {
+        sweep_region(main, marked, at, end);
+        at = end;
+    }
+}
+
+/// Makes free what is not marked. In each region of cells a stretch of cells that are not marked becomes one free
+/// cell, or more, where it has more words than a cell may have. Those of a page are its free runs from then on. What is
+/// marked stays where it stands, word for word. Only the mutator runs. The time goes by how many cells there are:
+/// of what becomes free no more than the first two words are written.
+pub fn sweep(main: &mut Main, marked: &CellList)
+    requires quiet { main.old.seat.phase ≡ Quiet }
+    requires whole { Whole (heap_of main.old) }
+    requires rows { length main.old.free ≡ main.old.seat.space.sizes.pages }
+    requires bound { marked.now.bound ≡ roots_start main.old.seat.space }
+    requires closed { IsSweepable (heap_of main.old) marked.now.addresses }
+    ensures swept { Sweeps main.old main.new marked.now.addresses }
+{
+    // The sizes are within their limits.
+    main.addresses_fit();
+    clear_pages(main);
+    sweep_regions(main, marked);
+    // Free runs are apart.
+    let _longest = main.longest_free();
+}

@@ -1,0 +1,81 @@
+//! Going along the row of a region, from cell to cell.
+ghost use Rattle.std.specs.Prelude.{◌≡◌, ◌≢◌, ℕ, ◌+◌, ◌<◌, ◌≤◌, ◌↔◌, List, Some, slice_get, IsTrue};
+ghost use Rattle.page_space.specs.Extents.{marks_start, roots_start};
+ghost use Rattle.heap_table.specs.declared.phase.Phase.TheVariants.{Quiet};
+ghost use Rattle.heap_table.specs.Seats.{heap_words};
+ghost use Rattle.write_barrier.specs.MutatorState.{Mutator, heap_of};
+ghost use Rattle.sweeper.specs.Sweeping.{InRow, IsLimit, MayPass, MaySweep, Sweeping};
+
+use crate::covering::cover;
+use cell_layout::Cell;
+use cell_list::CellList;
+use cell_reading::known_cell;
+use page_space::PAGE_WORDS;
+use write_barrier::Main;
+
+/// Whether the row of a region goes on at an address: it ends at a limit, or before, where a word is 0.
+fn goes_on(main: &Main, at: u32, limit: u32) -> bool
+    requires quiet { main.now.seat.phase ≡ Quiet }
+    requires within { limit ≤ marks_start main.now.seat.space }
+    ensures { let word = slice_get (heap_words main.now.seat) at in
+        IsTrue result ↔ ((at < limit) × (word ≢ Some 0)) }
+{
+    at < limit && main.word(at) != 0
+}
+
+/// Makes the cells from an address up to another one free cell, if there are any.
+fn end_stretch(main: &mut Main, from: u32, at: u32)
+    requires row { (first : Mutator) × (marked : List ℕ) × (start : ℕ) × (end : ℕ) × (limit : ℕ) ×
+        InRow first main.old marked start end limit from at }
+    ensures { (first : Mutator) (marked : List ℕ) (start end limit : ℕ) →
+        InRow first main.old marked start end limit from at → Sweeping first main.new marked at }
+{
+    if from < at {
+        cover(main, from, at);
+    }
+}
+
+/// Passes a cell by. It answers from where on the cells that were passed by are not marked and wait to be
+/// made one free cell, which has no more words than a page.
+fn pass(main: &mut Main, marked: &CellList, from: u32, cell: &Cell) -> u32
+    requires may { (first : Mutator) × (start : ℕ) × (end : ℕ) × (limit : ℕ) ×
+        MayPass first main.old marked.now.addresses start end limit from cell.now }
+    requires bound { marked.now.bound ≡ roots_start main.old.seat.space }
+    ensures { (first : Mutator) (start end limit : ℕ) →
+        MayPass first main.old marked.now.addresses start end limit from cell.now →
+        let behind = cell.now.at + cell.now.size in
+        InRow first main.new marked.now.addresses start end limit result behind }
+{
+    // There is a word for each address before the marks.
+    main.addresses_fit();
+    let behind = cell.at + cell.size;
+    if marked.contains(cell.at) {
+        end_stretch(main, from, cell.at);
+        return behind;
+    }
+    if behind - from > PAGE_WORDS {
+        end_stretch(main, from, cell.at);
+        return cell.at;
+    }
+    from
+}
+
+/// Sweeps the row of the region that begins at an address.
+pub(crate) fn sweep_row(main: &mut Main, marked: &CellList, start: u32, limit: u32)
+    requires may { (first : Mutator) × (end : ℕ) ×
+        MaySweep first main.old marked.now.addresses start end × IsLimit (heap_of first) start end limit }
+    requires bound { marked.now.bound ≡ roots_start main.old.seat.space }
+    ensures { (first : Mutator) (end : ℕ) → MaySweep first main.old marked.now.addresses start end →
+        IsLimit (heap_of first) start end limit → Sweeping first main.new marked.now.addresses end }
+{
+    // There is a word for each address before the marks.
+    main.addresses_fit();
+    let mut from = start;
+    let mut at = start;
+    'cells: while goes_on(main, at, limit) {
+        let cell = known_cell(main, at);
+        from = pass(main, marked, from, &cell);
+        at += cell.size;
+    }
+    end_stretch(main, from, at);
+}

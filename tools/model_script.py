@@ -1,0 +1,164 @@
+"""The words of the command line and the grammar of a script, for tools/model.py: docs/PROGRAM.md and docs/SCRIPT.md."""
+import re
+from typing import NamedTuple
+
+LINE_BYTES_MOST = 4096
+VARIABLES_MOST = 1024
+FIELD_NAMES_MOST = 4096
+TURNS_MOST = 20_000_000
+OPEN_MOST = 4
+CAP_MOST = 8
+INTEGER_LEAST, INTEGER_MOST = -(1 << 63), (1 << 63) - 1
+
+
+class Sizes(NamedTuple):
+    """The sizes of a heap."""
+
+    pages: int = 64
+    young: int = 8192
+    helpers: int = 2
+
+
+LIMITS = {b"pages": (1, 512), b"young": (64, 65536), b"helpers": (0, 7)}
+
+
+def sizes_of(words):
+    """The sizes that the words give; nothing where they are refused."""
+    words = [word if isinstance(word, bytes) else word.encode() for word in words]
+    if words[:1] != [b"run"]:
+        return None
+    texts, awaited = {}, None
+    for place, word in enumerate(words[1:], 2):
+        if awaited is not None:
+            name, text = awaited, word
+        elif word == b"--":
+            if place < len(words):
+                return None
+            break
+        elif word.startswith(b"--") and b"=" in word:
+            name, _, text = word[2:].partition(b"=")
+        elif word.startswith(b"--"):
+            awaited = word[2:]
+            continue
+        else:
+            return None
+        if name in texts or name not in LIMITS:
+            return None
+        texts[name], awaited = text, None
+    within = [re.fullmatch(rb"0*[0-9]{1,6}", text) and least <= int(text) <= most
+              for name, text in texts.items() for least, most in [LIMITS[name]]]
+    if awaited is not None or not all(within):
+        return None
+    return Sizes(**{name.decode(): int(text) for name, text in texts.items()})
+
+
+class Refused(Exception):
+    """A line is refused: its number, and the reason."""
+
+
+class Variable(NamedTuple):
+    """A variable, by its number; as a value, what it is bound to."""
+
+    number: int
+
+
+class Line(NamedTuple):
+    """A line that is executed: its number in the source, the command and the operands."""
+
+    number: int
+    command: str
+    operands: list
+
+
+# What the operands of each command are: a variable, a field, a value, or an integer up to a number.
+X, F, V = "variable", "field", "value"
+OPERANDS = {
+    "new": (X, CAP_MOST), "list": (X,), "weak": (X,), "let": (X, V), "drop": (X,), "add": (X, V), "set": (X, F, V),
+    "get": (X, X, F), "del": (X, F), "push": (X, V), "put": (X, V, V), "at": (X, X, V), "shift": (X, V),
+    "trunc": (X, V), "wput": (X, V, V), "wget": (X, X, V), "wdel": (X, V), "print": (V,), "same": (V, V),
+    "alike": (X, X), "shape": (X,), "scavenge": (), "mark": (), "finish": (), "gc": (), "census": (),
+    "repeat": (TURNS_MOST,), "end": (),
+}
+NOT_BUILT = {False: {"mark", "finish", "gc", "census"}, True: {"mark", "finish"}}
+NAME = re.compile(rb"[A-Za-z_][A-Za-z0-9_]{0,31}")
+INTEGER = re.compile(rb"0|-?[1-9][0-9]{0,18}")
+
+
+def integer_of(token):
+    """The integer that a token is, if it is one of 64 bits."""
+    if not INTEGER.fullmatch(token) or not INTEGER_LEAST <= int(token) <= INTEGER_MOST:
+        return None
+    return int(token)
+
+
+def is_name(token):
+    """Whether a token is a name."""
+    return bool(NAME.fullmatch(token)) and token != b"undefined"
+
+
+class Reader:
+    """Reads a source line by line. Variables are numbered in the order in which they are named."""
+
+    def __init__(self, ephemerons):
+        self.not_built = NOT_BUILT[ephemerons]
+        self.lines, self.opened = [], []
+        self.variables, self.fields = {}, {}
+        self.past_names = None
+
+    def operand(self, number, kind, token):
+        """What a token stands for at a place of this kind."""
+        integer = integer_of(token)
+        if kind in (X, F) and not is_name(token):
+            raise Refused(number, "name")
+        if isinstance(kind, int):
+            if integer is None or not 0 <= integer <= kind:
+                raise Refused(number, "integer")
+            return integer
+        if kind == V and integer is not None:
+            return integer
+        if kind == V and token == b"undefined":
+            return None
+        if not is_name(token):
+            raise Refused(number, "value")
+        names = self.fields if kind == F else self.variables
+        named = names.setdefault(token, len(names))
+        if self.past_names is None and (len(self.variables) > VARIABLES_MOST or len(self.fields) > FIELD_NAMES_MOST):
+            self.past_names = number
+        return token if kind == F else Variable(named)
+
+    def read(self, number, line):
+        """Reads a line."""
+        if len(line) > LINE_BYTES_MOST:
+            raise Refused(number, "long")
+        tokens = re.findall(rb"[^ \t\r]+", line.partition(b"#")[0])
+        if not tokens:
+            return
+        command = tokens[0].decode("latin-1")
+        if command not in OPERANDS:
+            raise Refused(number, "command")
+        if command in self.not_built:
+            raise Refused(number, "notbuilt")
+        if len(tokens) - 1 != len(OPERANDS[command]):
+            raise Refused(number, "count")
+        operands = [self.operand(number, kind, token) for kind, token in zip(OPERANDS[command], tokens[1:])]
+        self.nest(number, command, operands)
+        self.lines.append(Line(number, command, operands))
+
+    def nest(self, number, command, operands):
+        """Opens or closes a block. A `repeat` and an `end` have the place of the other as an operand more."""
+        if command == "repeat":
+            if len(self.opened) == OPEN_MOST:
+                raise Refused(number, "nesting")
+            self.opened.append(len(self.lines))
+        elif command == "end":
+            if not self.opened:
+                raise Refused(number, "end")
+            operands.append(self.opened.pop())
+            self.lines[operands[0]].operands.append(len(self.lines))
+
+    def close(self):
+        """Judges what can be judged at the end of the source alone."""
+        if self.opened:
+            raise Refused(self.lines[self.opened[-1]].number, "open")
+        if self.past_names is not None:
+            raise Refused(self.past_names, "names")
