@@ -7,7 +7,7 @@ use Rattle.clap.specs.declared.error.kind.ErrorKind.TheVariants.{ArgumentConflic
 use Rattle.page_space.specs.declared.sizes.Sizes.{Sizes}
 use Rattle.command_line.specs.Given.{Given, Setting, valued, named, ends_options, plain, stray, kind_of}
 use Rattle.command_line.specs.Given.{with_positional, is_option_name, is_set}
-use Rattle.command_line.specs.Sizes.{sizes_by, sizes_of, if_no_word}
+use Rattle.command_line.specs.Sizes.{sizes_alone, sizes_by, sizes_of, if_no_word}
 use Rattle.command_line.specs.Parser.{where_no_fault}
 use Rattle.command_line.proofs.WordKinds.{IsLong, dashes, option as option_word, hyphen, other, seen, attached_kind}
 use Rattle.command_line.proofs.Hopeless.{and_setting, hopeless_after, positional_is_hopeless}
@@ -130,7 +130,7 @@ word_agrees word words rest awaited h settings stands = elim (seen word) [
   | hyphen begin begins is kind ↦ ap sizes_read (outcome-stray h word words stands.skip is)
       ∙ sym (kind_means settings word words stray kind)
   | other is short kind ↦ ap sizes_read (outcome-stray h word words stands.skip is)
-      ∙ sym (hopeless_after words None (with_word settings word) (positional_is_hopeless
+      ∙ sym (hopeless_after sizes_alone words None (with_word settings word) (positional_is_hopeless
       (with_word settings word) word [] refl))
       ∙ sym (kind_means settings word words plain kind)
 ]

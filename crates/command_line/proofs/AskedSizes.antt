@@ -1,21 +1,21 @@
 -- The sizes that words ask for are within their limits.
 use Rattle.std.proofs.Common.{◌≡◌, ℕ, ◌≤◌, List, [], ◌∷◌, Option, Some, None, Bool, true, false, IsTrue}
-use Rattle.std.proofs.Common.{◌&&◌, nat_le, cond, arith, refl, subst}
+use Rattle.std.proofs.Common.{◌&&◌, nat_le, cond, arith, refl, subst, drop, inl, inr}
 use Rattle.std.proofs.lemmas.Bool.Decides.{nat_tests}
 use Rattle.std.proofs.lemmas.Option.{option_and_then_some, same_Some}
-use Rattle.std.specs.Option.{option_map, option_and_then}
-use Rattle.std.specs.Prelude.{◌||◌, if◌then◌else◌, bytes_eq, codes}
+use Rattle.std.specs.Option.{option_map}
+use Rattle.std.specs.Prelude.{codes}
 use Rattle.page_space.specs.declared.sizes.Sizes.{Sizes}
 use Rattle.page_space.specs.Sizes.{AreWithin, variables_most}
 use Rattle.command_line.specs.declared.number.Limits.{Limits}
-use Rattle.command_line.specs.declared.invocation.Invocation.{Invocation}
-use Rattle.command_line.specs.declared.invocation.Invocation.TheVariants.{Run}
+use Rattle.command_line.specs.declared.invocation.Invocation.TheVariants.{Run, Gen}
 use Rattle.command_line.specs.Given.{Text, Given, given_of}
 use Rattle.command_line.specs.Numbers.{decimal_value, within, number_or_default}
 use Rattle.command_line.specs.Sizes.{pages_limits, young_limits, helpers_limits, sizes_from, text_in, sizes_of}
 use Rattle.command_line.specs.Sizes.{if_no_word, sizes_alone}
-use Rattle.command_line.specs.Invocations.{Command, run, check, soak, gen, command_text, invocation_by}
+use Rattle.command_line.specs.Invocations.{Plan, run, gen, plan_of, if_no_setting, invocation_by}
 use Rattle.command_line.specs.SizeLaws.{AskedSizesAreWithin}
+use Rattle.command_line.proofs.AskedCommands.{asked_of}
 
 -- a number that passes the test of its limits is within them
 pass_limits : (test : Bool) (number found : ℕ) → cond test (Some number) None ≡ Some found
@@ -24,7 +24,7 @@ pass_limits true number found e = (refl, same_Some number found e)
 pass_limits false number found e = cc
 
 -- so it is with a number that is found within limits
-within_limits : (least most number found : ℕ) → within least most number ≡ Some found
+pub within_limits : (least most number found : ℕ) → within least most number ≡ Some found
     → (least ≤ found) × (found ≤ most)
 within_limits least most number found e =
     let passed = pass_limits (nat_le least number && nat_le number most) number found e in
@@ -90,25 +90,21 @@ run_of : (found : Option Sizes) (sizes : Sizes) → option_map Run found ≡ Som
 run_of None sizes e = cc
 run_of (Some found) sizes e = cc
 
--- where a command is one of four by these tests, and none of the last three, the words ask what the first does
-asked_by : (r k s g : Bool) (next : Command → Option Invocation) (invocation : Invocation)
-    → (if (k || (s || (g || false))) then None else option_and_then next
-    (if r then Some run else (if k then Some check else (if s then Some soak else (if g then Some gen else None)))))
-    ≡ Some invocation → next run ≡ Some invocation
-asked_by r true s g next invocation e = cc
-asked_by r false true g next invocation e = cc
-asked_by r false false true next invocation e = cc
-asked_by true false false false next invocation e = e
-asked_by false false false false next invocation e = cc
+-- what the words of `gen` ask for is no run
+no_run : (plan : Option Plan) (sizes : Sizes)
+    → option_map (λ plan. Gen plan.seed plan.forms) plan ≡ Some (Run sizes) → ⊥
+no_run None sizes e = cc
+no_run (Some plan) sizes e = cc
 
 -- where words ask for the run of a script, its sizes are within their limits
 pub asked_sizes_are_within : AskedSizesAreWithin
-asked_sizes_are_within [] sizes variables asks few = absurd (cc)
-asked_sizes_are_within (first ∷ words) sizes variables asks few =
-    let test : Command → Bool = λ command. bytes_eq (command_text command) first in
-    let next : Command → Option Invocation = λ command. option_and_then (invocation_by command) (given_of words) in
-    let ran : next run ≡ Some (Run sizes) =
-    asked_by (test run) (test check) (test soak) (test gen) next (Run sizes) asks in
-    option_and_then_some (invocation_by run) (given_of words) (Run sizes) ran
-    (λ given is f. settings_within given sizes variables
-    (alone given.positional (sizes_of given.settings) sizes (run_of (sizes_alone given) sizes f)) few)
+asked_sizes_are_within words sizes variables asks few =
+    elim (asked_of words (Run sizes) asks) [
+      | inl ran ↦
+          option_and_then_some (invocation_by run) (given_of (drop 1 words)) (Run sizes) ran
+          (λ given is f. settings_within given sizes variables
+          (alone given.positional (sizes_of given.settings) sizes (run_of (sizes_alone given) sizes f)) few)
+      | inr made ↦
+          option_and_then_some (invocation_by gen) (given_of (drop 1 words)) (Run sizes) made
+          (λ given is f. absurd (no_run (if_no_setting given.settings (plan_of given.positional)) sizes f))
+    ]

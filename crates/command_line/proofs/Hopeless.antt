@@ -1,4 +1,4 @@
--- What is given already can rule out sizes, whatever words follow.
+-- What is given already can rule out sizes, or what a command asks for, whatever words follow.
 use Rattle.std.proofs.Common.{◌≡◌, ◌∙◌, ℕ, ◌&&◌, ◌||◌, Bool, true, false, not, List, []}
 use Rattle.std.proofs.Common.{◌∷◌, ◌++◌, Option, None, Some}
 use Rattle.std.proofs.Common.{option_map, option_and_then, cond, find, bytes_eq, codes, refl, ap, ap₂, sym}
@@ -22,74 +22,75 @@ with_more given settings words = record {
 abbrev pub and_setting : List Setting → Text → Text → List Setting
 and_setting settings name text = settings ++ record { name = name; text = text } ∷ []
 
--- no sizes come of it, whatever more is given
-abbrev pub IsHopeless : Given → Type 0
-IsHopeless given = (settings : List Setting) (words : List Text) → sizes_alone (with_more given settings words) ≡ None
+-- what is judged of what is given: the sizes, or what a command asks for
+module _ {X : Type 0} (judge : Given → Option X) where
+  -- nothing comes of it, whatever more is given
+  abbrev pub IsHopeless : Given → Type 0
+  IsHopeless given = (settings : List Setting) (words : List Text) → judge (with_more given settings words) ≡ None
 
--- no sizes come of it as it is
-hopeless_now : (given : Given) → IsHopeless given → sizes_alone given ≡ None
-hopeless_now given h =
-    let alone = λ (all : List Setting) (words : List Text). sizes_alone
-    (record { settings = all; positional = words }) in
-    sym (ap₂ alone (append-nil given.settings) (append-nil given.positional)) ∙ h [] []
+  -- nothing comes of it as it is
+  hopeless_now : (given : Given) → IsHopeless given → judge given ≡ None
+  hopeless_now given h =
+      let alone = λ (all : List Setting) (words : List Text). judge (record { settings = all; positional = words }) in
+      sym (ap₂ alone (append-nil given.settings) (append-nil given.positional)) ∙ h [] []
 
--- one setting more does not help
-hopeless_setting : (given : Given) (name text : Text) → IsHopeless given
-    → IsHopeless (record given { settings = and_setting given.settings name text })
-hopeless_setting given name text h settings words =
-    let setting : Setting = record { name = name; text = text } in
-    ap (λ all. sizes_alone (record { settings = all; positional = given.positional ++ words }))
-    (append_assoc given.settings (setting ∷ []) settings) ∙ h (setting ∷ settings) words
+  -- one setting more does not help
+  hopeless_setting : (given : Given) (name text : Text) → IsHopeless given
+      → IsHopeless (record given { settings = and_setting given.settings name text })
+  hopeless_setting given name text h settings words =
+      let setting : Setting = record { name = name; text = text } in
+      ap (λ all. judge (record { settings = all; positional = given.positional ++ words }))
+      (append_assoc given.settings (setting ∷ []) settings) ∙ h (setting ∷ settings) words
 
--- nor do positional words
-hopeless_words : (given : Given) (more : List Text) → IsHopeless given → IsHopeless (with_positional more given)
-hopeless_words given more h settings words =
-    ap (λ all. sizes_alone (record { settings = given.settings ++ settings; positional = all }))
-    (append_assoc given.positional more words) ∙ h settings (more ++ words)
+  -- nor do positional words
+  hopeless_words : (given : Given) (more : List Text) → IsHopeless given → IsHopeless (with_positional more given)
+  hopeless_words given more h settings words =
+      ap (λ all. judge (record { settings = given.settings ++ settings; positional = all }))
+      (append_assoc given.positional more words) ∙ h settings (more ++ words)
 
--- from here on no sizes come of what follows
-abbrev FailsOn : (Given → Option Given) → Type 0
-FailsOn next = (given : Given) → IsHopeless given → option_and_then sizes_alone (next given) ≡ None
+  -- from here on nothing comes of what follows
+  abbrev FailsOn : (Given → Option Given) → Type 0
+  FailsOn next = (given : Given) → IsHopeless given → option_and_then judge (next given) ≡ None
 
--- a setting, and what follows it
-fails_on_setting : (next : Given → Option Given) (name text : Text) (given : Given) → FailsOn next → IsHopeless given
-    → option_and_then sizes_alone (option_and_then next (with_setting name text given)) ≡ None
-fails_on_setting next name text given rest h = go (is_option_name name && not (is_set name given.settings))
-  where
-    more : Given
-    more = record given { settings = and_setting given.settings name text }
+  -- a setting, and what follows it
+  fails_on_setting : (next : Given → Option Given) (name text : Text) (given : Given) → FailsOn next → IsHopeless given
+      → option_and_then judge (option_and_then next (with_setting name text given)) ≡ None
+  fails_on_setting next name text given rest h = go (is_option_name name && not (is_set name given.settings))
+    where
+      more : Given
+      more = record given { settings = and_setting given.settings name text }
 
-    go : (b : Bool) → option_and_then sizes_alone (option_and_then next (cond b (Some more) None)) ≡ None
-    go true = rest more (hopeless_setting given name text h)
-    go false = refl
+      go : (b : Bool) → option_and_then judge (option_and_then next (cond b (Some more) None)) ≡ None
+      go true = rest more (hopeless_setting given name text h)
+      go false = refl
 
--- a word, and what follows it
-fails_on_kind : (given : Given) (word : Text) (words : List Text) (kind : Kind)
-    (next : Given → Option Text → Option Given)
-    → ((awaited : Option Text) → FailsOn (λ more. next more awaited)) → IsHopeless given
-    → option_and_then sizes_alone (given_by given word words kind next) ≡ None
-fails_on_kind given word words (valued name text) next rest h =
-    fails_on_setting (λ more. next more None) name text given (rest None) h
-fails_on_kind given word words (named name) next rest h = rest (Some name) given h
-fails_on_kind given word words ends_options next rest h =
-    hopeless_now (with_positional words given) (hopeless_words given words h)
-fails_on_kind given word words plain next rest h =
-    rest None (with_positional (word ∷ []) given) (hopeless_words given (word ∷ []) h)
-fails_on_kind given word words stray next rest h = refl
+  -- a word, and what follows it
+  fails_on_kind : (given : Given) (word : Text) (words : List Text) (kind : Kind)
+      (next : Given → Option Text → Option Given)
+      → ((awaited : Option Text) → FailsOn (λ more. next more awaited)) → IsHopeless given
+      → option_and_then judge (given_by given word words kind next) ≡ None
+  fails_on_kind given word words (valued name text) next rest h =
+      fails_on_setting (λ more. next more None) name text given (rest None) h
+  fails_on_kind given word words (named name) next rest h = rest (Some name) given h
+  fails_on_kind given word words ends_options next rest h =
+      hopeless_now (with_positional words given) (hopeless_words given words h)
+  fails_on_kind given word words plain next rest h =
+      rest None (with_positional (word ∷ []) given) (hopeless_words given (word ∷ []) h)
+  fails_on_kind given word words stray next rest h = refl
 
--- no sizes come of the words that follow
-pub hopeless_after : (words : List Text) (awaited : Option Text) → FailsOn (λ given. given_after given awaited words)
-hopeless_after [] None given h = hopeless_now given h
-hopeless_after [] (Some name) given h = refl
-hopeless_after (word ∷ words) None given h =
-    fails_on_kind given word words (kind_of word) (λ more awaited. given_after more awaited words)
-    (hopeless_after words) h
-hopeless_after (word ∷ words) (Some name) given h =
-    fails_on_setting (λ more. given_after more None words) name word given (hopeless_after words None) h
+  -- nothing comes of the words that follow
+  pub hopeless_after : (words : List Text) (awaited : Option Text) → FailsOn (λ given. given_after given awaited words)
+  hopeless_after [] None given h = hopeless_now given h
+  hopeless_after [] (Some name) given h = refl
+  hopeless_after (word ∷ words) None given h =
+      fails_on_kind given word words (kind_of word) (λ more awaited. given_after more awaited words)
+      (hopeless_after words) h
+  hopeless_after (word ∷ words) (Some name) given h =
+      fails_on_setting (λ more. given_after more None words) name word given (hopeless_after words None) h
 
 -- a positional word rules out sizes
 pub positional_is_hopeless : (given : Given) (word : Text) (words : List Text) → given.positional ≡ word ∷ words
-    → IsHopeless given
+    → IsHopeless sizes_alone given
 positional_is_hopeless given word words e settings more =
     ap (λ all. if_no_word (all ++ more) (sizes_of (given.settings ++ settings))) e
 
@@ -167,7 +168,7 @@ no_sizes (word ∷ words) sizes e = refl
 -- a value with a hyphen first rules out sizes
 pub hyphen_is_hopeless : (given : Given) (name text rest : Text) → is_option_name name ≡ true
     → is_set name given.settings ≡ false
-    → text ≡ 45 ∷ rest → IsHopeless (record given { settings = and_setting given.settings name text })
+    → text ≡ 45 ∷ rest → IsHopeless sizes_alone (record given { settings = and_setting given.settings name text })
 hyphen_is_hopeless given name text rest known new e settings words =
     no_sizes _ _ (hyphen_gives_none (text_in (and_setting given.settings name text ++ settings)) name rest known
     (text_in-first given.settings settings name text new ∙ ap (λ t. Some t) e))

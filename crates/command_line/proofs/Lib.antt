@@ -10,4 +10,7 @@ mod Agreement
 mod AwaitedAgreement
 mod ParsedRows
 mod ParserCalls
+pub mod AskedCommands
 pub mod AskedSizes
+pub mod AskedForms
+mod Generations

@@ -69,7 +69,7 @@ hyphen_means_none name word rest settings words known begins = by_setting (is_se
     by_setting : (b : Bool) → is_set name settings ≡ b → sizes_meant settings (Some name) (word ∷ words) ≡ None
     by_setting true twice = second_means_none name word settings words known twice
     by_setting false new = first_means name word settings words known new
-        ∙ hopeless_after words None (only (and_setting settings name word))
+        ∙ hopeless_after sizes_alone words None (only (and_setting settings name word))
         (hyphen_is_hopeless (only settings) name word rest known new begins)
 
 -- what is meant by a word of this kind, with the words after it

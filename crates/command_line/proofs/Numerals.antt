@@ -19,17 +19,17 @@ digits = numerals_by_value _ (search rules)
 above_most : (least most number : ℕ) → most < number → within least most number ≡ None
 above_most least most number above = grind (arith, leb_tells)
 
--- digits that `parse` does not read at 32 bits are no number up to a most of 32 bits
-pub unread_digits : {E : Type 0} (least most : ℕ) (text : List ℕ) (r : Result ℕ E) (e : E) → most < 2 ^ 32
-    → list_all is_ascii_digit text ≡ true → ParsesUnsigned 32 10 text r → r ≡ Err e
+-- digits that `parse` does not read at so many bits are no number up to a most of these bits
+pub unread_digits : {E : Type 0} (bits least most : ℕ) (text : List ℕ) (r : Result ℕ E) (e : E) → most < 2 ^ bits
+    → list_all is_ascii_digit text ≡ true → ParsesUnsigned bits 10 text r → r ≡ Err e
     → None ≡ number_in least most text
-unread_digits least most [] r e fits all reads is = refl
-unread_digits {E} least most (b ∷ bs) r e fits all reads is =
+unread_digits bits least most [] r e fits all reads is = refl
+unread_digits {E} bits least most (b ∷ bs) r e fits all reads is =
     let number : ℕ = digits_value 10 (b ∷ bs) in
     let failed : Result ℕ E = Err e in
-    let unread : ParsesUnsigned 32 10 (b ∷ bs) failed = subst (ParsesUnsigned 32 10 (b ∷ bs)) is reads in
-    let no = parse_digits digits 32 (b ∷ bs) failed unread all in
-    let above : most < number = elim (cases_lt number (2 ^ 32)) [
+    let unread : ParsesUnsigned bits 10 (b ∷ bs) failed = subst (ParsesUnsigned bits 10 (b ∷ bs)) is reads in
+    let no = parse_digits digits bits (b ∷ bs) failed unread all in
+    let above : most < number = elim (cases_lt number (2 ^ bits)) [
       | inl small ↦ absurd (no (omega arith, small))
       | inr large ↦ omega arith
     ] in

@@ -41,9 +41,13 @@ abbrev pub plan_from : Option ℕ → Option ℕ → Option Plan
 plan_from (Some seed) (Some forms) = Some (record { seed = seed; forms = forms })
 plan_from _ _ = None
 
+-- the most forms of a generated script
+abbrev pub forms_most : ℕ
+forms_most = 30000
+
 -- a seed of 64 bits and up to 30,000 forms, as the two positional words
 abbrev pub plan_of : List Text → Option Plan
-plan_of (seed ∷ forms ∷ []) = plan_from (number_in 0 (2 ^ 64 - 1) seed) (number_in 0 30000 forms)
+plan_of (seed ∷ forms ∷ []) = plan_from (number_in 0 (2 ^ 64 - 1) seed) (number_in 0 forms_most forms)
 plan_of _ = None
 
 -- the plan, unless an option is set
@@ -78,7 +82,7 @@ built_invocation_of unbuilt words = if begins_with_any unbuilt words then None e
 
 -- the commands that are not built
 abbrev pub unbuilt_commands : List Command
-unbuilt_commands = check ∷ soak ∷ gen ∷ []
+unbuilt_commands = check ∷ soak ∷ []
 
 -- the first word is a command that is built
 abbrev pub BeginsBuilt : List Text → Type 0

@@ -2,6 +2,7 @@ pub mod Given
 pub mod Numbers
 pub mod Sizes
 pub mod Invocations
+pub mod Plans
 pub mod Lines
 pub mod Parser
 pub mod Stops

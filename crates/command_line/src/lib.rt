@@ -10,6 +10,7 @@ mod invocation;
 mod laws;
 mod number;
 mod options;
+mod plan;
 mod reading;
 mod rows;
 
@@ -17,4 +18,4 @@ pub use invocation::{Invocation, WordsStop};
 pub use laws::laws_of_sizes;
 pub use page_space::Sizes;
 pub use reading::read_words;
-pub use rows::{refused_number_rows, refused_word_rows, run_rows, unbuilt_rows};
+pub use rows::{generated_rows, refused_number_rows, refused_word_rows, run_rows, unbuilt_rows};

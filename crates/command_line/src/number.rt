@@ -1,5 +1,5 @@
 //! Decimal numbers, as the words write them.
-ghost use Rattle.std.specs.Prelude.{◌≡◌, option_map};
+ghost use Rattle.std.specs.Prelude.{◌≡◌, ◌-◌, ◌^◌, option_map};
 ghost use Rattle.std.specs.List.{list_all};
 ghost use Rattle.std.specs.Char.{is_ascii_digit};
 ghost use Rattle.command_line.specs.Numbers.{number_in, number_or_default};
@@ -25,7 +25,7 @@ impl Limits {
 }
 
 /// The number that the text writes: one digit or more and nothing else, from the least to the most.
-fn number_in(least: u32, most: u32, text: &str) -> Option<u32>
+pub(crate) fn number_in(least: u32, most: u32, text: &str) -> Option<u32>
     ensures { result ≡ number_in least most text.now }
 {
     // `parse` takes a plus too.
@@ -40,6 +40,19 @@ fn number_in(least: u32, most: u32, text: &str) -> Option<u32>
     } else {
         None
     }
+}
+
+/// The number of 64 bits that the text writes, as `number_in` has it.
+pub(crate) fn seed_in(text: &str) -> Option<u64>
+    ensures { result ≡ number_in 0 (2 ^ 64 - 1) text.now }
+{
+    if !has_only_digits(text) {
+        return None;
+    }
+    let Ok(number) = text.parse::<u64>() else {
+        return None;
+    };
+    Some(number)
 }
 
 fn has_only_digits(text: &str) -> bool

@@ -1,10 +1,10 @@
 //! Reading words as an invocation.
-ghost use Rattle.std.specs.Prelude.{◌≡◌, [], ◌∷◌, Err, Some, None, IfOk, map, string_bytes};
-ghost use Rattle.command_line.specs.Invocations.{BeginsBuilt, begins_with_any, built_invocation_of, run};
-ghost use Rattle.command_line.specs.Invocations.{unbuilt_commands};
+ghost use Rattle.std.specs.Prelude.{◌≡◌, Err, Some, None, IfOk, map, string_bytes};
+ghost use Rattle.command_line.specs.Invocations.{BeginsBuilt, built_invocation_of, unbuilt_commands};
 
 use crate::invocation::{Invocation, WordsStop};
 use crate::options::sizes_of;
+use crate::plan::generation_of;
 use std::alloc::Global;
 
 /// Reads the words after the program's name: a command, its options and positional words. They are
@@ -18,18 +18,13 @@ pub fn read_words(alloc: Global, words: &[String]) -> Result<Invocation, WordsSt
     ensures begins_built { result ≡ Err WordsStop.NoMemory →
         BeginsBuilt (map string_bytes words.now) }
 {
-    // The first word is judged before the parser allocates, so that no other command wants memory.
-    if !begins_with_run(words) {
+    // The first word is judged before a parser allocates, so that no other command wants memory.
+    let [first, rest @ ..] = words else {
         return Err(WordsStop::BadWords);
-    }
-    Ok(Invocation::Run(sizes_of(alloc, words)?))
-}
-
-fn begins_with_run(words: &[String]) -> bool
-    ensures { result ≡ begins_with_any (run ∷ []) (map string_bytes words.now) }
-{
-    match words {
-        [first, ..] => first.as_str() == "run",
-        [] => false,
+    };
+    match first.as_str() {
+        "run" => Ok(Invocation::Run(sizes_of(alloc, words)?)),
+        "gen" => generation_of(rest).ok_or(WordsStop::BadWords),
+        _ => Err(WordsStop::BadWords),
     }
 }

@@ -22,6 +22,18 @@ pub fn run_rows()
         ≡ Some (Invocation.Run (record { pages = 512; young = 65536; helpers = 7 })) }
 {}
 
+/// Lines that ask for a generated script.
+pub fn generated_rows()
+    ensures generated { invocation_of (words_of (codes "gen 0 1")) ≡ Some (Invocation.Gen 0 1) }
+    ensures largest { invocation_of (words_of (codes "gen 18446744073709551615 30000"))
+        ≡ Some (Invocation.Gen 18446744073709551615 30000) }
+    ensures dashes_before { invocation_of (words_of (codes "gen -- 0 1")) ≡ Some (Invocation.Gen 0 1) }
+    ensures dashes_between { invocation_of (words_of (codes "gen 0 -- 1")) ≡ Some (Invocation.Gen 0 1) }
+    ensures dashes_behind { invocation_of (words_of (codes "gen 00 01 --")) ≡ Some (Invocation.Gen 0 1) }
+    ensures built { built_invocation_of unbuilt_commands (words_of (codes "gen 5 0"))
+        ≡ Some (Invocation.Gen 5 0) }
+{}
+
 /// Lines that ask for what is not built.
 pub fn unbuilt_rows()
     ensures checked { invocation_of (words_of (codes "check --pages 3"))
@@ -32,10 +44,7 @@ pub fn unbuilt_rows()
         (Invocation.Soak (record { pages = 5; young = 8192; helpers = 2 }) 7 1) }
     ensures dashes { invocation_of (words_of (codes "soak -- 1 2")) ≡ Some
         (Invocation.Soak (record { pages = 64; young = 8192; helpers = 2 }) 1 2) }
-    ensures generated { invocation_of (words_of (codes "gen 0 1")) ≡ Some (Invocation.Gen 0 1) }
-    ensures largest { invocation_of (words_of (codes "gen 18446744073709551615 30000"))
-        ≡ Some (Invocation.Gen 18446744073709551615 30000) }
-    ensures not_built { built_invocation_of unbuilt_commands (words_of (codes "gen 0 1")) ≡ None }
+    ensures not_built { built_invocation_of unbuilt_commands (words_of (codes "soak 0 1")) ≡ None }
 {}
 
 /// Lines that are refused for their words.
@@ -54,6 +63,9 @@ pub fn refused_word_rows()
     ensures version { invocation_of (words_of (codes "run --version")) ≡ None }
     ensures one_word { invocation_of (words_of (codes "gen 0")) ≡ None }
     ensures three_words { invocation_of (words_of (codes "soak 0 1 2")) ≡ None }
+    ensures dashes_for_a_word { invocation_of (words_of (codes "gen 0 --")) ≡ None }
+    ensures two_dashes { invocation_of (words_of (codes "gen -- -- 1")) ≡ None }
+    ensures four_words { invocation_of (words_of (codes "gen -- 0 1 2")) ≡ None }
     ensures option_of_gen { invocation_of (words_of (codes "gen 0 1 --pages 2")) ≡ None }
 {}
 

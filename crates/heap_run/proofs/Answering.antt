@@ -1,13 +1,11 @@
 -- What follows of a run from what it comes to and what the sink took.
 use Rattle.std.proofs.Common.{arith, ◌≡◌, ◌≢◌, ℕ, List, [], ◌∷◌, Option, Some}
-use Rattle.std.proofs.Common.{None, IfSome, Err, refl, sym, subst, lit<, ◌⊎◌, inl, inr}
-use Rattle.std.specs.Prelude.{Contains, Bool, true, false, not, ◌&&◌, ◌||◌, if◌then◌else◌}
-use Rattle.std.specs.Prelude.{option_and_then, bytes_eq}
+use Rattle.std.proofs.Common.{None, IfSome, Err, refl, sym, ap, subst, lit<, ◌⊎◌, inl, inr}
+use Rattle.std.specs.Prelude.{Contains}
 use Rattle.heap_model.specs.Types.{Sizes}
-use Rattle.command_line.specs.declared.invocation.Invocation.{Invocation}
 use Rattle.command_line.specs.declared.invocation.Invocation.TheVariants.{Run}
-use Rattle.command_line.specs.Given.{given_of}
-use Rattle.command_line.specs.Invocations.{Command, run, check, soak, gen, command_text, invocation_by, BeginsBuilt}
+use Rattle.command_line.specs.Invocations.{BeginsBuilt}
+use Rattle.command_line.proofs.AskedCommands.{begins_built}
 use Rattle.script_text.specs.declared.script.BadScript.{BadScript}
 use Rattle.script_text.specs.declared.script.BadScript.TheVariants as bad
 use Rattle.script_text.specs.Grammar.{reading}
@@ -22,7 +20,7 @@ use Rattle.heap_run.specs.declared.last_line.LastLine.{LastLine}
 use Rattle.heap_run.specs.declared.last_line.LastLine.TheVariants as last
 use Rattle.heap_run.specs.Texts.{last_bytes, status_of}
 use Rattle.heap_run.specs.Answers.{Input, ReadsAll, Answer, unopened, refusal_of, last_line_of}
-use Rattle.heap_run.specs.Answers.{Comes, Taken, Answers, Runs, IsKeptAt, KeepsGraph, AsksToRun}
+use Rattle.heap_run.specs.Answers.{Comes, Taken, Answers, Runs, IsKeptAt, IsKeptFor, KeepsGraph, AsksToRun}
 
 -- no last line has the status of a sink that failed
 pub status-apart : (line : LastLine) → status_of line ≢ 5
@@ -51,6 +49,8 @@ keeps-comes words input _ (Comes.ended sizes bytes script kept came asks reads i
     (sizes, bytes, asks, reads.all, subst (λ r. KeepsGraph sizes r kept) (sym is) keeps)
 keeps-comes words input _ (Comes.cut_short sizes bytes script kept asks reads is keeps line need none due) =
     (sizes, bytes, asks, reads.all, subst (λ r. KeepsGraph sizes r kept) (sym is) keeps)
+keeps-comes words input _ (Comes.generated seed forms asks unread steady) = tt
+keeps-comes words input _ (Comes.generated_in_part seed forms count asks unread steady) = tt
 
 -- where a heap is kept, nothing of the source is left
 pub reads-comes : (words : List (List ℕ)) (input : Input) (answer : Answer) → Comes words input answer
@@ -63,6 +63,8 @@ reads-comes words input _ (Comes.no_script sizes bytes stop line asks reads is r
 reads-comes words input _ (Comes.ended sizes bytes script kept came asks reads is keeps comes need) = reads.none_left
 reads-comes words input _
     (Comes.cut_short sizes bytes script kept asks reads is keeps line need none due) = reads.none_left
+reads-comes words input _ (Comes.generated seed forms asks unread steady) = tt
+reads-comes words input _ (Comes.generated_in_part seed forms count asks unread steady) = tt
 
 -- the status of the end of a script
 opened-ended : (came : How) (line : ℕ) → Contains (0 ∷ 1 ∷ 3 ∷ 5 ∷ 8 ∷ []) (status_of (last_line_of came line))
@@ -85,26 +87,30 @@ opened-refused bad.NoMemory line e = cc
 
 -- the status of an answer whose last line is written goes with the heap that is kept
 opened-line : (words : List (List ℕ)) (input : Input) (answer : Answer) → Comes words input answer → (line : LastLine)
-    → answer.last ≡ Some line → IsKeptAt (status_of line) answer.kept
+    → answer.last ≡ Some line → IsKeptFor words (status_of line) answer.kept
 opened-line words input _ (Comes.bad_words refused unread steady) line e =
     let is : last.BadWords ≡ line = cc in
-    subst (λ l. IsKeptAt (status_of l) None) is (5, lit< tt, refl)
+    inl (subst (λ l. IsKeptAt (status_of l) None) is (5, lit< tt, refl))
 opened-line words input _ (Comes.no_memory begins read) line e =
     let is : last.NoMemory ≡ line = cc in
-    subst (λ l. IsKeptAt (status_of l) None) is (4, lit< tt, refl)
+    inl (subst (λ l. IsKeptAt (status_of l) None) is (4, lit< tt, refl))
 opened-line words input _ (Comes.read_fault sizes asks rose) line e =
     let is : last.ReadFault ≡ line = cc in
-    subst (λ l. IsKeptAt (status_of l) None) is (1, lit< tt, refl)
+    inl (subst (λ l. IsKeptAt (status_of l) None) is (1, lit< tt, refl))
 opened-line words input _ (Comes.too_long sizes asks many) line e =
     let is : last.SourceTooLong ≡ line = cc in
-    subst (λ l. IsKeptAt (status_of l) None) is (3, lit< tt, refl)
+    inl (subst (λ l. IsKeptAt (status_of l) None) is (3, lit< tt, refl))
 opened-line words input _ (Comes.no_script sizes bytes stop at asks reads is refusal) line e =
     let same : at ≡ line = cc in
-    subst (λ l. IsKeptAt (status_of l) None) same (opened-refused stop at refusal)
+    inl (subst (λ l. IsKeptAt (status_of l) None) same (opened-refused stop at refusal))
 opened-line words input _ (Comes.ended sizes bytes script kept came asks reads is keeps comes need) line e =
     let same : last_line_of came kept.line ≡ line = cc in
-    subst (λ l. IsKeptAt (status_of l) (Some kept)) same (opened-ended came kept.line)
+    inl (subst (λ l. IsKeptAt (status_of l) (Some kept)) same (opened-ended came kept.line))
 opened-line words input _ (Comes.cut_short sizes bytes script kept asks reads is keeps at need none due) line e = cc
+opened-line words input _ (Comes.generated seed forms asks unread steady) line e =
+    let same : last.Nothing ≡ line = cc in
+    inr (record { seed = seed; forms = forms; asks = asks; whole = ap status_of (sym same); none = refl })
+opened-line words input _ (Comes.generated_in_part seed forms count asks unread steady) line e = cc
 
 -- the status of a sink that failed goes with a heap and with none
 opened-failed : (kept : Option Kept) → IsKeptAt 5 kept
@@ -114,11 +120,11 @@ opened-failed (Some kept) = (3, lit< tt, refl)
 -- the status goes with the heap that is kept
 pub opened-answer : (words : List (List ℕ)) (input : Input) (old new : List ℕ → Type 0) (faults_old faults_new : ℕ)
     (answer : Answer) (status : ℕ) → Comes words input answer → Taken old new faults_old faults_new answer status
-    → IsKeptAt status answer.kept
+    → IsKeptFor words status answer.kept
 opened-answer words input old new faults_old faults_new _ _ comes (Taken.all told line kept appends steady) =
     opened-line words input _ comes line refl
 opened-answer words input old new faults_old faults_new _ _ comes (Taken.front answer some near rose) =
-    opened-failed answer.kept
+    inl (opened-failed answer.kept)
 
 -- an answer before the opening, as it is concluded
 pub Taken-unopened : (old new : List ℕ → Type 0) (faults_old faults_new status : ℕ) (line : LastLine)
@@ -154,9 +160,10 @@ Answers-reads words input old new faults_old faults_new ended a =
 
 -- whether a heap is kept goes with the status of the run
 pub Answers-opened : (words : List (List ℕ)) (input : Input) (old new : List ℕ → Type 0) (faults_old faults_new : ℕ)
-    (ended : Ended) → Answers words input old new faults_old faults_new ended → IsKeptAt ended.status ended.kept
+    (ended : Ended) → Answers words input old new faults_old faults_new ended
+    → IsKeptFor words ended.status ended.kept
 Answers-opened words input old new faults_old faults_new ended a =
-    subst (IsKeptAt ended.status) a.kept
+    subst (IsKeptFor words ended.status) a.kept
     (opened-answer words input old new faults_old faults_new a.answer ended.status a.comes a.taken)
 
 -- an answer before the opening
@@ -178,25 +185,9 @@ pub Runs-unopened : (sizes : Sizes) (bytes : List ℕ) (old new : List ℕ → T
 Runs-unopened sizes bytes old new faults_old faults_new ended line none comes taken =
     record { answer = unopened line; kept = sym none; comes = comes; taken = taken }
 
--- where a command is one of four by these tests, and none of the last three, it is the first
-built_by : (r k s g : Bool) (next : Command → Option Invocation) (invocation : Invocation)
-    → (if (k || (s || (g || false))) then None else option_and_then next
-    (if r then Some run else (if k then Some check else (if s then Some soak else (if g then Some gen else None)))))
-    ≡ Some invocation
-    → ((r || (k || (s || (g || false)))) && not (k || (s || (g || false)))) ≡ true
-built_by r true s g next invocation e = cc
-built_by r false true g next invocation e = cc
-built_by r false false true next invocation e = cc
-built_by true false false false next invocation e = refl
-built_by false false false false next invocation e = cc
-
 -- words that ask for a run begin with a command that is built
 pub begins : (words : List (List ℕ)) (sizes : Sizes) → AsksToRun words sizes → BeginsBuilt words
-begins [] sizes asks = absurd (cc)
-begins (first ∷ words) sizes asks =
-    let test : Command → Bool = λ command. bytes_eq (command_text command) first in
-    built_by (test run) (test check) (test soak) (test gen)
-    (λ command. option_and_then (invocation_by command) (given_of words)) (Run sizes) asks
+begins words sizes asks = begins_built words (Run sizes) asks
 
 -- want of memory once the source was read
 pub Comes-memory : (sizes : Sizes) (bytes : List ℕ) (words : List (List ℕ)) (input : Input) → AsksToRun words sizes

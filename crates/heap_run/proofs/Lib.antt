@@ -2,4 +2,5 @@ mod Pieces
 mod Excess
 mod Answering
 mod Concluding
+mod Generating
 mod Imaged

@@ -1,13 +1,14 @@
 -- What a run comes to, and what of it the sink took.
 use Rattle.std.specs.Prelude.{◌≡◌, ◌⊎◌, ℕ, ◌+◌, ◌<◌, ◌≤◌, List, [], ◌∷◌, ◌++◌}
-use Rattle.std.specs.Prelude.{length, drop, Option, Some, None, IfSome, MatchOption, Contains, Result, Ok, Err}
+use Rattle.std.specs.Prelude.{length, take, drop, Option, Some, None, IfSome, MatchOption, Contains, Result, Ok, Err}
 use Rattle.heap_model.specs.Types.{Sizes}
-use Rattle.command_line.specs.declared.invocation.Invocation.TheVariants.{Run}
+use Rattle.command_line.specs.declared.invocation.Invocation.TheVariants.{Run, Gen}
 use Rattle.command_line.specs.Invocations.{built_invocation_of, unbuilt_commands, BeginsBuilt}
 use Rattle.script_text.specs.declared.script.BadScript.{BadScript}
 use Rattle.script_text.specs.declared.script.BadScript.TheVariants as bad
 use Rattle.script_text.specs.Scripts.{ScriptText}
 use Rattle.script_text.specs.Grammar.{reading}
+use Rattle.script_gen.specs.Generated.{generated as script_of_seed}
 use Rattle.byte_ends.specs.Faults.{Rose}
 use Rattle.byte_ends.specs.Source.{IsInput}
 use Rattle.byte_ends.specs.Sink.{Appends, AppendsSome}
@@ -30,6 +31,10 @@ source_most = 1048576
 -- the words ask for the run of a script with these sizes
 abbrev pub AsksToRun : List (List ℕ) → Sizes → Type 0
 AsksToRun words sizes = built_invocation_of unbuilt_commands words ≡ Some (Run sizes)
+
+-- the words ask for the generated script of a seed, with so many forms
+abbrev pub AsksToGenerate : List (List ℕ) → ℕ → ℕ → Type 0
+AsksToGenerate words seed forms = built_invocation_of unbuilt_commands words ≡ Some (Gen seed forms)
 
 -- the words ask for nothing that is built
 abbrev pub AsksForNothing : List (List ℕ) → Type 0
@@ -139,6 +144,13 @@ pub data Comes (words : List (List ℕ)) (input : Input) : Answer → Type 0 whe
       → (keeps : IsKeptHeapOf sizes script kept) → kept.line ≡ 0 → kept.need ≡ 0 → keeps.spent.collections ≡ 0
       → IsDue script kept.executed
       → Comes words input (record { told = keeps.reached.so_far.bytes; last = None; kept = Some kept })
+  -- the words ask for a generated script, which is told; nothing is read, and no heap is opened
+  generated : (seed forms : ℕ) → AsksToGenerate words seed forms → input.after ≡ input.before → NoReadFailed input
+      → Comes words input (record { told = script_of_seed seed forms; last = Some last.Nothing; kept = None })
+  -- the sink failed while it was told; then a front of the script is, and nothing behind it
+  generated_in_part : (seed forms count : ℕ) → AsksToGenerate words seed forms → input.after ≡ input.before
+      → NoReadFailed input
+      → Comes words input (record { told = take count (script_of_seed seed forms); last = None; kept = None })
 
 -- the bytes of a last line, if there is one
 abbrev pub bytes_of : Option LastLine → List ℕ
@@ -162,6 +174,18 @@ IsKeptAt status kept =
     MatchOption kept (Contains (2 ∷ 4 ∷ 5 ∷ 6 ∷ 7 ∷ 64 ∷ []) status)
     (λ _. Contains (0 ∷ 1 ∷ 3 ∷ 5 ∷ 8 ∷ []) status)
 
+-- the words ask for a generated script, which was told whole: the status is 0, and no heap is kept
+pub record TellsScript (words : List (List ℕ)) (status : ℕ) (kept : Option Kept) : Type 0 where
+  pub seed : ℕ
+  pub forms : ℕ
+  pub asks : AsksToGenerate words seed forms
+  pub whole : status ≡ 0
+  pub none : kept ≡ None
+
+-- whether a heap is kept goes with the status, but for words that ask for a generated script
+abbrev pub IsKeptFor : List (List ℕ) → ℕ → Option Kept → Type 0
+IsKeptFor words status kept = IsKeptAt status kept ⊎ TellsScript words status kept
+
 -- The source is a script, and the heap that is kept of its run with these sizes shows the graph after the executed
 -- lines.
 abbrev pub KeepsGraph : Sizes → Result ScriptText BadScript → Kept → Type 0
@@ -184,4 +208,13 @@ pub record Runs (sizes : Sizes) (bytes : List ℕ) (old new : List ℕ → Type 
   pub kept : answer.kept ≡ ended.kept
   pub comes : (words : List (List ℕ)) (input : Input) → AsksToRun words sizes → ReadsAll input bytes
       → Comes words input answer
+  pub taken : Taken old new faults_old faults_new answer ended.status
+
+-- the same of a generated script, for all words that ask for it, where nothing is read
+pub record Generates (seed forms : ℕ) (old new : List ℕ → Type 0) (faults_old faults_new : ℕ)
+    (ended : Ended) : Type 0 where
+  pub answer : Answer
+  pub kept : answer.kept ≡ ended.kept
+  pub comes : (words : List (List ℕ)) (input : Input) → AsksToGenerate words seed forms
+      → input.after ≡ input.before → NoReadFailed input → Comes words input answer
   pub taken : Taken old new faults_old faults_new answer ended.status

@@ -7,6 +7,7 @@
 #![tactic(auto)]
 
 mod ended;
+mod generated;
 mod last_line;
 mod program;
 mod source_bytes;

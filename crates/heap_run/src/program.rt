@@ -11,10 +11,11 @@ ghost use Rattle.byte_ends.specs.Source.{IsInput};
 ghost use Rattle.byte_ends.specs.Sink.{Appends, AppendsSome};
 ghost use Rattle.heap_script.specs.Runs.{AreBuilt, IsCut};
 ghost use Rattle.heap_run.specs.Texts.{last_bytes, status_of};
-ghost use Rattle.heap_run.specs.Answers.{Answers, Runs, KeepsGraph, AsksToRun, IsKeptAt, Taken};
+ghost use Rattle.heap_run.specs.Answers.{Answers, Runs, KeepsGraph, AsksToRun, IsKeptFor, Taken};
 ghost use Rattle.heap_run.specs.Answers.{input_of, last_line_of, unopened};
 
 use crate::ended::{Ended, Kept};
+use crate::generated::write_generated;
 use crate::last_line::{LastLine, SINK_FAULT};
 use crate::source_bytes::{ReadStop, read_source};
 use byte_ends::{Sink, Source};
@@ -31,7 +32,8 @@ use tagged_word::NoMemory;
 
 /// Runs the program. `words` are the words of the command line without the program's name, `source`
 /// is the script, and `sink` takes what it writes and the last line. The heap has the sizes that the
-/// words give; threads and gates are not used.
+/// words give; threads and gates are not used. Where the words ask for a generated script, `sink`
+/// takes that, nothing is read, and there is no heap.
 ///
 /// Where a heap is kept, it shows the graph after the executed lines, whatever became of the bytes.
 pub fn run<S: Source, K: Sink, G: Gate, R: Threads + Sync>(
@@ -52,7 +54,7 @@ pub fn run<S: Source, K: Sink, G: Gate, R: Threads + Sync>(
         × KeepsGraph sizes (reading input) kept) }
     ensures whole { IfSome result.kept (λ _.
         IfSome (S.left source.old) (λ _. S.left source.new ≡ Some [])) }
-    ensures opened { IsKeptAt result.status result.kept }
+    ensures opened { IsKeptFor (map string_bytes words.now) result.status result.kept }
 {
     run_words(rt, alloc, words, source, sink, gate)
 }
@@ -81,6 +83,7 @@ fn run_words<S: Source, K: Sink, G: Gate, R: Threads + Sync>(
 {
     let sizes = match read_words(alloc, words) {
         Ok(Invocation::Run(sizes)) => sizes,
+        Ok(Invocation::Gen { seed, forms }) => return write_generated(alloc, seed, forms, sink),
         Ok(_) => unreachable!(),
         Err(WordsStop::BadWords) => return give_up(sink, LastLine::BadWords),
         Err(WordsStop::NoMemory) => return give_up(sink, LastLine::NoMemory),
@@ -94,7 +97,7 @@ fn run_words<S: Source, K: Sink, G: Gate, R: Threads + Sync>(
 }
 
 /// Ends without a heap.
-fn give_up<K: Sink>(sink: &mut K, last: LastLine) -> Ended
+pub(crate) fn give_up<K: Sink>(sink: &mut K, last: LastLine) -> Ended
     ensures unopened { result.kept ≡ None }
     ensures taken { Taken (K.HasTaken sink.old) (K.HasTaken sink.new)
         (K.faults sink.old) (K.faults sink.new) (unopened last) result.status }

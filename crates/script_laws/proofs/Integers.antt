@@ -13,7 +13,7 @@ use Rattle.script_laws.specs.Words.{Has64Bits, IntegersAreRead, IntegersAreWritt
 use Rattle.script_text.proofs.Numbers.{true_or_false, bytes_tell}
 
 -- each byte is a digit
-abbrev all_digits : List ℕ → Bool
+abbrev pub all_digits : List ℕ → Bool
 all_digits [] = true
 all_digits (b ∷ bs) = is_digit b && all_digits bs
 
@@ -27,7 +27,7 @@ own : IsNumeralModel (λ ds. all_digits ds ≡ true) (read_on 0)
 own = numerals_by_fold _ (search rules) read_on (search rules)
 
 -- both tests pass
-both : (a b : Bool) → a && b ≡ true → (a ≡ true) × (b ≡ true)
+pub both : (a b : Bool) → a && b ≡ true → (a ≡ true) × (b ≡ true)
 both true true e = (refl, refl)
 both true false e = cc
 both false b e = cc
@@ -63,6 +63,10 @@ digits_after-all (b ∷ bs) n v e =
           (joined (is_digit b) (all_digits bs) d later.0, later.1)
       | inr d ↦ absurd (none_some (sym (ap (λ t. cond t (digits_after (10 * n + (b - 48)) bs) None) d) ∙ e))
     ]
+
+-- what is written of a number is digits
+pub decimal-all_digits : (n : ℕ) → n < 2 ^ 64 → all_digits (decimal n) ≡ true
+decimal-all_digits n few = digits_decimal own n few
 
 -- digits make no less than what stands before them
 read_on-le : (ds : List ℕ) (n : ℕ) → n ≤ read_on n ds

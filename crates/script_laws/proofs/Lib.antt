@@ -1,5 +1,12 @@
 mod Again
 mod Feeds
+mod GeneratedForms
+mod GeneratedLines
+mod GeneratedLists
+mod GeneratedNames
+mod GeneratedScripts
+mod GeneratedSizes
+mod GeneratedWords
 mod Integers
 mod Naming
 mod Passing

@@ -15,7 +15,7 @@ slice_get-number_of names name h =
     ap (λ place. slice_get names (unwrap_or place 0)) here.place ∙ here.back
 
 -- only uses and names that were there are in the list after them
-only-fold : (uses names : List (List ℕ)) (name : List ℕ) → Contains (fold with_name names uses) name
+pub only-fold : (uses names : List (List ℕ)) (name : List ℕ) → Contains (fold with_name names uses) name
     → Contains names name ⊎ Contains uses name
 only-fold [] names name h = inl h
 only-fold (named ∷ uses) names name h =
@@ -45,7 +45,7 @@ AllPairs-with_name names new h =
     ]
 
 -- so do more names
-AllPairs-fold : (uses names : List (List ℕ)) → AllPairs (λ x y. x ≢ y) names
+pub AllPairs-fold : (uses names : List (List ℕ)) → AllPairs (λ x y. x ≢ y) names
     → AllPairs (λ x y. x ≢ y) (fold with_name names uses)
 AllPairs-fold [] names h = h
 AllPairs-fold (named ∷ uses) names h = AllPairs-fold uses (with_name names named) (AllPairs-with_name names named h)

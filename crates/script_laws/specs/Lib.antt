@@ -3,3 +3,4 @@ pub mod Words
 pub mod Refusals
 pub mod Execution
 pub mod Canonical
+pub mod Generated

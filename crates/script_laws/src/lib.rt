@@ -12,6 +12,7 @@ ghost use Rattle.script_laws.specs.Execution.{ScriptsAreWhole, UnrollsRuns, Unro
 ghost use Rattle.script_laws.specs.Execution.{GoesPastCommands, GoesIntoBlocks, GoesPastBlocks, GoesBack, GoesOut};
 ghost use Rattle.script_laws.specs.Execution.{EndsStandInBlocks, CountsOpenBlocks, FewBlocksAreOpen};
 ghost use Rattle.script_laws.specs.Canonical.{StatementsAreReadAgain, PrintedIsReadAgain};
+ghost use Rattle.script_laws.specs.Generated.{GeneratedAreScripts, GeneratedLinesAreShort, GeneratedAreShort};
 
 /// The names that get numbers are those that are used, each once, and the number of a name names it
 /// back.
@@ -65,4 +66,13 @@ pub fn execution_goes_on()
 pub fn printed_is_read_again()
     ensures statements { StatementsAreReadAgain }
     ensures scripts { PrintedIsReadAgain }
+{}
+
+/// A script that is generated is a script, within the limits, for every seed and every number of
+/// forms: no line of it is refused, and it has few names and short lines. With up to 30,000 forms it
+/// is no longer than a source may be.
+pub fn generated_scripts_are_read()
+    ensures scripts { GeneratedAreScripts }
+    ensures short_lines { GeneratedLinesAreShort }
+    ensures short { GeneratedAreShort }
 {}

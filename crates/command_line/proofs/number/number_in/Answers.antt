@@ -5,5 +5,5 @@ use Rattle.command_line.proofs.number.number_in.Goals as goal
 
 pub returns-in_default : goal.returns-in_default
 returns-in_default c =
-    unread_digits c.args.least c.args.most c.args.text.now c.parse.result c.in_default.field-0 (omega arith)
+    unread_digits 32 c.args.least c.args.most c.args.text.now c.parse.result c.in_default.field-0 (omega arith)
     (search rules) c.parse.ensures.value.0 c.in_default.is

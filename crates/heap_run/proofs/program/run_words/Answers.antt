@@ -1,8 +1,10 @@
 use Rattle.command_line.proofs.AskedSizes.{asked_sizes_are_within}
+use Rattle.command_line.proofs.AskedForms.{asked_forms_are_few}
 use Rattle.std.proofs.Common.{arith, inl, Some, refl, ap, ◌∙◌, map, string_bytes}
 use Rattle.heap_run.specs.declared.last_line.LastLine.TheVariants as last
-use Rattle.heap_run.specs.Answers.{Comes, AsksToRun}
+use Rattle.heap_run.specs.Answers.{Comes, AsksToRun, AsksToGenerate}
 use Rattle.heap_run.proofs.Answering.{Answers-unopened, Answers-runs, begins}
+use Rattle.heap_run.proofs.Generating.{Answers-generates}
 use Rattle.heap_run.proofs.program.run_words.Goals as goal
 
 pub run_source-requires-after_bounds : goal.run_source-requires-after_bounds
@@ -10,6 +12,19 @@ run_source-requires-after_bounds g c κs within =
     let asks : AsksToRun (map string_bytes c.args.words.now) c.in-Ok-Run.sizes =
     c.in-Ok-Run.ensures.invocation ∙ ap Some c.in-Ok-Run.field-0-is in
     asked_sizes_are_within (map string_bytes c.args.words.now) c.in-Ok-Run.sizes 0 asks (omega arith)
+
+pub write_generated-requires : goal.write_generated-requires
+write_generated-requires g c =
+    let asks : AsksToGenerate (map string_bytes c.args.words.now) c.in-Ok-Gen.seed c.in-Ok-Gen.forms =
+    c.in-Ok-Gen.ensures.invocation ∙ ap Some c.in-Ok-Gen.field-0-is in
+    asked_forms_are_few (map string_bytes c.args.words.now) c.in-Ok-Gen.seed c.in-Ok-Gen.forms asks
+
+pub returns-in-Ok-Gen : goal.returns-in-Ok-Gen
+returns-in-Ok-Gen g c =
+    let asks : AsksToGenerate (map string_bytes c.args.words.now) c.in-Ok-Gen.seed c.in-Ok-Gen.forms =
+    c.in-Ok-Gen.ensures.invocation ∙ ap Some c.in-Ok-Gen.field-0-is in
+    Answers-generates _ _ c.in-Ok-Gen.seed c.in-Ok-Gen.forms _ _ _ _ c.write_generated.result asks refl refl
+    c.write_generated.ensures
 
 pub returns-in-Err-BadWords : goal.returns-in-Err-BadWords
 returns-in-Err-BadWords g c =
