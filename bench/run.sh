@@ -38,6 +38,22 @@ printf 'weak m\nnew k 0\nwput m k 1\nrepeat 1000000\nwput m k 2\nwget y m k\nend
 printf 'weak m\nnew k 0\nrepeat 1000000\nwput m k 1\nwdel m k\nend\n' | script entry_gone 3000003
 printf 'weak m\nrepeat 8\nnew k 0\nwput m k 1\nrepeat 15\nnew x 0\nend\nend\nrepeat 1000000\nwget y m k\nend\n' |
   script one_home 2000275
+# Full collections: a chain of 180,000 objects that live, and 60 pages beside little that does; chains of entries through
+# 1,000 and 30,000 weak maps, of which marking meets the last first; and a map whose 256 keys, of one home, all die.
+chain='let p undefined\nrepeat %d\nnew x 2\nset x n p\nlet p x\nend\nrepeat %d\ngc\nend\n'
+# shellcheck disable=SC2059
+printf "$chain" 180000 20 | script deep_chain 720043 --pages 400
+# shellcheck disable=SC2059
+printf "$chain" 100 20000 | script small_heap 40403
+maps='new k 0\nlet f k\nlet p undefined\nrepeat %d\nweak m\nnew j 0\nwput m k j\nnew x 2\nset x m m\nset x n p\nlet p x\n'
+maps+='let k j\nend\ndrop k\ndrop j\ndrop m\nrepeat 20\ngc\nend\ncensus\n'
+# shellcheck disable=SC2059
+printf "$maps" 1000 | script maps_1000 9049 --pages 400
+# shellcheck disable=SC2059
+printf "$maps" 30000 | script maps_30000 270049 --pages 400
+printf 'weak m\nlist l\nrepeat 256\nnew k 0\nwput m k 1\npush l k\nrepeat 511\nnew x 0\nend\nend\ndrop k\ndrop l\ngc\n' |
+  script clear_one_home 262918
+printf 'weak m\nrepeat 200000\nnew k 0\nwput m k 1\nend\n' | script keys_that_die 600002
 printf 'repeat 13107\nnew x 3\nend\n' | script new 26215 --young 65536
 printf 'repeat 7000\nnew x 1\nset x a 1\nset x a 5000000000\nset x a x\nend\n' | script representations 35001 --young 65536
 printf '' | script empty 0

@@ -1,16 +1,15 @@
 #!/usr/bin/env python3
 """A second, simple program beside `heaprun`: it runs a script on a modelled heap, and writes what `heaprun` must write.
 
-usage: tools/model.py [--ephemerons] [--lines] WORD.. < SCRIPT
+usage: tools/model.py [--lines] WORD.. < SCRIPT
 
 The words are those of `heaprun`. What a script means is done on plain Python objects. Of the heap only what decides
 where words are found is there: how many words each cell has, which cells its slots refer to, whether it is young, and
 where it stands in a page. It is written from docs/ and the definitions of needs and rooms, and reads nothing of the
 program, so what it says is a value from outside for rows/.
 
-As it is called, an entry of a weak map leads to its key and its value, as `heaprun` takes it. With `--ephemerons` it ends
-with its key, and the commands `gc` and `census` are there too. With `--lines` the number of executed
-lines is told on standard error. The grammar is in model_script.py, cells and heap are in model_heap.py.
+With `--lines` the number of executed lines is told on standard error. The grammar is in model_script.py, cells and heap
+are in model_heap.py.
 """
 import os
 import sys
@@ -36,8 +35,8 @@ class Fault(Exception):
 class Machine:
     """What a script has made: variables, objects, field paths and output. A method `do_..` is a command."""
 
-    def __init__(self, sizes, variables, ephemerons):
-        self.heap = Heap(sizes, variables, ephemerons)
+    def __init__(self, sizes, variables):
+        self.heap = Heap(sizes, variables)
         self.bound = self.heap.bound
         self.made = 0
         self.paths = {(cap, ()) for cap in range(CAP_MOST + 1)}
@@ -190,7 +189,7 @@ class Machine:
     def do_wput(self, m, k, v):
         weak, key, value = self.read(WeakMap, m, k, v)
         key, boxed = found(key, Object, "badkey"), is_wide(value)
-        if self.heap.ephemerons and weak.is_full_for(key):
+        if weak.is_full_for(key):
             self.heap.collect()
         if weak.is_full_for(key):
             raise Fault("weakfull")
@@ -310,14 +309,14 @@ def run_lines(machine, lines):
     return 0, "", executed
 
 
-def run(words, source, ephemerons=False):
+def run(words, source):
     """What the program comes to with these words on this source."""
     sizes = sizes_of(words)
     if sizes is None:
         return Result(64, b"bad words\n")
     if len(source) > SOURCE_BYTES_MOST:
         return Result(6, b"source too long\n")
-    reader = Reader(ephemerons)
+    reader = Reader()
     try:
         lines = source.split(b"\n")
         for number, line in enumerate(lines[:-1] if not lines[-1] else lines, 1):
@@ -326,19 +325,17 @@ def run(words, source, ephemerons=False):
     except Refused as refused:
         number, reason = refused.args
         return Result(2, f"bad script {number} {reason}\n".encode())
-    machine = Machine(sizes, len(reader.variables), ephemerons)
+    machine = Machine(sizes, len(reader.variables))
     status, last, executed = run_lines(machine, reader.lines)
     return Result(status, b"".join(machine.output) + last.encode(), executed)
 
 
 def main():
     words = [os.fsencode(it) for it in sys.argv[1:]]
-    flags = []
-    while words and words[0] in (b"--ephemerons", b"--lines"):
-        flags.append(words.pop(0))
-    result = run(words, sys.stdin.buffer.read(), b"--ephemerons" in flags)
+    tells_lines = words[:1] == [b"--lines"]
+    result = run(words[tells_lines:], sys.stdin.buffer.read())
     sys.stdout.buffer.write(result.output)
-    if b"--lines" in flags:
+    if tells_lines:
         print(f"model: {result.lines} lines", file=sys.stderr)
     return result.status
 

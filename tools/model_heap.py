@@ -220,9 +220,8 @@ def box_need(boxed, held=None):
 class Heap:
     """Which words are free: of eden, and of each page by runs."""
 
-    def __init__(self, sizes, variables, ephemerons):
-        # Whether an entry of a weak map ends with its key. Else it leads to its key and its value.
-        self.sizes, self.ephemerons = sizes, ephemerons
+    def __init__(self, sizes, variables):
+        self.sizes = sizes
         self.bound = [UNBOUND] * variables
         self.used = self.survivors = self.scavenges = 0
         # The free runs of each page, as addresses and words, and the words of the longest one.
@@ -288,7 +287,7 @@ class Heap:
         copies.append(cell)
 
     def reached(self):
-        """The objects that are reached: with ephemerons the value of an entry is where its map and its key are."""
+        """The objects that are reached: the value of an entry is where its map and its key are."""
         found, waiting = {}, {}
         left = list(self.bound)
         while left:
@@ -301,10 +300,7 @@ class Heap:
                 left += [it.value for it in one.held()]
                 continue
             for key, it in one.entries.items():
-                if not self.ephemerons:
-                    left += [key, it.value]
-                else:
-                    (left if key in found else waiting.setdefault(key, [])).append(it.value)
+                (left if key in found else waiting.setdefault(key, [])).append(it.value)
         return found
 
     def collect(self):
@@ -350,16 +346,15 @@ class Heap:
     def make_room(self, need_of):
         """Finds the words that a command needs. Behind a full collection it is asked again how many these are."""
         self.granted = None
-        need, refused = need_of(), None
+        need = need_of()
         if not need or self.has_eden(need):
             return
         self.scavenge(False)
-        while not self.serve(need):
-            if need == refused:
-                raise Full
-            refused = need
-            self.collect()
-            need = need_of()
+        if self.serve(need):
+            return
+        self.collect()
+        if not self.serve(need_of()):
+            raise Full
 
     def place(self, cell):
         """Gives a new cell its words, of those that were found for the command."""

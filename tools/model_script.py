@@ -79,7 +79,7 @@ OPERANDS = {
     "alike": (X, X), "shape": (X,), "scavenge": (), "mark": (), "finish": (), "gc": (), "census": (),
     "repeat": (TURNS_MOST,), "end": (),
 }
-NOT_BUILT = {False: {"mark", "finish", "gc", "census"}, True: {"mark", "finish"}}
+NOT_BUILT = {"mark", "finish"}
 NAME = re.compile(rb"[A-Za-z_][A-Za-z0-9_]{0,31}")
 INTEGER = re.compile(rb"0|-?[1-9][0-9]{0,18}")
 
@@ -99,8 +99,7 @@ def is_name(token):
 class Reader:
     """Reads a source line by line. Variables are numbered in the order in which they are named."""
 
-    def __init__(self, ephemerons):
-        self.not_built = NOT_BUILT[ephemerons]
+    def __init__(self):
         self.lines, self.opened = [], []
         self.variables, self.fields = {}, {}
         self.past_names = None
@@ -136,7 +135,7 @@ class Reader:
         command = tokens[0].decode("latin-1")
         if command not in OPERANDS:
             raise Refused(number, "command")
-        if command in self.not_built:
+        if command in NOT_BUILT:
             raise Refused(number, "notbuilt")
         if len(tokens) - 1 != len(OPERANDS[command]):
             raise Refused(number, "count")

@@ -99,7 +99,6 @@ module _ {old new : Mutator} {graph : Graph} {at : ℕ} {list : ListObject} {aft
     among = first_in trimmed.shown.cell trimmed.pieces;
     carries = trimmed.shown.carries;
     shows = λ marks reached. list_shows trimmed.trim;
-    counts = tt;
   }
 
   -- so the heap shows the graph in which the list has these

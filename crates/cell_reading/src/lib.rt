@@ -1,7 +1,8 @@
-//! Reading a cell where one is known to stand: a full collection visits such cells when it marks, and
-//! again when it goes along the rows of pages.
+//! Reading a cell where one is known to stand, and how far rows of cells go: a full collection visits
+//! such cells when it marks, and it goes along the rows when it sweeps, as a census does.
 //!
-//! Model: none of its own. `StandsAt` of `specs/Standing.antt` says which cell stands at an address.
+//! Model: none of its own. `StandsAt` of `specs/Standing.antt` says which cell stands at an address,
+//! and `IsLimit` of `specs/Limits.antt` where a row ends at the latest.
 //! Invariant: none. A call changes nothing, and reads three words at most: the header, the layout word
 //! of its shape, and the length of a kind that has one.
 #![tactic(auto)]
@@ -14,7 +15,10 @@ ghost use Rattle.heap_table.specs.declared.phase.Phase.TheVariants.{Quiet};
 ghost use Rattle.heap_table.specs.Seats.{heap_words};
 ghost use Rattle.cell_reading.specs.Standing.{StandsAt};
 
+mod limits;
+
 use cell_layout::Cell;
+pub use limits::{goes_on, row_limit};
 use tagged_word::{Kind, LayoutWord};
 use write_barrier::Main;
 

@@ -8,7 +8,7 @@ pub mod ImageStores
 pub mod ImagesTight
 pub mod ImagesFree
 pub mod ImagesStuck
-pub mod ImagesRooted
+pub mod ImagesExact
 pub mod Keeping
 pub mod MadeRoom
 pub mod CollectedAll

@@ -1,5 +1,5 @@
 -- Laws of images of a heap: what they show, which rooms objects have in them, which runs of pages are free, what is
--- young, and what is reached from variables.
+-- young, and that nothing is kept that can not be reached.
 use Rattle.std.specs.Prelude.{◌≡◌, ℕ, ◌↔◌, List}
 use Rattle.object_graph.specs.Graphs.{Graph}
 use Rattle.heap_model.specs.Types.{Run}
@@ -12,7 +12,8 @@ use Rattle.heap_model.specs.Slots.{IsPlace}
 use Rattle.heap_model.specs.Needs.{capacity_at}
 use Rattle.heap_model.specs.Rooms.{Room, HasRooms}
 use Rattle.scavenger.specs.Laws.{IsStuck}
-use Rattle.root_mark.specs.Rooted.{FreeIsRun, KeepsRooted}
+use Rattle.live_cells.specs.Exact.{Exact}
+use Rattle.live_cells.specs.Fitting.{DeadIsFree}
 use Rattle.collector.specs.Images.{IsImageOf}
 
 -- An image shows each graph that the heap shows, so it is whole.
@@ -52,13 +53,12 @@ ImagesStayStuck =
     (heap image : Heap) (rows : List (List Run)) → Whole heap → IsStuck heap rows → IsImageOf heap image
     → IsStuck image rows
 
--- An image of a whole heap that keeps only what is reached from variables is such a heap too.
-abbrev pub ImagesKeepRooted : Type 0
-ImagesKeepRooted =
-    (heap image : Heap) → Whole heap → KeepsRooted heap → IsImageOf heap image → KeepsRooted image
+-- An image of a heap that keeps exactly what can be reached keeps exactly that too.
+abbrev pub ImagesAreExact : Type 0
+ImagesAreExact = (heap image : Heap) (graph : Graph) → Exact heap graph → IsImageOf heap image → Exact image graph
 
--- Where each free word of a page of a whole heap is in one of these runs, it is so in an image.
-abbrev pub ImagesKeepRuns : Type 0
-ImagesKeepRuns =
-    (heap image : Heap) (rows : List (List Run)) → Whole heap → FreeIsRun heap rows → IsImageOf heap image
-    → FreeIsRun image rows
+-- Where each dead word of a page of a whole heap is in one of these runs, it is so in an image.
+abbrev pub ImagesKeepDead : Type 0
+ImagesKeepDead =
+    (heap image : Heap) (rows : List (List Run)) → Whole heap → DeadIsFree heap rows → IsImageOf heap image
+    → DeadIsFree image rows

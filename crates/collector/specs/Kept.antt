@@ -12,6 +12,6 @@ state_of heap = record {
     image = heap.spare;
     reserved = vec_capacity heap.memory;
     places = vec_capacity heap.list;
-    marks = heap.cells.bound;
+    marks = heap.marking.bound;
   };
 }

@@ -1,6 +1,5 @@
 pub mod States
 pub mod Making
-pub mod Collecting
 pub mod Kept
 pub mod Lending
 pub mod Images

@@ -1,17 +1,18 @@
-//! Collections: a scavenge of the young generation, and a full collection.
+//! Collections: a scavenge of the young generation, a full collection, and the census of what it keeps.
 ghost use Rattle.std.specs.Prelude.{◌≡◌, false};
 ghost use Rattle.object_graph.specs.Graphs.{Graph};
+ghost use Rattle.object_graph.specs.Reach.{reached_objects, reached_entries};
 ghost use Rattle.scavenger.specs.Scavenged.{Scavenges};
 ghost use Rattle.scavenger.specs.Laws.{KeepsGraphs};
-ghost use Rattle.collector.specs.Making.{CollectsAll};
-ghost use Rattle.collector.specs.Collecting.{SweepsUnrooted};
+ghost use Rattle.exact_heaps.specs.Collected.{CollectsAll};
 ghost use Rattle.collector.specs.States.{HeapShows};
 
 use crate::script_heap::Heap;
-use page_space::Run;
-use root_mark::mark_rooted;
+use exact_heaps::laws_of_collections;
+use heap_census::{Census, count_cells};
+use live_cells::laws_of_counts;
+use mark_sweep::mark_sweep;
 use scavenger::scavenge;
-use sweeper::sweep;
 
 impl Heap {
     /// Copies the live cells of the young generation, so that eden is empty: a survivor to a page, if a
@@ -38,30 +39,34 @@ impl Heap {
         self.collect(false);
     }
 
-    /// Makes free all to which no references lead from variables, in pages too. What was granted of a page
-    /// is not any more: it is free, as far as no cell was made in it.
-    fn sweep_unrooted(&mut self)
+    /// Keeps exactly what can be reached, and promotes it, as far as free runs of pages have its words.
+    /// Pairs of weak maps whose keys cannot be reached are taken out, and all else is made free, in pages
+    /// too. What was granted of a page is not any more.
+    pub fn collect_all(&mut self)
         requires shown { (graph : Graph) × HeapShows self.old graph }
-        ensures swept { SweepsUnrooted self.old.main self.new.main }
+        ensures collected { (graph : Graph) → HeapShows self.old graph →
+            CollectsAll self.old.main self.new.main graph }
         ensures shows { (graph : Graph) → HeapShows self.old graph → HeapShows self.new graph }
-        ensures rooms { KeepsGraphs self.old.main self.new.main }
         ensures spare { self.new.spare ≡ self.old.spare }
     {
-        self.main.nursery_mut().grant(Run { at: 0, words: 0 });
-        mark_rooted(&self.main, &mut self.cells);
-        sweep(&mut self.main, &self.cells);
+        laws_of_collections();
+        mark_sweep(&mut self.main, &mut self.marking);
+        self.collect(true);
     }
 
-    /// Keeps what references lead to from variables, where pairs of weak tables are slots like others, and
-    /// promotes it, as far as free runs have its words. All else becomes free, in pages too.
-    pub(crate) fn collect_all(&mut self)
+    /// Collects fully, and counts what is kept: the objects that can be reached, and the entries of weak
+    /// maps whose map and key can.
+    pub fn census(&mut self) -> Census
         requires shown { (graph : Graph) × HeapShows self.old graph }
-        ensures collected { CollectsAll self.old.main self.new.main }
+        ensures counted { (graph : Graph) → HeapShows self.old graph →
+            (result.objects ≡ reached_objects graph) × (result.entries ≡ reached_entries graph) }
+        ensures collected { (graph : Graph) → HeapShows self.old graph →
+            CollectsAll self.old.main self.new.main graph }
         ensures shows { (graph : Graph) → HeapShows self.old graph → HeapShows self.new graph }
-        ensures rooms { KeepsGraphs self.old.main self.new.main }
         ensures spare { self.new.spare ≡ self.old.spare }
     {
-        self.sweep_unrooted();
-        self.collect(true);
+        self.collect_all();
+        laws_of_counts();
+        count_cells(&self.main)
     }
 }

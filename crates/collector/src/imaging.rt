@@ -98,7 +98,7 @@ impl Heap {
             spare,
             memory: _,
             list: _,
-            cells: _,
+            marking: _,
             alloc: _,
         } = self;
         spare

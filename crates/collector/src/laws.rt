@@ -1,13 +1,13 @@
 //! Laws of images.
 ghost use Rattle.collector.specs.ImageLaws.{ImagesShow, ImagesAreBlank, ImagesKeepStores};
 ghost use Rattle.collector.specs.ImageLaws.{ImagesHaveRooms, ImagesAreTight, ImagesKeepFree};
-ghost use Rattle.collector.specs.ImageLaws.{ImagesStayStuck, ImagesKeepRooted, ImagesKeepRuns};
+ghost use Rattle.collector.specs.ImageLaws.{ImagesStayStuck, ImagesAreExact, ImagesKeepDead};
 
 /// An image shows each graph that the heap shows, and has no word but 0 where no cell stands. Each
 /// object stands there where it stood, with a store of as many slots, and a command allocates as many
 /// words on it as on the heap. It keeps only what is reached, if the heap does, and its pages have the
-/// free runs of the heap. What is young is longer than each of these, if it is in the heap. What is not free is
-/// reached from variables, and each free word of a page is in one of these runs, if it is so in the heap.
+/// free runs of the heap. What is young is longer than each of these, if it is in the heap. It keeps exactly
+/// what can be reached, and each dead word of a page is in one of these runs, if it is so in the heap.
 pub fn laws_of_images()
     ensures show { ImagesShow }
     ensures blank { ImagesAreBlank }
@@ -16,6 +16,6 @@ pub fn laws_of_images()
     ensures tight { ImagesAreTight }
     ensures free { ImagesKeepFree }
     ensures stuck { ImagesStayStuck }
-    ensures rooted { ImagesKeepRooted }
-    ensures runs { ImagesKeepRuns }
+    ensures exact { ImagesAreExact }
+    ensures dead { ImagesKeepDead }
 {}

@@ -4,9 +4,9 @@
 //! memory that an image of it is copied into, the places of the list of a scavenge, and the bound of
 //! what can be marked.
 //! Invariant: none over the mutator's side, which is lent. `HeapShows` of `specs/States.antt` is
-//! what holds between two commands. `CollectsFor` of `specs/Making.antt` says which collections make
-//! room, and `CollectsAll` what a full one leaves. `IsImageOf` of `specs/Images.antt` says what an image is, and
-//! `laws_of_images` what it shows.
+//! what holds between two commands. `MakesRoom` of `specs/Making.antt` says how room is made, and
+//! `CollectsAll` of `exact_heaps` what a full collection leaves. `IsImageOf` of `specs/Images.antt`
+//! says what an image is, and `laws_of_images` what it shows.
 #![tactic(auto)]
 
 mod collecting;
@@ -18,5 +18,4 @@ mod row_ends;
 mod script_heap;
 
 pub use laws::laws_of_images;
-pub use room::Full;
 pub use script_heap::Heap;

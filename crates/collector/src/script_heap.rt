@@ -7,7 +7,7 @@ ghost use Rattle.page_space.specs.Extents.{roots_start};
 ghost use Rattle.heap_table.specs.Seats.{fresh};
 ghost use Rattle.write_barrier.specs.MutatorState.{IsOpened};
 
-use cell_list::CellList;
+use ephemeron_mark::Marking;
 use heap_model::{HeapImage, HeapWords};
 use heap_table::MainSeat;
 use page_space::Regions;
@@ -29,8 +29,8 @@ pub struct Heap {
     pub(crate) memory: Vec<u64>,
     // The list of a scavenge: which copies are to be looked at.
     pub(crate) list: Vec<u32>,
-    // What a full collection marks.
-    pub(crate) cells: CellList,
+    // What a full collection marks, and which pairs of weak maps wait for their keys.
+    pub(crate) marking: Marking,
     // What an empty list of words is made with. It gives no memory after the heap is opened.
     pub(crate) alloc: Global,
 }
@@ -88,13 +88,13 @@ impl Heap {
         let spare = spare_image(alloc, main.regions())?;
         let memory = Vec::with_capacity(alloc, main.count() as usize)?;
         let list = Vec::with_capacity(alloc, regions.sizes().young as usize)?;
-        let cells = CellList::new(alloc, cells_end(regions))?;
+        let marking = Marking::new(alloc, cells_end(regions))?;
         Ok(Heap {
             main,
             spare,
             memory,
             list,
-            cells,
+            marking,
             alloc,
         })
     }

@@ -53,12 +53,12 @@ pub record TakesUnmarked (old new : Mutator) (maps marked : List ℕ) : Type 0 w
       → capacity_at (heap_of new) at ≡ capacity_at (heap_of old) at
   pub named : (map : ℕ) (pairs : List Pair) → HasPairsAt (heap_of old) map pairs
       → word_at (heap_of new) (map + store_slot) ≡ word_at (heap_of old) (map + store_slot)
-  -- and counts no more entries
+  -- and counts no more filled pairs
   pub counts : (map : ℕ) → IsWeakCellAt (heap_of old) map → count_at (heap_of new) map ≤ count_at (heap_of old) map
   -- all words are as they were but the counts of the maps and their pairs
   pub stay : (word : ℕ) → IsBesideMaps (heap_of old) maps word
       → slice_get (heap_words new.seat) word ≡ slice_get (heap_words old.seat) word
-  -- of the pairs of each weak map those with marked keys are left, and of one that is none of these all
+  -- no pair with a marked key was taken out of a weak map, and of one that is none of these none at all
   pub left : (map : ℕ) (before : List Pair) → HasPairsAt (heap_of old) map before
       → HasLeft (heap_of new) map marked before
   pub others : (map : ℕ) (pairs : List Pair) → (Contains maps map → ⊥) → HasPairsAt (heap_of old) map pairs

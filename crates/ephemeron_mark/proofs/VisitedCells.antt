@@ -28,11 +28,12 @@ pub marked_among : (cells : Listing) (at : ℕ) → Contains cells.addresses at
 marked_among cells at there =
     record { place = there.0; below = there.1; there = element_at cells.addresses at there }
 
--- one that is among one more is among the first so many, or stands at that place
+-- a cell is among the first so many that were marked, or is the next one
 pub data WhichAmong (cells : Listing) (count at : ℕ) : Type 0 where
   before : IsAmong cells count at → WhichAmong cells count at
   last : slice_get cells.addresses count ≡ Some at → WhichAmong cells count at
 
+-- so it is with one among the first so many and one more
 pub which_among : (cells : Listing) (count at : ℕ) → IsAmong cells (count + 1) at → WhichAmong cells count at
 which_among cells count at among =
     elim (cases_lt among.place count) [

@@ -1,54 +1,38 @@
 -- An entry of a weak map was removed.
-use Rattle.std.proofs.Common.{◌≡◌, ◌≢◌, ℕ, ◌+◌, Bool, true, false, cond, List, [], ◌∷◌, length, Some, None, slice_get}
-use Rattle.std.proofs.Common.{get_or, set, refl, sym, ◌∙◌, ap, subst, arith, ◌==◌}
+use Rattle.std.proofs.Common.{◌≡◌, ◌≢◌, ℕ, Bool, true, false, cond, List, [], ◌∷◌, Some, None, slice_get, unwrap_or}
+use Rattle.std.proofs.Common.{get_or, set, refl, sym, ◌∙◌, ap, subst, ◌==◌}
 use Rattle.std.specs.Prelude.{slice_set}
 use Rattle.std.proofs.lemmas.List.{set-get_or}
 use Rattle.std.proofs.lemmas.Option.{none-some, get_or_from_slice_get}
-use Rattle.heap_model.specs.Types.{Value, Entry, Object}
+use Rattle.heap_model.specs.Types.{Entry, Object}
 use Rattle.object_graph.specs.declared.object.Object.TheVariants.{Weak}
 use Rattle.object_graph.specs.Objects.{entry_value, without_entry}
 use Rattle.object_graph.specs.Graphs.{Graph, WeakObject}
 use Rattle.object_graph.specs.Meaning.{reweave}
 use Rattle.heap_table.specs.Seats.{heap_words}
 use Rattle.heap_table.specs.Staying.{rest_stays_itself}
-use Rattle.heap_model.specs.Heaps.{words_of_cell}
 use Rattle.heap_model.specs.Slots.{RefersToPlace}
-use Rattle.heap_model.specs.Kinds.{HasWord, Pair, count_offset}
-use Rattle.heap_model.specs.Needs.{capacity_at, count_at}
+use Rattle.heap_model.specs.Kinds.{Pair}
+use Rattle.heap_model.specs.Needs.{capacity_at}
+use Rattle.heap_model.specs.Rooms.{room_without}
 use Rattle.write_barrier.specs.MutatorState.{Mutator, heap_of, MainShows}
 use Rattle.object_cells.specs.Capacities.{ChangesObject}
 use Rattle.object_cells.proofs.NothingUsed.{room_for_none, uses_none, nothing_changes}
 use Rattle.object_cells.proofs.TakenRuns.{bumped_none, takes_none}
 use Rattle.ephemeron_table.proofs.KeptTables.{tables_stay}
-use Rattle.ephemeron_table.specs.EntryChanges.{DeletesEntry}
+use Rattle.ephemeron_table.specs.EntryChanges.{map_room, DeletesEntry}
 use Rattle.ephemeron_table.specs.WeakObjects.{IsWeakAt}
 use Rattle.weak_pairs.specs.Pairs.{IsFilledAt}
 use Rattle.ephemeron_table.specs.PairLaws.{PutsOne, WrittenEntriesShow}
 use Rattle.ephemeron_table.specs.Removals.{RemovesAt}
 use Rattle.weak_pairs.specs.Tables.{pairs_of}
 use Rattle.weak_pairs.specs.declared.table.Table.{Table}
-use Rattle.weak_pairs.proofs.CountedPairs.{count_filled}
 use Rattle.ephemeron_table.proofs.EntryPairs.{HasEntryPair, shown, known, some, entry_filled, entry_refers}
 use Rattle.ephemeron_table.proofs.EntryPairs.{entry_only}
-use Rattle.ephemeron_table.proofs.KnownTables.{KnownMap, count_is}
+use Rattle.ephemeron_table.proofs.KnownTables.{KnownMap}
 use Rattle.ephemeron_table.proofs.MapTouches.{removed_remembers}
-use Rattle.ephemeron_table.proofs.MapsWithout.{refills_weak, refers_back, slot_stays, count_after}
+use Rattle.ephemeron_table.proofs.MapsWithout.{refills_weak, refers_back, slot_stays}
 use Rattle.weak_pairs.proofs.FilledPairs.{free_not_filled, same_filled}
-
--- without an entry that has a value there is one less, by whether the first has the key
-less_by : (test : Bool) (entry : Entry) (entries : List Entry) (key : ℕ) (value : Value)
-    → cond test (Some entry.value) (entry_value entries key) ≡ Some value
-    → (entry_value entries key ≡ Some value → length (without_entry entries key) + 1 ≡ length entries)
-    → length (cond test entries (entry ∷ without_entry entries key)) + 1 ≡ length (entry ∷ entries)
-less_by true entry entries key value is rest = omega arith
-less_by false entry entries key value is rest = omega (arith, rest is)
-
--- so it is of all
-pub length-without_entry : (entries : List Entry) (key : ℕ) (value : Value) → entry_value entries key ≡ Some value
-    → length (without_entry entries key) + 1 ≡ length entries
-length-without_entry [] key value is = absurd (none-some value is)
-length-without_entry (entry ∷ entries) key value is =
-    less_by (entry.key == key) entry entries key value is (length-without_entry entries key value)
 
 -- where no entry has the key, none is removed, by whether the first has it
 same_by : (test : Bool) (entry : Entry) (entries : List Entry) (key : ℕ)
@@ -86,6 +70,7 @@ deletes_none main graph map weak number shows is none =
       none = λ no_entry. refl;
       uses = uses_none (rest_stays_itself main.seat) refl refl;
       changes = nothing_changes (heap_of main) map (capacity_at (heap_of main) map) refl;
+      counts = ap (λ found. (room_without (map_room main map weak) found).entries) (sym none);
       shows = subst (MainShows main) (sym same) shows;
     }
 
@@ -134,24 +119,6 @@ module _ {old new : Mutator} {graph : Graph} {map key : ℕ} {weak : WeakObject}
             free_not_filled (pairs_of (heap_words new.seat) table) removes.hole pair removes.free is_filled;
       }
 
-  -- so many entries are left as are counted
-  counted : HasWord (words_of_cell (heap_of new) (shown its).cell) count_offset
-      (length (without_entry weak.entries number))
-  counted =
-      let removes = deleting.removes in
-      let all : count_at (heap_of old) map ≡ length weak.entries =
-      its.shows.counts weak.number map weak.entries its.is.object its.is.reached its.is.place in
-      let same : count_filled (pairs_of (heap_words new.seat) table) ≡ length (without_entry weak.entries number) =
-      omega (
-        arith,
-        all,
-        count_is is_known,
-        removes.removed.counted one (entry_filled its),
-        length-without_entry weak.entries number its.told.value its.told.is_entry,
-      ) in
-      subst (HasWord (words_of_cell (heap_of new) (shown its).cell) count_offset) same
-      (count_after is_known (some its) removes one (entry_filled its))
-
   pub deletes_entry : WrittenEntriesShow → DeletesEntry old new graph map weak number
   deletes_entry entries_show =
       let removes = deleting.removes in
@@ -162,9 +129,11 @@ module _ {old new : Mutator} {graph : Graph} {map key : ℕ} {weak : WeakObject}
         changes = subst (λ at. ChangesObject (heap_of old) (heap_of new) at (capacity_at (heap_of old) at))
             (shown its).stands (tables_stay refills
             (slot_stays is_known (some its) removes one (entry_filled its)));
+        counts = ap (λ found. unwrap_or found 0) removes.counted
+            ∙ ap (λ found. (room_without (map_room old map weak) found).entries) (sym its.told.is_entry);
         shows = entries_show old new graph weak (shown its).cell _ [] number None its.shows its.is.object its.is.reached
             its.is_key.reached (shown its).carries (shown its).shows (λ what is. absurd (none-some what is))
             (takes_none removes.rest (room_for_none old is_known.tied is_known.whole)
-            (removes.young ∙ sym (bumped_none old.young))) refills puts_one counted
+            (removes.young ∙ sym (bumped_none old.young))) refills puts_one
             (removed_remembers is_known (some its) removes);
       }

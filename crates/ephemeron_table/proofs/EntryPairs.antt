@@ -1,5 +1,5 @@
 -- The pair of a weak map's entry: it alone has the key, and what putting a value there takes.
-use Rattle.std.proofs.Common.{◌≡◌, ℕ, ◌+◌, ◌*◌, ◌<◌, Some, not, ◌&&◌, slice_get, unwrap_or, sym, ◌∙◌, ap}
+use Rattle.std.proofs.Common.{◌≡◌, ℕ, ◌+◌, ◌*◌, ◌<◌, List, Some, not, ◌&&◌, slice_get, unwrap_or, sym, ◌∙◌, ap}
 use Rattle.std.proofs.Common.{arith}
 use Rattle.page_space.specs.Sizes.{AreWithin}
 use Rattle.heap_model.specs.Types.{Value, Held}
@@ -8,7 +8,7 @@ use Rattle.heap_table.specs.Seats.{heap_words}
 use Rattle.heap_model.specs.Slots.{reference_word, IsSlotWord, RefersToPlace}
 use Rattle.heap_model.specs.Kinds.{Pair}
 use Rattle.heap_model.specs.Showing.{ShowsHeld}
-use Rattle.heap_model.specs.Needs.{word_at, box_need, is_box_word}
+use Rattle.heap_model.specs.Needs.{count_at, word_at, box_need, is_box_word}
 use Rattle.heap_model.specs.Rooms.{is_wide, wput_need, wput_need_by}
 use Rattle.heap_model.proofs.ShownBoxes.{value_boxed}
 use Rattle.heap_model.proofs.SlotWords.{value_is_slot}
@@ -25,7 +25,8 @@ use Rattle.object_cells.proofs.FilledSlots.{held_put}
 use Rattle.ephemeron_table.specs.EntryChanges.{map_room}
 use Rattle.ephemeron_table.proofs.KeysFound.{WeakShown, weak_shown, shown_pairs, shown_sound, key_filled, one_key}
 use Rattle.ephemeron_table.proofs.KeysFound.{TellsPair, key_told}
-use Rattle.ephemeron_table.proofs.KnownTables.{shown_known, KnownMap, within_words}
+use Rattle.ephemeron_table.proofs.KnownTables.{shown_known, KnownMap, count_is, within_words}
+use Rattle.weak_pairs.proofs.CountedPairs.{count_freed}
 use Rattle.weak_pairs.proofs.PairLists.{pairs_are}
 
 -- The map is shown, and its entry of the key stands at the place.
@@ -81,6 +82,12 @@ module _ {old : Mutator} {graph : Graph} {map key : ℕ} {weak : WeakObject} {nu
     stands = ap (λ all. slice_get all place) pairs_same ∙ has.told.there;
     filled = key_filled has.told.pair key has.told.key_is;
   }
+
+  -- so some pair is counted
+  pub entry_counted : 0 < count_at (heap_of old) map
+  entry_counted =
+      let all : List Pair = pairs_of (heap_words old.seat) table in
+      omega (arith, count_is known, count_freed all place has.told.pair entry_filled.stands entry_filled.filled)
 
   pub entry_refers : RefersToPlace (heap_of old) has.told.pair.key number
   entry_refers = record { at = key; refers = has.told.key_is; place = has.is_key.place }

@@ -38,7 +38,7 @@ all_counted (first ∷ pairs) filled =
       sum_by-cons (λ (one : Pair). cond (not (is_free_pair one)) 1 0) first pairs,
     )
 
--- a map has no more entries than its table has pairs
+-- a map counts no more than its table has pairs
 pub counted_within : {old : Mutator} {map : ℕ} {table : Table} → KnownMap old map table
     → count_at (heap_of old) map ≤ table.capacity
 counted_within {old} {table = table} known =
@@ -63,10 +63,10 @@ module _ {old : Mutator} {map : ℕ} {table : Table} (known : KnownMap old map t
       let same : here.pair ≡ free_pair = same_Some here.pair pair (sym here.there ∙ there) ∙ free in
       no_hole at below (here.key ∙ ap (λ (one : Pair). one.key) same)
 
-  -- the map has as many entries as its table has pairs
+  -- the map counts as many as its table has pairs
   pub full_table : count_at (heap_of old) map ≡ table.capacity
   full_table = count_is known ∙ all_counted (pairs_of (heap_words old.seat) table) each_filled ∙ pairs_long known
 
-  -- so twice the entries with one more are over the pairs
+  -- so twice these with one more are over the pairs
   pub over_nowhere : table.capacity < 2 * (count_at (heap_of old) map + 1)
   over_nowhere = omega (arith, full_table)

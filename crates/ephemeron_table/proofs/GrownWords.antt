@@ -238,7 +238,7 @@ module _ {old new : Mutator} {map key count earlier : ℕ} {table : Table} {valu
         beside_map a not_count not_slot ∙ beside_inserted a (outside_run a not_run) ∙ boxed_stays a not_run;
   }
 
-  -- the map has so many entries
+  -- the map counts so many
   pub count_word : slice_get (heap_words new.seat) (map + count_offset) ≡ Some count
   count_word =
       ap (λ all. slice_get all (map + count_offset)) grows.puts.words.heap

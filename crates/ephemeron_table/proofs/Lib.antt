@@ -41,7 +41,6 @@ pub mod BoxedMaps
 pub mod PutKeys
 pub mod NoPair
 pub mod GrowableMaps
-pub mod EntryCounts
 pub mod NewTableEntries
 pub mod PairsByKey
 pub mod PutRefusals

@@ -16,7 +16,7 @@ use Rattle.heap_model.specs.Slots.{reference_word}
 use Rattle.heap_model.specs.Kinds.{Pair}
 use Rattle.heap_model.specs.Needs.{capacity_at, count_at, grown_table, box_need}
 use Rattle.object_graph.specs.Objects.{entry_value}
-use Rattle.heap_model.specs.Rooms.{Room, is_wide, room_put, wput_need, wput_need_by}
+use Rattle.heap_model.specs.Rooms.{Room, IsMapFull, is_wide, room_put, wput_need, wput_need_by}
 use Rattle.write_barrier.specs.declared.room.NoRoom.{NoRoom}
 use Rattle.write_barrier.specs.MutatorState.{Mutator, heap_of, MainShows}
 use Rattle.object_cells.specs.Capacities.{ChangesObject}
@@ -24,7 +24,7 @@ use Rattle.object_cells.specs.HeldValues.{IsValueHeld}
 use Rattle.object_cells.specs.Made.{store_content, content_need, RefusesRoom}
 use Rattle.object_cells.proofs.HeldNeeds.{new_value_held, content_need_is, wide_is}
 use Rattle.ephemeron_table.proofs.KeptTables.{tables_stay}
-use Rattle.ephemeron_table.specs.EntryChanges.{map_room, HasPutEntry, IsMapFull, PutsEntry}
+use Rattle.ephemeron_table.specs.EntryChanges.{map_room, HasPutEntry, PutsEntry}
 use Rattle.ephemeron_table.specs.declared.stop.TableStop.TheVariants as stop
 use Rattle.weak_pairs.specs.Pairs.{HasPairsAt}
 use Rattle.ephemeron_table.specs.PairChanges.{PutsPair}
@@ -40,7 +40,7 @@ use Rattle.ephemeron_table.proofs.EntriesPut.{entry_put}
 use Rattle.ephemeron_table.proofs.FreeKeys.{ComesToFree, below, finds_put, counted_put, not_filled}
 use Rattle.ephemeron_table.proofs.KnownTables.{KnownMap, cell}
 use Rattle.ephemeron_table.proofs.MapTouches.{put_remembers}
-use Rattle.ephemeron_table.proofs.NewKeys.{LacksKey, shown, known, no_pair_refers, entries_counted}
+use Rattle.ephemeron_table.proofs.NewKeys.{LacksKey, shown, known, no_pair_refers}
 use Rattle.ephemeron_table.proofs.NewKeys.{not_full_for, is_full_for, lacks_where_free}
 use Rattle.ephemeron_table.proofs.PairsByKey.{lacks_pair, pairs_shown}
 use Rattle.ephemeron_table.proofs.PutMaps.{ComesToPlace, makes_box, puts_one, refills_weak, slot_stays, takes_run}
@@ -48,7 +48,7 @@ use Rattle.ephemeron_table.proofs.PutPairs.{put_words, pair, pairs_are_now, some
 use Rattle.ephemeron_table.proofs.PutPlaces.{puts_to_table}
 use Rattle.ephemeron_table.proofs.PutShown.{CountsPut, PutsShown}
 
--- no table is needed where twice the entries with one more are no more than the pairs
+-- no table is needed where twice the filled pairs with one more are no more than there are
 table_not_full : (capacity count : ℕ) → 2 * (count + 1) ≤ capacity → nat_lt capacity (2 * suc count) ≡ false
 table_not_full capacity count fits = grind (arith, nat_tests, fits)
 
@@ -67,12 +67,12 @@ capacity_in_table room fits =
     cond-false (nat_lt room.capacity (2 * suc room.entries)) (grown_table room.capacity) room.capacity
     (table_not_full room.capacity room.entries fits)
 
--- where a key is new and the map has as many entries as it may have, putting it is refused
+-- where a key is new and as many pairs are filled as the map may have entries, putting it is refused
 pub refuses_entry : {old : Mutator} {graph : Graph} {map key : ℕ} {weak : WeakObject} {number : ℕ} {table : Table}
     (what : Value) (count : ℕ) → LacksKey old graph map key weak number table → count_at (heap_of old) map ≡ count
     → weak_most ≤ count → PutsEntry old old graph map key weak number what (Err (stop.TableFull count))
 refuses_entry what count lacks counted many =
-    (is_full_for lacks (omega (arith, counted, many)), sym counted ∙ entries_counted lacks, refl)
+    (is_full_for lacks (omega (arith, counted, many)), sym counted, refl)
 
 -- and then no pair has it
 pub refuses_pair : {old : Mutator} {graph : Graph} {map key : ℕ} {weak : WeakObject} {number : ℕ} {table : Table}
@@ -127,7 +127,7 @@ module _ {old : Mutator} {graph : Graph} {map key : ℕ} {weak : WeakObject} {nu
   stays : 2 * (count_at (heap_of old) map + 1) ≤ capacity_at (heap_of old) map
   stays = omega (arith, free.fits, free.counted, ends.lacks.is_table.capacity)
 
-  not_full : IsMapFull weak number → ⊥
+  not_full : IsMapFull (map_room old map weak) weak number → ⊥
   not_full = not_full_for ends.lacks (omega (arith, free.few, free.counted))
 
   -- so many words are needed

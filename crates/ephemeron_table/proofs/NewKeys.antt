@@ -1,5 +1,5 @@
 -- A key that no entry of a weak map has: no pair of the map's table has it.
-use Rattle.std.proofs.Common.{◌≡◌, ℕ, ◌<◌, ◌≤◌, Option, None, Some, slice_get, length, sym, ◌∙◌, ap, arith}
+use Rattle.std.proofs.Common.{◌≡◌, ℕ, ◌<◌, ◌≤◌, Option, None, Some, slice_get, sym, ◌∙◌, ap, arith}
 use Rattle.object_graph.specs.Objects.{entry_value}
 use Rattle.object_graph.specs.Graphs.{Graph, WeakObject}
 use Rattle.object_graph.specs.Meaning.{weak_most}
@@ -8,8 +8,9 @@ use Rattle.heap_table.specs.Seats.{heap_words}
 use Rattle.heap_model.specs.Slots.{reference_word, RefersToPlace}
 use Rattle.heap_model.specs.Kinds.{Pair}
 use Rattle.heap_model.specs.Needs.{count_at}
+use Rattle.heap_model.specs.Rooms.{IsMapFull}
 use Rattle.write_barrier.specs.MutatorState.{Mutator, heap_of, MainShows}
-use Rattle.ephemeron_table.specs.EntryChanges.{IsMapFull}
+use Rattle.ephemeron_table.specs.EntryChanges.{map_room}
 use Rattle.ephemeron_table.specs.WeakObjects.{IsKeyAt, IsWeakAt}
 use Rattle.weak_pairs.specs.Pairs.{IsFilledAt}
 use Rattle.ephemeron_table.specs.Probes.{IsTableAt, EndsBy, EndsNew}
@@ -95,14 +96,12 @@ module _ {old : Mutator} {graph : Graph} {map key : ℕ} {weak : WeakObject} {nu
       no_pair shown lacks.is_key lacks.fresh at pair (ap (λ all. slice_get all at) (sym pairs_same) ∙ filled.stands)
       filled.filled refers
 
-  -- so many entries are counted
-  pub entries_counted : count_at (heap_of old) map ≡ length weak.entries
-  entries_counted = lacks.shows.counts weak.number map weak.entries lacks.is.object lacks.is.reached lacks.is.place
+  -- the key is new, and where as many pairs are filled as the map may have entries, it can have none more
+  pub is_full_for : weak_most ≤ count_at (heap_of old) map → IsMapFull (map_room old map weak) weak number
+  is_full_for many = record { fresh = lacks.fresh; full = many }
 
-  -- the key is new, and where the map has as many entries as it may have, it can have none more
-  pub is_full_for : weak_most ≤ count_at (heap_of old) map → IsMapFull weak number
-  is_full_for many = record { fresh = lacks.fresh; full = omega (arith, many, entries_counted) }
-
-  -- where it has fewer, it can
-  pub not_full_for : count_at (heap_of old) map < weak_most → IsMapFull weak number → ⊥
-  not_full_for few all = omega (arith, few, all.full, entries_counted)
+  -- where fewer are, it can
+  pub not_full_for : count_at (heap_of old) map < weak_most → IsMapFull (map_room old map weak) weak number → ⊥
+  not_full_for few all =
+      let full : weak_most ≤ count_at (heap_of old) map = all.full in
+      omega (arith, few, full)

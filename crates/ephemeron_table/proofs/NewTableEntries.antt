@@ -8,7 +8,7 @@ use Rattle.object_graph.specs.Graphs.{Graph, WeakObject}
 use Rattle.object_graph.specs.Invariants.{IsValue}
 use Rattle.handle_roots.specs.Roots.{FitsHeld}
 use Rattle.heap_model.specs.Needs.{capacity_at, count_at, grown_table}
-use Rattle.heap_model.specs.Rooms.{room_put}
+use Rattle.heap_model.specs.Rooms.{IsMapFull, room_put}
 use Rattle.object_graph.specs.Objects.{entry_value}
 use Rattle.write_barrier.specs.MutatorState.{Mutator, heap_of}
 use Rattle.write_barrier.specs.declared.room.NoRoom.{NoRoom}
@@ -21,7 +21,7 @@ use Rattle.object_cells.proofs.TakenRuns.{takes_run}
 use Rattle.object_cells.proofs.UnusedWords.{marks_fit}
 use Rattle.page_space.proofs.Starts.{marks_start_is}
 use Rattle.ephemeron_table.proofs.KeptTables.{tables_grow}
-use Rattle.ephemeron_table.specs.EntryChanges.{map_room, HasPutEntry, IsMapFull, PutsEntry}
+use Rattle.ephemeron_table.specs.EntryChanges.{map_room, HasPutEntry, PutsEntry}
 use Rattle.ephemeron_table.specs.declared.stop.TableStop.TheVariants as stop
 use Rattle.ephemeron_table.specs.Rehashing.{PutsInNewTable, new_table_need}
 use Rattle.ephemeron_table.specs.PairLaws.{WrittenEntriesShow}
@@ -49,8 +49,8 @@ use Rattle.ephemeron_table.proofs.GrowableMaps.{can_grow}
 use Rattle.ephemeron_table.specs.EntryChanges.{map_room}
 use Rattle.ephemeron_table.proofs.NewKeys.{LacksKey, known, no_pair_refers, not_full_for}
 
--- The map is shown, and has no entry of the key: with one it has more entries than half of its pairs, and no more than
--- it may have.
+-- The map is shown, and has no entry of the key: with one more than half of its pairs would be filled, and no more than
+-- it may have entries.
 pub record IsGrowing (old : Mutator) (graph : Graph) (map key : ℕ) (weak : WeakObject) (number : ℕ)
     (table : Table) : Type 0
   where
@@ -88,7 +88,7 @@ module _ {old : Mutator} {graph : Graph} {map key : ℕ} {weak : WeakObject} {nu
       ∙ ap (wput_need_by (map_room old map weak) what) (sym growing.lacks.fresh)
 
   -- the map is not full for the key
-  pub growing_few : IsMapFull weak number → ⊥
+  pub growing_few : IsMapFull (map_room old map weak) weak number → ⊥
   growing_few = not_full_for growing.lacks growing.few
 
   -- where there is no room, putting it is refused

@@ -8,7 +8,7 @@ use Rattle.page_space.specs.Extents.{marks_start}
 use Rattle.handle_roots.specs.Roots.{FitsHeld}
 use Rattle.heap_model.specs.Slots.{IsSlotWord}
 use Rattle.heap_model.specs.Needs.{word_at}
-use Rattle.heap_model.specs.Rooms.{room_put, wput_need}
+use Rattle.heap_model.specs.Rooms.{IsMapFull, room_put, wput_need}
 use Rattle.write_barrier.specs.MutatorState.{Mutator, heap_of}
 use Rattle.write_barrier.specs.declared.room.NoRoom.{NoRoom}
 use Rattle.write_barrier.specs.Recording.{Touches, touched_one, touched_then}
@@ -21,7 +21,7 @@ use Rattle.object_cells.proofs.FilledSlots.{FilledBy, slot_filled, held_before, 
 use Rattle.object_cells.proofs.FilledTouches.{fills_slot_touch}
 use Rattle.object_cells.proofs.HeldNeeds.{held_is_value, new_value_held}
 use Rattle.object_cells.proofs.SlotBoxes.{box_of_word, lacks_need}
-use Rattle.ephemeron_table.specs.EntryChanges.{map_room, HasPutEntry, IsMapFull, PutsEntry}
+use Rattle.ephemeron_table.specs.EntryChanges.{map_room, HasPutEntry, PutsEntry}
 use Rattle.ephemeron_table.specs.declared.stop.TableStop.TheVariants as stop
 use Rattle.ephemeron_table.specs.PairLaws.{WrittenEntriesShow}
 use Rattle.weak_pairs.specs.Tables.{value_in, value_offset}
@@ -38,7 +38,7 @@ use Rattle.ephemeron_table.proofs.SlotValues.{slot_replaces}
 module _ {old : Mutator} {graph : Graph} {map key : ℕ} {weak : WeakObject} {number place : ℕ} {table : Table}
     (has : HasEntryPair old graph map key weak number place table) where
   -- the map is not full for a key that is there
-  pub not_full_there : IsMapFull weak number → ⊥
+  pub not_full_there : IsMapFull (map_room old map weak) weak number → ⊥
   not_full_there lacks = none-some has.told.value (sym lacks.fresh ∙ has.told.is_entry)
 
   -- the word of its value may be filled

@@ -1,7 +1,7 @@
--- Where an entry of a weak map is put, or there is no room for it: if no pair has its key, the map has fewer entries
--- than it may have.
+-- Where an entry of a weak map is put, or there is no room for it: if no pair has its key, fewer pairs are filled than
+-- the map may have entries.
 use Rattle.std.proofs.Common.{◌≡◌, ℕ, ◌+◌, ◌<◌, inl, inr, List, Option, None, Some, Result, Ok, Err, refl, sym, ◌∙◌}
-use Rattle.std.proofs.Common.{ap, subst, arith}
+use Rattle.std.proofs.Common.{ap, subst}
 use Rattle.std.proofs.Common.{not, ◌&&◌, slice_get}
 use Rattle.std.specs.Result.{IsErrAnd}
 use Rattle.std.proofs.lemmas.Bool.{cases_lt}
@@ -12,13 +12,13 @@ use Rattle.object_graph.specs.Meaning.{weak_most}
 use Rattle.heap_model.specs.Slots.{reference_word, RefersToPlace}
 use Rattle.heap_model.specs.Kinds.{Pair}
 use Rattle.heap_model.specs.Needs.{box_need, capacity_at, count_at, is_box_word, table_need}
-use Rattle.heap_model.specs.Rooms.{is_wide, wput_need, wput_need_by}
+use Rattle.heap_model.specs.Rooms.{IsMapFull, is_wide, wput_need, wput_need_by}
 use Rattle.heap_model.proofs.ShownBoxes.{value_boxed}
 use Rattle.write_barrier.specs.declared.room.NoRoom.{NoRoom}
 use Rattle.write_barrier.specs.MutatorState.{Mutator, heap_of, MainShows}
 use Rattle.object_cells.specs.HeldValues.{IsValueHeld}
 use Rattle.object_cells.proofs.HeldNeeds.{wide_is}
-use Rattle.ephemeron_table.specs.EntryChanges.{map_room, IsMapFull, PutsEntry}
+use Rattle.ephemeron_table.specs.EntryChanges.{map_room, PutsEntry}
 use Rattle.ephemeron_table.specs.WeakObjects.{IsKeyAt, IsWeakAt}
 use Rattle.weak_pairs.specs.Pairs.{HasPairsAt, LacksPair}
 use Rattle.ephemeron_table.specs.PairChanges.{NeedsPair, PutsBoth, PutsPair}
@@ -32,24 +32,24 @@ use Rattle.ephemeron_table.proofs.PairsByKey.{has_pair, lacks_pair, pairs_shown}
 module _ {old : Mutator} {graph : Graph} {map key : ℕ} {weak : WeakObject} {number : ℕ} {table : Table}
     (known : KnownMap old map table) (shows : MainShows old graph) (is : IsWeakAt old graph map weak)
     (is_key : IsKeyAt old graph key number) where
-  -- a map that is not full for the key has fewer entries than it may have, by the entry's value, if there is one
+  -- of a map that is not full for the key fewer pairs are filled than it may have entries, by the entry's value, if
+  -- there is one
   few_by : {before : List Pair} (found : Option Value) → entry_value weak.entries number ≡ found
-      → HasPairsAt (heap_of old) map before → (IsMapFull weak number → ⊥) → LacksPair before (reference_word key)
-      → count_at (heap_of old) map < weak_most
+      → HasPairsAt (heap_of old) map before → (IsMapFull (map_room old map weak) weak number → ⊥)
+      → LacksPair before (reference_word key) → count_at (heap_of old) map < weak_most
   few_by (Some value) is_entry has few lacks =
       let shown = weak_shown shows is in
       let its = has_pair shown is_key (pairs_shown known shown has) shows value is_entry in
       absurd (lacks its.0 its.1 its.2)
   few_by None fresh has few lacks = elim (cases_lt (count_at (heap_of old) map) weak_most) [
     | inl below ↦ below
-    | inr many ↦
-        let counts = shows.counts weak.number map weak.entries is.object is.reached is.place in
-        absurd (few (record { fresh = fresh; full = omega (arith, many, counts) }))
+    | inr many ↦ absurd (few (record { fresh = fresh; full = many }))
   ]
 
   -- so it has where no pair has the key
-  pub few_lacking : {before : List Pair} → HasPairsAt (heap_of old) map before → (IsMapFull weak number → ⊥)
-      → LacksPair before (reference_word key) → count_at (heap_of old) map < weak_most
+  pub few_lacking : {before : List Pair} → HasPairsAt (heap_of old) map before
+      → (IsMapFull (map_room old map weak) weak number → ⊥) → LacksPair before (reference_word key)
+      → count_at (heap_of old) map < weak_most
   few_lacking has few lacks = few_by (entry_value weak.entries number) refl has few lacks
 
   -- what the pair needs where the entry needs so many words, by the entry's value, if there is one

@@ -13,6 +13,7 @@ use Rattle.heap_model.specs.Slots.{reference_word, IsPlace, RefersToPlace}
 use Rattle.heap_model.specs.Kinds.{Pair, count_offset}
 use Rattle.heap_model.specs.Showing.{ShowsHeld}
 use Rattle.heap_model.specs.Needs.{count_at}
+use Rattle.heap_model.specs.Rooms.{IsMapFull}
 use Rattle.write_barrier.specs.MutatorState.{Mutator, heap_of, MainShows}
 use Rattle.write_barrier.specs.Recording.{Remembers}
 use Rattle.write_barrier.specs.Values.{held_of_class}
@@ -25,7 +26,7 @@ use Rattle.object_cells.proofs.OwnerWrites.{weak_owns, written_own_keeps_cells}
 use Rattle.ephemeron_table.specs.WeakObjects.{IsKeyAt, IsWeakAt}
 use Rattle.weak_pairs.specs.Pairs.{HasPairsAt, IsFilledAt, AreWith, IsPairOf, LacksPair}
 use Rattle.ephemeron_table.specs.PairChanges.{HasPutPair, WordStandsFor}
-use Rattle.ephemeron_table.specs.EntryChanges.{IsMapFull}
+use Rattle.ephemeron_table.specs.EntryChanges.{map_room}
 use Rattle.ephemeron_table.specs.PairLaws.{RefillsWeak, PutsOne}
 use Rattle.ephemeron_table.specs.PairWrites.{ShowsPair}
 use Rattle.ephemeron_table.specs.Probes.{IsTableAt}
@@ -77,7 +78,7 @@ pub record PutsShown (old new : Mutator) (graph : Graph) (map key : ℕ) (weak :
   pub sizes : AreWithin old.seat.space.sizes old.seat.space.variables
   pub table : Table
   pub is_table : IsTableAt (heap_of old) map table
-  pub few : IsMapFull weak number → ⊥
+  pub few : IsMapFull (map_room old map weak) weak number → ⊥
   pub puts : PutsAt old new map key value
   pub cell : Cell
   pub others : List Cell
@@ -190,7 +191,7 @@ module _ {old new : Mutator} {graph : Graph} {map key : ℕ} {weak : WeakObject}
       }
 
   -- so many of them hold something as it counts
-  count_after : count_at (heap_of new) map ≡ count_filled after
+  pub count_after : count_at (heap_of new) map ≡ count_filled after
   count_after =
       ap (λ n. count_at (heap_of new) n) (sym puts.stands)
       ∙ ap (λ found. unwrap_or found 0)

@@ -87,7 +87,7 @@ links_reached graph weak number value is there marked is_new one link =
 -- so the heap shows the graph in which the map has these entries
 pub written_entries_show : WrittenEntriesShow
 written_entries_show old new graph weak cell others made number value shows there marked key_marked carries shown is_new
-    takes refills puts counted remembers =
+    takes refills puts remembers =
     let before : Heap = heap_of old in
     let now : Heap = heap_of new in
     let entries : List Entry = entries_with weak.entries number value in
@@ -109,7 +109,6 @@ written_entries_show old new graph weak cell others made number value shows ther
       among = first_in cell others;
       carries = carries;
       shows = weak_shows weaving;
-      counts = counted;
     } in
     let held = entries_held (length graph.objects) weak.entries number value (reached_within graph number key_marked)
     (λ what given. (is_new what given).is) are in

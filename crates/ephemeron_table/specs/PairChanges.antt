@@ -28,8 +28,8 @@ pub record WordStandsFor (heap : Heap) (word : ℕ) (held : Held) : Type 0 where
   pub stands : held_of_class heap class ≡ held
 
 -- The pair of the key whose cell stands at an address, and of a value, was put in the weak map whose cell stands at an
--- address, which may be the same one. Which words that puts is said; what they make of the pairs follows. The map has
--- one entry more where no pair had the key, and had fewer than it may have then; else it has as many.
+-- address, which may be the same one. Which words that puts is said; what they make of the pairs follows. One pair
+-- more is filled where no pair had the key, and fewer were than the map may have entries; else as many.
 pub record HasPutPair (old new : Mutator) (map key : ℕ) (value : Held) (before : List Pair) : Type 0 where
   pub few : LacksPair before (reference_word key) → count_at (heap_of old) map < weak_most
   pub puts : PutsAt old new map key value
@@ -50,8 +50,8 @@ pub record NeedsPair (heap : Heap) (map key : ℕ) (value : Held) (before : List
   pub there : (place : ℕ) (pair : Pair) → IsPairOf before key place pair
       → need ≡ box_need (is_wide_held value && not (is_box_word heap pair.value))
 
--- `put`: the pair was put; or none has the key and the map has as many entries as it may have; or there is no room, in
--- this order, and nothing has changed.
+-- `put`: the pair was put; or none has the key and as many are filled as the map may have entries; or there is no room,
+-- in this order, and nothing has changed.
 abbrev pub PutsPair : Mutator → Mutator → (map key : ℕ) → Held → List Pair → Result Unit TableStop → Type 0
 PutsPair old new map key value before (Ok _) = HasPutPair old new map key value before
 PutsPair old new map key value before (Err (stop.TableFull entries)) =

@@ -9,7 +9,7 @@ use Rattle.object_graph.specs.Reach.{is_marked, reach}
 use Rattle.object_graph.specs.Invariants.{IsValue}
 use Rattle.heap_model.specs.Heaps.{Heap, words_of_cell}
 use Rattle.heap_model.specs.Slots.{RefersToPlace}
-use Rattle.heap_model.specs.Kinds.{HasWord, Pair, count_offset}
+use Rattle.heap_model.specs.Kinds.{Pair}
 use Rattle.heap_model.specs.Wholeness.{Whole, HasRows}
 use Rattle.heap_model.specs.Showing.{ShowsEntry, ShowsWeak}
 use Rattle.heap_model.specs.Changes.{CellsChange, IsOwnChange}
@@ -66,6 +66,5 @@ WrittenEntriesShow =
     → ((what : Value) → value ≡ Some what → IsNewValue graph what) → TakesRun old new made
     → (refills : RefillsWeak (heap_of old) (heap_of new) cell others made)
     → PutsOne (heap_of old) (heap_of new) refills.pairs number value
-    → HasWord (words_of_cell (heap_of new) cell) count_offset (length (entries_with weak.entries number value))
     → Remembers old new (cell ∷ others) (cell ∷ others) made
     → MainShows new (reweave graph weak (entries_with weak.entries number value))

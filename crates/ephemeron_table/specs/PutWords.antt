@@ -21,7 +21,7 @@ LacksKeyWord heap table key = (place : ℕ) → place < table.capacity → key_i
 -- How the pair of the key whose cell stands at an address, and of a value, comes to the weak map whose cell stands at
 -- an address. Where a pair of the map's table has the key, the slot of its value is filled. Where none has it, the pair
 -- comes to the first place on the way of the key's number where the table is free, and the count is one more; or, if
--- twice the entries with it are more than the table's pairs, to a table that is made in the place of that one.
+-- twice the filled pairs with it are more than the table's, to a table that is made in the place of that one.
 pub data PutsAt (old new : Mutator) (map key : ℕ) (value : Held) : Type 0 where
   to_pair : (table : Table) (place : ℕ) → IsTableAt (heap_of old) map table → place < table.capacity
       → key_in (heap_of old) table.at place ≡ reference_word key

@@ -27,7 +27,7 @@ pair_touch table place = touched Touch.Stored (table + key_offset place) (table 
 abbrev pub table_touch : Table → ℕ → Touch
 table_touch table = store_touch (2 * table.capacity) table.at
 
--- The pair of a key and a value comes to a place of the map's table, and the map has so many entries; a box that the
+-- The pair of a key and a value comes to a place of the map's table, and the map counts so many; a box that the
 -- value needs is made.
 pub record PutsInTable (old new : Mutator) (map : ℕ) (table : Table) (place key count : ℕ) (value : Held) : Type 0 where
   pub room : HasRoom old.young (content_need (store_content value))

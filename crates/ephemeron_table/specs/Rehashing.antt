@@ -47,9 +47,9 @@ KeysUsed main table =
     (place : ℕ) (pair : Pair) → IsFilledAt (pairs_of (heap_words main.seat) table) place pair
     → (at : ℕ) × (reference_in pair.key ≡ Some at) × (at < marks_start main.seat.space) × IsUsed main at
 
--- A table may be made in the place of a map's, for the pair of this key: with it the map has more entries than half of
--- the pairs, and no more than it may have. The heap is whole, so what is made has no word of the map's table, nor one
--- of a key.
+-- A table may be made in the place of a map's, for the pair of this key: with it more than half of the pairs would be
+-- filled, and no more than the map may have entries. The heap is whole, so what is made has no word of the map's table,
+-- nor one of a key.
 pub record CanGrow (main : Mutator) (map : ℕ) (table : Table) (key count : ℕ) : Type 0 where
   pub tied : IsTied main
   pub quiet : main.seat.phase ≡ Quiet
@@ -76,7 +76,7 @@ abbrev pub box_behind : Mutator → Table → ℕ
 box_behind main table = next_at main + (store_head + 2 * grown_table table.capacity)
 
 -- The pair of a key and a value comes to a table that is made, behind those of the map's table. Then the map refers to
--- it, and has so many entries.
+-- it, and counts so many.
 pub record PutsInNewTable (old new : Mutator) (map : ℕ) (table : Table) (key count : ℕ) (value : Held) : Type 0 where
   pub room : HasRoom old.young (new_table_need table value)
   pub begun : Mutator

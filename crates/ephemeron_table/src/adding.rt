@@ -26,7 +26,7 @@ use weak_pairs::Table;
 use write_barrier::{Main, laws_of_values};
 
 /// Puts the entry of a key that is new at the free place of the map's table where probing for it
-/// ended. With it the map has no more entries than half of the pairs.
+/// ended. With it no more than half of the pairs are filled.
 ///
 /// # Errors
 /// There is no room for a box; nothing has changed.

@@ -62,12 +62,13 @@ fn put_new(
 }
 
 /// Gives the entry of the key in a weak map the value. Both are named by the addresses of their
-/// cells. A table is made where the key is new and the map has none, or where twice its entries
-/// would be more than the table has pairs.
+/// cells. A table is made where the key is new and the map has none, or where twice the filled pairs
+/// with this one would be more than the table has.
 ///
 /// # Errors
-/// The key is new and the map has 256 entries or more; there is no room for a table or a box that
-/// the entry needs. In this order; nothing has changed.
+/// The key is new and 256 pairs of the map's table are filled, or more, also such whose keys can no
+/// longer be reached; there is no room for a table or a box that the entry needs. In this order;
+/// nothing has changed.
 pub fn put(main: &mut Main, map: u32, key: u32, value: Held) -> Result<(), TableStop>
     requires shown { IsShownPutting main.old map key value }
     ensures entry { (graph : Graph) (weak : WeakObject) (number : ℕ) (what : GraphValue)

@@ -6,7 +6,7 @@ use write_barrier::NoRoom;
 /// Why an entry is not put. Nothing has changed.
 #[derive(Clone, Copy)]
 pub enum TableStop {
-    /// The key is new, and the map has 256 entries or more: how many.
+    /// The key is new, and 256 pairs of the map's table are filled, or more: how many.
     TableFull { entries: u32 },
     /// There is no room for a table or a box that the entry needs.
     Full(NoRoom),

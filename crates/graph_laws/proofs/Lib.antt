@@ -3,7 +3,7 @@ mod NextLines
 mod RunBytes
 mod RunsEnd
 mod RunsEndOnce
-mod FoundObjects
+pub mod FoundObjects
 mod Changes
 mod Stays
 mod ReachedLinks

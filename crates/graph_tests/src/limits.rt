@@ -20,7 +20,7 @@ fn source_of(
 }
 
 /// The parts of each script, and what it writes.
-const SCRIPTS: [((&str, &str, &str, u32, &str), &str); 5] = [
+const SCRIPTS: [((&str, &str, &str, u32, &str), &str); 6] = [
     // A full list gives up its front and its back.
     (
         (
@@ -36,16 +36,29 @@ const SCRIPTS: [((&str, &str, &str, u32, &str), &str); 5] = [
         ("list x\n", "push x 7 #", "\n", 1000, "push x 7"),
         "fault 1002 listfull\n",
     ),
-    // A full weak map still gives its keys values.
+    // Entries whose key cannot be reached do not count.
     (
         (
             "weak x\n",
             "new y 0 #",
             "\nwput x y 1\n",
             256,
-            "wput x y 2\nwget z x y\nprint z\nnew y 0\nwput x y 1",
+            "wput x y 2\nwget z x y\nprint z\nnew y 0\nwput x y 3\nwget z x y\nprint z",
         ),
-        "2\nfault 518 weakfull\n",
+        "2\n3\n",
+    ),
+    // A weak map that is full of keys in a list still gives them values, and a key that is lost makes room
+    // for another.
+    (
+        (
+            "weak x\nlist l\n",
+            "new y 0 #",
+            "\npush l y\nwput x y 1\n",
+            256,
+            "wput x y 2\nwget z x y\nprint z\nshift l 1\nnew y 0\nwput x y 3\nwget z x y\nprint z\n\
+             let k y\nnew y 0\nwput x y 4",
+        ),
+        "2\n3\nfault 781 weakfull\n",
     ),
     // The 64 fields are more than the cap: it bounds no fields.
     (

@@ -54,6 +54,7 @@ pub frame_of_moved : {old new : Heap} {to : ℕ → Option ℕ} → IsMoved old 
 frame_of_moved moved =
     record { space = moved.space; paths = moved.paths; sized = moved.sized; rows = moved.rows }
 
+-- each cell that stays stands where it came, and nothing else comes there
 pub cells_of_moved : {old new : Heap} {to : ℕ → Option ℕ} → IsMoved old new to → AreMovedCells old new to
 cells_of_moved {old} moved cell stands now stays = record {
   fits = moved.fits cell (words_of_cell old cell) now stands stays;
@@ -64,5 +65,6 @@ cells_of_moved {old} moved cell stands now stays = record {
       omega (arith, same, behind, (first_of_cell stands).below);
 }
 
+-- each cell of the new heap is from one that stays, or is free
 pub from_of_moved : {old new : Heap} {to : ℕ → Option ℕ} → IsMoved old new to → AreFrom old new to
 from_of_moved {new = new} moved cell stands = moved.back cell (words_of_cell new cell) stands

@@ -12,5 +12,4 @@ pub mod Collectable
 pub mod Remembered
 pub mod Reaching
 pub mod Needs
-pub mod Counting
 pub mod Rooms

@@ -55,7 +55,7 @@ box_need false = 0
 abbrev pub store_need : ℕ → ℕ → ℕ
 store_need capacity used = if nat_lt used capacity then 0 else store_head + grown capacity
 
--- how many elements the list at an address has, or how many entries the weak map
+-- how many elements the list at an address has, or how many pairs the weak map has filled
 abbrev pub count_at : Heap → ℕ → ℕ
 count_at heap at = word_at heap (at + count_offset)
 
@@ -76,7 +76,7 @@ grown_list count = min list_most (grown count)
 abbrev pub list_store_need : ℕ → ℕ → ℕ
 list_store_need capacity count = if count == capacity then store_head + grown_list count else 0
 
--- the most pairs of a weak table: a map has at most 256 entries, and a table twice as many pairs
+-- the most pairs of a weak table: twice the 256 that may be filled
 abbrev pub pairs_most : ℕ
 pairs_most = 512
 

@@ -1,6 +1,6 @@
 -- How many words a command allocates, and what room objects have after it: told by the graph, and by the room of each
 -- object.
-use Rattle.std.specs.Prelude.{◌≡◌, ℕ, suc, ◌+◌, ◌-◌, ◌*◌, Bool, false, not, ◌&&◌, List, [], ◌∷◌, length}
+use Rattle.std.specs.Prelude.{◌≡◌, ℕ, suc, ◌+◌, ◌-◌, ◌*◌, ◌≤◌, Bool, false, not, ◌&&◌, List, [], ◌∷◌, length}
 use Rattle.std.specs.Prelude.{Option, Some, None, option_map, option_and_then, slice_get, ◌==◌, nat_lt, IsTrue}
 use Rattle.std.specs.Prelude.{if◌then◌else◌}
 use Rattle.std.specs.FinMap.{get}
@@ -15,7 +15,7 @@ use Rattle.object_graph.specs.Values.{rep_of, join}
 use Rattle.object_graph.specs.Objects.{entry_value}
 use Rattle.object_graph.specs.Graphs.{Graph, PlainObject, ListObject, WeakObject, value_of, integer_in, object_in}
 use Rattle.object_graph.specs.Graphs.{plain_at, list_at, weak_at}
-use Rattle.object_graph.specs.Meaning.{below}
+use Rattle.object_graph.specs.Meaning.{below, weak_most}
 use Rattle.object_graph.specs.Reach.{is_marked, reach}
 use Rattle.heap_model.specs.Heaps.{Heap}
 use Rattle.heap_model.specs.Slots.{IsPlace}
@@ -136,6 +136,28 @@ wput_need_by room value (Some before) = box_need (is_wide value && not (is_wide 
 abbrev pub wput_need : Room → WeakObject → Value → ℕ → ℕ
 wput_need room weak value key = wput_need_by room value (entry_value weak.entries key)
 
+-- `wput` of a key finds a weak map with this room full: no entry has the key, and as many pairs of the table are filled as
+-- there may be entries, or more. A pair counts whose key can no longer be reached, until it is cleared.
+pub record IsMapFull (room : Room) (weak : WeakObject) (key : ℕ) : Type 0 where
+  pub fresh : entry_value weak.entries key ≡ None
+  pub full : weak_most ≤ room.entries
+
+-- The command is a `wput` that no other fault stops, and finds its map full, with so many pairs filled, where objects
+-- have these rooms.
+pub record FindsMapFull (graph : Graph) (rooms : ℕ → Room) (put : Command) (entries : ℕ) : Type 0 where
+  pub m : ℕ
+  pub k : Operand
+  pub v : Operand
+  pub is : put ≡ command.WPut m k v
+  pub weak : WeakObject
+  pub map : weak_of graph m ≡ Some weak
+  pub key : ℕ
+  pub named : key_of graph k ≡ Some key
+  pub value : Value
+  pub given : value_of graph v ≡ Some value
+  pub full : IsMapFull (rooms weak.number) weak key
+  pub count : entries ≡ (rooms weak.number).entries
+
 -- How many words a command allocates, where objects have these rooms.
 abbrev pub need_of : Graph → (ℕ → Room) → Command → ℕ
 need_of graph rooms (command.New x cap) = plain_head + cap
@@ -204,7 +226,8 @@ abbrev pub with_capacity : (ℕ → Room) → ℕ → ℕ → ℕ → Room
 with_capacity rooms number capacity = with_room rooms number (record (rooms number) { capacity = capacity })
 
 -- The rooms after a command. An object that is made has no store. `set`, `push`, `shift` and `trunc` change the store
--- of their object, `wput` and `wdel` the table of their map. The four commands that collect keep each entry.
+-- of their object, `wput` and `wdel` the table of their map. A scavenge keeps all rooms; what a full collection leaves,
+-- which clears entries, is told by `RoomsAreNoFuller`.
 abbrev pub rooms_after : Graph → (ℕ → Room) → Command → ℕ → Room
 rooms_after graph rooms (command.New x cap) = with_room rooms (length graph.objects) bare_room
 rooms_after graph rooms (command.List x) = with_room rooms (length graph.objects) bare_room
@@ -246,3 +269,15 @@ rooms_after graph rooms command.Scavenge = rooms
 rooms_after graph rooms command.Mark = rooms
 rooms_after graph rooms command.Finish = rooms
 rooms_after graph rooms command.Gc = rooms
+
+-- the one room has as many slots or pairs as the other, and no more of the pairs are filled
+pub record IsNoFuller (room other : Room) : Type 0 where
+  pub capacity : room.capacity ≡ other.capacity
+  pub entries : room.entries ≤ other.entries
+
+-- The room in one heap of each object of the graph that can be reached is no fuller than in another one.
+abbrev pub RoomsAreNoFuller : Heap → Heap → Graph → Type 0
+RoomsAreNoFuller old new graph =
+    (rooms were : ℕ → Room) (number : ℕ) (what : Object) → HasRooms new graph rooms → HasRooms old graph were
+    → slice_get graph.objects number ≡ Some what → IsTrue (is_marked (reach graph) number)
+    → IsNoFuller (rooms number) (were number)

@@ -18,12 +18,12 @@ use Rattle.heap_run.specs.declared.ended.Kept.{Kept}
 use Rattle.heap_run.specs.declared.ended.Ended.{Ended}
 use Rattle.heap_run.specs.declared.last_line.LastLine.{LastLine}
 use Rattle.heap_run.specs.declared.last_line.LastLine.TheVariants as last
-use Rattle.heap_run.specs.Texts.{last_bytes, status_of}
+use Rattle.heap_run.specs.Texts.{last_bytes, status_of, sink_fault_status}
 use Rattle.heap_run.specs.Answers.{Input, ReadsAll, Answer, unopened, refusal_of, last_line_of}
 use Rattle.heap_run.specs.Answers.{Comes, Taken, Answers, Runs, IsKeptAt, IsKeptFor, KeepsGraph, AsksToRun}
 
 -- no last line has the status of a sink that failed
-pub status-apart : (line : LastLine) → status_of line ≢ 5
+pub status-apart : (line : LastLine) → status_of line ≢ sink_fault_status
 status-apart last.Nothing e = cc
 status-apart (last.Fault line word) e = cc
 status-apart (last.BadScript line why) e = cc
@@ -67,7 +67,8 @@ reads-comes words input _ (Comes.generated seed forms asks unread steady) = tt
 reads-comes words input _ (Comes.generated_in_part seed forms count asks unread steady) = tt
 
 -- the status of the end of a script
-opened-ended : (came : How) (line : ℕ) → Contains (0 ∷ 1 ∷ 3 ∷ 5 ∷ 8 ∷ []) (status_of (last_line_of came line))
+opened-ended : (came : How) (line : ℕ)
+    → Contains (0 ∷ 1 ∷ 3 ∷ sink_fault_status ∷ 8 ∷ []) (status_of (last_line_of came line))
 opened-ended how.End line = (0, lit< tt, refl)
 opened-ended (how.Fault word) line = (1, lit< tt, refl)
 opened-ended (how.HeapFull need) line = (2, lit< tt, refl)
@@ -76,13 +77,13 @@ opened-ended how.LineLimit line = (4, lit< tt, refl)
 
 -- the status of a source that is no script
 opened-refused : (stop : BadScript) (line : LastLine) → refusal_of stop ≡ Some line
-    → Contains (2 ∷ 4 ∷ 5 ∷ 6 ∷ 7 ∷ 64 ∷ []) (status_of line)
+    → Contains (2 ∷ 4 ∷ sink_fault_status ∷ 6 ∷ 7 ∷ 64 ∷ []) (status_of line)
 opened-refused (bad.BadLine at why) line e =
     let is : last.BadScript at why ≡ line = cc in
-    subst (λ l. Contains (2 ∷ 4 ∷ 5 ∷ 6 ∷ 7 ∷ 64 ∷ []) (status_of l)) is (0, lit< tt, refl)
+    subst (λ l. Contains (2 ∷ 4 ∷ sink_fault_status ∷ 6 ∷ 7 ∷ 64 ∷ []) (status_of l)) is (0, lit< tt, refl)
 opened-refused (bad.TooManyNames at) line e =
     let is : last.TooManyNames at ≡ line = cc in
-    subst (λ l. Contains (2 ∷ 4 ∷ 5 ∷ 6 ∷ 7 ∷ 64 ∷ []) (status_of l)) is (0, lit< tt, refl)
+    subst (λ l. Contains (2 ∷ 4 ∷ sink_fault_status ∷ 6 ∷ 7 ∷ 64 ∷ []) (status_of l)) is (0, lit< tt, refl)
 opened-refused bad.NoMemory line e = cc
 
 -- the status of an answer whose last line is written goes with the heap that is kept
@@ -113,7 +114,7 @@ opened-line words input _ (Comes.generated seed forms asks unread steady) line e
 opened-line words input _ (Comes.generated_in_part seed forms count asks unread steady) line e = cc
 
 -- the status of a sink that failed goes with a heap and with none
-opened-failed : (kept : Option Kept) → IsKeptAt 5 kept
+opened-failed : (kept : Option Kept) → IsKeptAt sink_fault_status kept
 opened-failed None = (2, lit< tt, refl)
 opened-failed (Some kept) = (3, lit< tt, refl)
 
@@ -128,9 +129,10 @@ opened-answer words input old new faults_old faults_new _ _ comes (Taken.front a
 
 -- an answer before the opening, as it is concluded
 pub Taken-unopened : (old new : List ℕ → Type 0) (faults_old faults_new status : ℕ) (line : LastLine)
-    → (status ≢ 5 → (status ≡ status_of line) × Appends old new (last_bytes line) × (faults_new ≡ faults_old))
-    → (status ≡ 5 → AppendsSome old new (last_bytes line) × Rose faults_old faults_new)
-    → (status ≡ 5) ⊎ (status ≢ 5)
+    → (status ≢ sink_fault_status
+    → (status ≡ status_of line) × Appends old new (last_bytes line) × (faults_new ≡ faults_old))
+    → (status ≡ sink_fault_status → AppendsSome old new (last_bytes line) × Rose faults_old faults_new)
+    → (status ≡ sink_fault_status) ⊎ (status ≢ sink_fault_status)
     → Taken old new faults_old faults_new (unopened line) status
 Taken-unopened old new faults_old faults_new status line written failed (inl five) =
     let (some, rose) = failed five in

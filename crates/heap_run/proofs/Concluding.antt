@@ -18,7 +18,7 @@ use Rattle.heap_script.proofs.Handing.{front-behind, front-longer}
 use Rattle.heap_script.specs.TheConstants.{OUTPUT_BYTES}
 use Rattle.heap_run.specs.declared.ended.Kept.{Kept}
 use Rattle.heap_run.specs.declared.ended.Ended.{Ended}
-use Rattle.heap_run.specs.Texts.{last_bytes, status_of}
+use Rattle.heap_run.specs.Texts.{last_bytes, status_of, sink_fault_status}
 use Rattle.heap_run.specs.Answers.{Answer, IsKeptHeapOf, Comes, Taken, Runs, last_line_of}
 
 -- what is kept of a run
@@ -35,9 +35,10 @@ finished_by how line executed = record { how = how; line = line; executed = exec
 
 -- what the last line came to: all of it was written, or a front
 pub record Lasts (how : How) (line : ℕ) (mid new : List ℕ → Type 0) (faults_mid faults_new status : ℕ) : Type 0 where
-  pub written : status ≢ 5 → (status ≡ status_of (last_line_of how line))
+  pub written : status ≢ sink_fault_status → (status ≡ status_of (last_line_of how line))
       × Appends mid new (last_bytes (last_line_of how line)) × (faults_new ≡ faults_mid)
-  pub failed : status ≡ 5 → AppendsSome mid new (last_bytes (last_line_of how line)) × Rose faults_mid faults_new
+  pub failed : status ≡ sink_fault_status
+      → AppendsSome mid new (last_bytes (last_line_of how line)) × Rose faults_mid faults_new
 
 -- the image has the regions of these sizes and of the script's variables, and no word that no cell uses but 0
 pub record IsKeepable (sizes : Sizes) (script : ScriptText) (image : HeapImage) : Type 0 where
@@ -58,7 +59,7 @@ Runs-ended : (sizes : Sizes) (bytes : List ℕ) (script : ScriptText) (image : H
     → (spent : HasSpent script (image_heap image) n)
     → EndsRun script (image_heap image) spent.last.rows spent.collections n reached.so_far how line
     → Appends old mid reached.so_far.bytes → faults_mid ≡ faults_old
-    → Lasts how line mid new faults_mid faults_new status → (status ≡ 5) ⊎ (status ≢ 5)
+    → Lasts how line mid new faults_mid faults_new status → (status ≡ sink_fault_status) ⊎ (status ≢ sink_fault_status)
     → Runs sizes bytes old new faults_old faults_new (ended_by image how line n status)
 Runs-ended sizes bytes script image how line n status old mid new faults_old faults_mid faults_new
     is keepable reached spent
@@ -97,7 +98,7 @@ Runs-cut : (sizes : Sizes) (bytes : List ℕ) (script : ScriptText) (image : Hea
     (old new : List ℕ → Type 0) (faults_old faults_new : ℕ) → reading bytes ≡ Ok script
     → IsKeepable sizes script image
     → (f : Finishes script (image_heap image) (finished_by (SinkFault need) line n) old new faults_old faults_new)
-    → Runs sizes bytes old new faults_old faults_new (ended_by image (SinkFault need) line n 5)
+    → Runs sizes bytes old new faults_old faults_new (ended_by image (SinkFault need) line n sink_fault_status)
 Runs-cut sizes bytes script image need line n old new faults_old faults_new is keepable f =
     let (at, cut, rose) = f.writes in
     let told = f.reached.so_far.bytes in
@@ -133,9 +134,10 @@ pub Runs-finished : (sizes : Sizes) (bytes : List ℕ) (script : ScriptText) (im
     (old mid new : List ℕ → Type 0) (faults_old faults_mid faults_new : ℕ) → reading bytes ≡ Ok script
     → IsKeepable sizes script image
     → Finishes script (image_heap image) (finished_by how line n) old mid faults_old faults_mid
-    → (IsCut how → status ≡ 5)
+    → (IsCut how → status ≡ sink_fault_status)
     → (IsCut how → Finishes script (image_heap image) (finished_by how line n) old new faults_old faults_new)
-    → (¬ IsCut how → Lasts how line mid new faults_mid faults_new status) → (status ≡ 5) ⊎ (status ≢ 5)
+    → (¬ IsCut how → Lasts how line mid new faults_mid faults_new status)
+    → (status ≡ sink_fault_status) ⊎ (status ≢ sink_fault_status)
     → Runs sizes bytes old new faults_old faults_new (ended_by image how line n status)
 Runs-finished sizes bytes script image End line n status old mid new fo fm fn is keepable f five cut lasts dec =
     Runs-ended sizes bytes script image End line n status old mid new fo fm fn is keepable f.reached f.spent

@@ -10,6 +10,7 @@ use Rattle.byte_ends.specs.Sink.{Appends, AppendsSome}
 use Rattle.byte_ends.proofs.Appending.{Appends-along}
 use Rattle.heap_run.specs.declared.ended.Ended.{Ended}
 use Rattle.heap_run.specs.declared.last_line.LastLine.TheVariants as last
+use Rattle.heap_run.specs.Texts.{sink_fault_status}
 use Rattle.heap_run.specs.Answers.{Input, NoReadFailed, AsksToGenerate, Comes, Taken, Answers, Generates, unopened}
 
 -- want of memory, as it is concluded
@@ -67,7 +68,7 @@ TookFront-more script some =
 -- the sink failed before it had the whole script
 pub Generates-in_part : (seed forms : ℕ) (old new : List ℕ → Type 0) (faults_old faults_new : ℕ)
     → AppendsSome old new (generated seed forms) → Rose faults_old faults_new
-    → Generates seed forms old new faults_old faults_new (record { status = 5; kept = None })
+    → Generates seed forms old new faults_old faults_new (record { status = sink_fault_status; kept = None })
 Generates-in_part seed forms old new faults_old faults_new some rose =
     let script = generated seed forms in
     let size = length-take-le (some.count + 1) script (omega (arith, some.short)) in

@@ -1,26 +1,32 @@
 -- What holds of a run on a heap holds of its image.
-use Rattle.std.proofs.Common.{◌≡◌, ℕ, ◌+◌, List, [], ◌∷◌, Option, Some, None, ap, ◌∙◌, sym}
-use Rattle.std.proofs.Common.{subst, inl, inr, IsTrue}
+use Rattle.std.proofs.Common.{◌≡◌, ℕ, zero, suc, ◌+◌, ◌≤◌, List, [], ◌∷◌, Option, Some, None, ap, ◌∙◌, sym}
+use Rattle.std.proofs.Common.{subst, inl, inr, IsTrue, arith}
 use Rattle.std.proofs.Common.{nat_lt}
+use Rattle.std.proofs.lemmas.Bool.Decides.{nat_tests}
 use Rattle.heap_model.specs.Types.{Command, Run}
 use Rattle.heap_command.specs.Executed.{Executed}
 use Rattle.page_space.specs.Extents.{Space}
+use Rattle.free_runs.specs.FreeRuns.{AreFree, FitsNowhere}
 use Rattle.object_graph.specs.Graphs.{Graph}
 use Rattle.object_graph.specs.Run.{Told}
 use Rattle.script_text.specs.Scripts.{ScriptText}
 use Rattle.heap_model.specs.Heaps.{Heap}
 use Rattle.heap_model.specs.Wholeness.{Whole}
+use Rattle.heap_model.specs.Needs.{lacks_room}
 use Rattle.heap_model.specs.Showing.{Shows}
+use Rattle.live_cells.specs.Exact.{Fits}
+use Rattle.live_cells.specs.Fitting.{DeadIsFree, NoRunFitsNone}
 use Rattle.collector.specs.Images.{IsImageOf}
 use Rattle.collector.specs.ImageLaws.{ImagesShow, ImagesKeepStores, ImagesHaveRooms, ImagesAreTight, ImagesKeepFree}
-use Rattle.collector.specs.ImageLaws.{ImagesStayStuck, ImagesKeepRooted, ImagesKeepRuns}
+use Rattle.collector.specs.ImageLaws.{ImagesStayStuck, ImagesAreExact, ImagesKeepDead}
 use Rattle.heap_script.specs.declared.finished.How.{How}
 use Rattle.heap_script.specs.declared.finished.How.TheVariants as how
 use Rattle.heap_script.specs.declared.finished.Finished.{Finished}
-use Rattle.heap_script.specs.Runs.{left_after, RanTo, HasSpent, IsFull, LacksRoomFor, IsFullAt, EndsRun, FailedAt}
-use Rattle.heap_script.specs.Runs.{Writes, Finishes}
+use Rattle.heap_script.specs.Stages.{Stage}
+use Rattle.heap_script.specs.Runs.{left_after, RanTo, Spends, HasSpent, IsFull, LacksRoomFor, IsFullAt, EndsRun}
+use Rattle.heap_script.specs.Runs.{FailedAt, Writes, Finishes}
 
--- the laws of images
+-- the laws of images, and that words fit nowhere which no run has
 pub record Laws : Type 0 where
   pub show : ImagesShow
   pub stores : ImagesKeepStores
@@ -28,8 +34,9 @@ pub record Laws : Type 0 where
   pub tight : ImagesAreTight
   pub free : ImagesKeepFree
   pub stuck : ImagesStayStuck
-  pub rooted : ImagesKeepRooted
-  pub runs : ImagesKeepRuns
+  pub exact : ImagesAreExact
+  pub dead : ImagesKeepDead
+  pub nowhere : NoRunFitsNone
 
 -- the run has come so far on the image too
 abbrev pub reached_imaged : {script : ScriptText} {heap image : Heap} {n : ℕ} → Laws → IsImageOf heap image
@@ -50,8 +57,8 @@ graph_is r l =
     let same : r.so_far ≡ l.so_far = cc (r.said, l.said) in
     ap (λ (so_far : Told). so_far.graph) same
 
--- as many words are used on the image, stores have as many slots, objects have the same rooms, and the same runs are
--- free
+-- as many words are used on the image, stores have as many slots, objects have the same rooms, the same runs are free,
+-- and it keeps exactly what can be reached, if the heap does
 abbrev spent_imaged : {script : ScriptText} {heap image : Heap} {n : ℕ} → Laws → RanTo script heap n
     → IsImageOf heap image → HasSpent script heap n → HasSpent script image n
 spent_imaged {heap = heap} {image = image} laws r is spent = record {
@@ -71,88 +78,116 @@ spent_imaged {heap = heap} {image = image} laws r is spent = record {
       (laws.rooms heap image graph rooms (subst (Shows heap) (graph_is r spent.reached) r.shown) is).0
       (spent.rooms rooms has);
   free = laws.free heap image spent.last.rows r.shown.whole spent.free is;
+  exact = λ exact. laws.exact heap image spent.reached.so_far.graph (spent.exact exact) is;
 }
 
+-- behind a full collection free runs neither overlap nor touch
+rows_apart : {script : ScriptText} {stage : Stage} {n collections : ℕ} → Spends script stage n collections
+    → collections ≡ 2 → AreFree stage.rows
+rows_apart (Spends.none stage unused none rows reached) is = absurd (omega (arith, is))
+rows_apart (Spends.one_more old new n before line spends next reached after allocates) is = absurd (omega (arith, is))
+rows_apart (Spends.once old new n spends reached wants after collected) is = absurd (omega (arith, is))
+rows_apart (Spends.twice old new n spends reached lacks after collected) is = collected.apart
+rows_apart (Spends.cleared old new n spends reached wants after collected) is = collected.apart
+
+-- where no word more is wanted, a whole heap does not lack it
+none_lacks : {heap : Heap} → Whole heap → IsTrue (lacks_room heap 0) → ⊥
+none_lacks {heap} whole lacks =
+    let few : heap.survivors + heap.used ≤ heap.space.sizes.young = whole.rows.few in
+    grind (arith, nat_tests)
+
+-- words for which a whole heap has no room, and which no run has, fit nowhere
+nowhere : {heap : Heap} {rows : List (List Run)} (need : ℕ) → NoRunFitsNone → Whole heap → AreFree rows
+    → DeadIsFree heap rows → FitsNowhere rows need → IsTrue (lacks_room heap need) → Fits heap need → ⊥
+nowhere zero law whole apart dead runs lacks fits = none_lacks whole lacks
+nowhere {heap} {rows} (suc n) law whole apart dead runs lacks fits =
+    law heap rows (suc n) (omega arith) apart dead runs lacks fits
+
 -- an image is as full as the heap
-as_full : {heap image : Heap} {rows : List (List Run)} (need : ℕ) → Laws → Whole heap → IsImageOf heap image
-    → IsFull heap rows need → IsFull image rows need
-as_full {heap} {image} {rows} need laws whole is full =
+as_full : {heap image : Heap} {rows : List (List Run)} {graph : Graph} (need : ℕ) → Laws → Shows heap graph
+    → AreFree rows → IsImageOf heap image → IsFull heap rows graph need → IsFull image rows graph need
+as_full {heap} {image} {rows} {graph} need laws shows apart is full =
+    let whole = shows.whole in
     let space : heap.space ≡ image.space = sym is.space in
     let survivors : heap.survivors ≡ image.survivors = sym is.survivors in
     let used : heap.used ≡ image.used = sym is.used in
+    let lacks : IsTrue (lacks_room image need) =
+    subst (λ (s : Space). IsTrue (nat_lt s.sizes.young (image.survivors + image.used + need))) space
+    (subst (λ (n : ℕ). IsTrue (nat_lt heap.space.sizes.young (n + image.used + need))) survivors
+    (subst (λ (n : ℕ). IsTrue (nat_lt heap.space.sizes.young (heap.survivors + n + need))) used full.lacks)) in
+    let dead = laws.dead heap image rows whole full.dead is in
     record {
+      exact = laws.exact heap image graph full.exact is;
+      full = nowhere need laws.nowhere (laws.show heap image graph shows is).whole apart dead full.runs lacks;
       empty = is.used ∙ full.empty;
       tight = laws.tight heap image whole full.tight is;
-      rooted = laws.rooted heap image whole full.rooted is;
-      lacks = subst (λ (s : Space). IsTrue (nat_lt s.sizes.young (image.survivors + image.used + need))) space
-          (subst (λ (n : ℕ). IsTrue (nat_lt heap.space.sizes.young (n + image.used + need))) survivors
-          (subst (λ (n : ℕ). IsTrue (nat_lt heap.space.sizes.young (heap.survivors + n + need))) used full.lacks));
-      free_words = laws.runs heap image rows whole full.free_words is;
+      lacks = lacks;
+      dead = dead;
       runs = full.runs;
       stuck = laws.stuck heap image rows whole full.stuck is;
     }
 
 -- it is full for the command of a line, if the heap is
 full_for : {heap image : Heap} (rows : List (List Run)) (graph : Graph) (need : ℕ) (command : Option Command) → Laws
-    → Shows heap graph → IsImageOf heap image → LacksRoomFor heap rows graph need command
+    → Shows heap graph → AreFree rows → IsImageOf heap image → LacksRoomFor heap rows graph need command
     → LacksRoomFor image rows graph need command
-full_for rows graph need None laws shows is full = full
-full_for {heap = heap} {image = image} rows graph need (Some command) laws shows is (needs, full) = (
+full_for rows graph need None laws shows apart is full = full
+full_for {heap = heap} {image = image} rows graph need (Some command) laws shows apart is (needs, full) = (
   λ rooms has. needs rooms ((laws.rooms heap image graph rooms shows is).1 has),
-  as_full need laws shows.whole is full,
+  as_full need laws shows apart is full,
 )
 
 -- so at the first of the lines that are left
 full_at : {heap image : Heap} (rows : List (List Run)) (graph : Graph) (line need : ℕ) (lines : List Executed) → Laws
-    → Shows heap graph → IsImageOf heap image → IsFullAt heap rows graph line need lines
+    → Shows heap graph → AreFree rows → IsImageOf heap image → IsFullAt heap rows graph line need lines
     → IsFullAt image rows graph line need lines
-full_at rows graph line need [] laws shows is full = full
-full_at {heap = heap} {image = image} rows graph line need (next ∷ more) laws shows is (number-is, full) =
-    (number-is, full_for {heap = heap} {image = image} rows graph need next.command laws shows is full)
+full_at rows graph line need [] laws shows apart is full = full
+full_at {heap = heap} {image = image} rows graph line need (next ∷ more) laws shows apart is (number-is, full) =
+    (number-is, full_for {heap = heap} {image = image} rows graph need next.command laws shows apart is full)
 
 -- a run comes to the same on the image
 comes_imaged : {script : ScriptText} {heap image : Heap} {n : ℕ} (rows : List (List Run)) (collections : ℕ)
-    (came : How) (line : ℕ) → Laws → IsImageOf heap image → (r : RanTo script heap n)
-    → EndsRun script heap rows collections n r.so_far came line
+    (came : How) (line : ℕ) → Laws → IsImageOf heap image → (collections ≡ 2 → AreFree rows)
+    → (r : RanTo script heap n) → EndsRun script heap rows collections n r.so_far came line
     → EndsRun script image rows collections n r.so_far came line
-comes_imaged rows collections how.End line laws is r comes = comes
-comes_imaged rows collections (how.Fault word) line laws is r comes = comes
-comes_imaged {script = script} {heap = heap} {image = image} {n = n} rows collections (how.HeapFull need) line laws is r
-    comes =
+comes_imaged rows collections how.End line laws is apart r comes = comes
+comes_imaged rows collections (how.Fault word) line laws is apart r comes = comes
+comes_imaged {script = script} {heap = heap} {image = image} {n = n} rows collections (how.HeapFull need) line laws is
+    apart r comes =
     record {
       goes_on = comes.goes_on;
       full = full_at {heap = heap} {image = image} rows r.so_far.graph line need (left_after script n) laws
-          r.shown is comes.full;
-      twice = comes.twice;
+          r.shown (apart comes.collected) is comes.full;
+      collected = comes.collected;
     }
-comes_imaged rows collections (how.SinkFault need) line laws is r comes = comes
-comes_imaged rows collections how.LineLimit line laws is r comes = comes
+comes_imaged rows collections (how.SinkFault need) line laws is apart r comes = comes
+comes_imaged rows collections how.LineLimit line laws is apart r comes = comes
 
 -- the sink failed where it failed
 failed_imaged : {script : ScriptText} {heap image : Heap} {n : ℕ} (rows : List (List Run)) (collections line need : ℕ)
-    → Laws → IsImageOf heap image → (r : RanTo script heap n)
+    → Laws → IsImageOf heap image → (collections ≡ 2 → AreFree rows) → (r : RanTo script heap n)
     → FailedAt script heap rows collections n r.so_far line need
     → FailedAt script image rows collections n r.so_far line need
-failed_imaged rows collections line need laws is r (inl between) = inl between
-failed_imaged rows collections line need laws is r (inr (came, comes, same)) =
-    inr (came, comes_imaged rows collections came line laws is r comes, same)
+failed_imaged rows collections line need laws is apart r (inl between) = inl between
+failed_imaged rows collections line need laws is apart r (inr (came, comes, same)) =
+    inr (came, comes_imaged rows collections came line laws is apart r comes, same)
 
 -- what was written was written
 writes_imaged : {script : ScriptText} {heap image : Heap} (rows : List (List Run)) (collections : ℕ) (came : How)
     (finished : Finished) (old new : List ℕ → Type 0) (faults_old faults_new : ℕ) → Laws → IsImageOf heap image
-    → (r : RanTo script heap finished.executed)
+    → (collections ≡ 2 → AreFree rows) → (r : RanTo script heap finished.executed)
     → Writes script heap rows collections finished r.so_far old new faults_old faults_new came
     → Writes script image rows collections finished r.so_far old new faults_old faults_new came
-writes_imaged rows collections how.End finished old new fo fn laws is r (comes, appends, steady) =
-    (comes_imaged rows collections how.End finished.line laws is r comes, appends, steady)
-writes_imaged rows collections (how.Fault word) finished old new fo fn laws is r (comes, appends, steady) =
-    (comes_imaged rows collections (how.Fault word) finished.line laws is r comes, appends, steady)
-writes_imaged rows collections (how.HeapFull need) finished old new fo fn laws is r (comes, appends, steady) =
-    (comes_imaged rows collections (how.HeapFull need) finished.line laws is r comes, appends, steady)
-writes_imaged rows collections (how.SinkFault need) finished old new fo fn laws is r (failed, cut, rose) =
-    (failed_imaged rows collections finished.line need laws is r failed, cut, rose)
-writes_imaged rows collections how.LineLimit finished old new fo fn laws is r (comes, appends, steady) =
-    (comes_imaged rows collections how.LineLimit finished.line laws is r comes, appends, steady)
+writes_imaged rows collections how.End finished old new fo fn laws is apart r (comes, appends, steady) =
+    (comes_imaged rows collections how.End finished.line laws is apart r comes, appends, steady)
+writes_imaged rows collections (how.Fault word) finished old new fo fn laws is apart r (comes, appends, steady) =
+    (comes_imaged rows collections (how.Fault word) finished.line laws is apart r comes, appends, steady)
+writes_imaged rows collections (how.HeapFull need) finished old new fo fn laws is apart r (comes, appends, steady) =
+    (comes_imaged rows collections (how.HeapFull need) finished.line laws is apart r comes, appends, steady)
+writes_imaged rows collections (how.SinkFault need) finished old new fo fn laws is apart r (failed, cut, rose) =
+    (failed_imaged rows collections finished.line need laws is apart r failed, cut, rose)
+writes_imaged rows collections how.LineLimit finished old new fo fn laws is apart r (comes, appends, steady) =
+    (comes_imaged rows collections how.LineLimit finished.line laws is apart r comes, appends, steady)
 
 -- the run finishes on the image as on the heap
 pub finishes_imaged : {script : ScriptText} {heap image : Heap} (finished : Finished) (old new : List ℕ → Type 0)
@@ -162,6 +197,6 @@ pub finishes_imaged : {script : ScriptText} {heap image : Heap} (finished : Fini
 finishes_imaged finished old new fo fn laws is f = record {
   reached = reached_imaged laws is f.reached;
   spent = spent_imaged laws f.reached is f.spent;
-  writes = writes_imaged f.spent.last.rows f.spent.collections finished.how finished old new fo fn laws is f.reached
-      f.writes;
+  writes = writes_imaged f.spent.last.rows f.spent.collections finished.how finished old new fo fn laws is
+      (rows_apart f.spent.spends) f.reached f.writes;
 }

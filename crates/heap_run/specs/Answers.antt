@@ -171,8 +171,8 @@ pub data Taken (old new : List ℕ → Type 0) (faults_old faults_new : ℕ) : A
 -- a heap is kept at the statuses of a script that was run, and none at the others; the sink may fail before or after
 abbrev pub IsKeptAt : ℕ → Option Kept → Type 0
 IsKeptAt status kept =
-    MatchOption kept (Contains (2 ∷ 4 ∷ 5 ∷ 6 ∷ 7 ∷ 64 ∷ []) status)
-    (λ _. Contains (0 ∷ 1 ∷ 3 ∷ 5 ∷ 8 ∷ []) status)
+    MatchOption kept (Contains (2 ∷ 4 ∷ sink_fault_status ∷ 6 ∷ 7 ∷ 64 ∷ []) status)
+    (λ _. Contains (0 ∷ 1 ∷ 3 ∷ sink_fault_status ∷ 8 ∷ []) status)
 
 -- the words ask for a generated script, which was told whole: the status is 0, and no heap is kept
 pub record TellsScript (words : List (List ℕ)) (status : ℕ) (kept : Option Kept) : Type 0 where

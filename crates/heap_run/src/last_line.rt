@@ -4,6 +4,7 @@ ghost use Rattle.byte_ends.specs.Faults.{Rose};
 ghost use Rattle.byte_ends.specs.Sink.{Appends, AppendsSome};
 ghost use Rattle.heap_script.specs.declared.finished.How.TheVariants.{SinkFault as FailedSink};
 ghost use Rattle.heap_run.specs.Texts.{reason_line, numbered_line, last_bytes, status_of};
+ghost use Rattle.heap_run.specs.Texts.{sink_fault_status};
 ghost use Rattle.heap_run.specs.Answers.{last_line_of};
 
 use byte_ends::{Failed, Sink, write_all};
@@ -73,10 +74,10 @@ impl LastLine {
 
     /// Writes the line, and answers the status: its own, or that of a sink that failed.
     pub(crate) fn conclude<K: Sink>(self, sink: &mut K) -> u8
-        ensures written { result ≢ 5 → (result ≡ status_of self)
+        ensures written { result ≢ sink_fault_status → (result ≡ status_of self)
             × Appends (K.HasTaken sink.old) (K.HasTaken sink.new) (last_bytes self)
             × (K.faults sink.new ≡ K.faults sink.old) }
-        ensures failed { result ≡ 5 →
+        ensures failed { result ≡ sink_fault_status →
             AppendsSome (K.HasTaken sink.old) (K.HasTaken sink.new) (last_bytes self)
             × Rose (K.faults sink.old) (K.faults sink.new) }
     {

@@ -10,7 +10,7 @@ ghost use Rattle.byte_ends.specs.Faults.{Rose};
 ghost use Rattle.byte_ends.specs.Source.{IsInput};
 ghost use Rattle.byte_ends.specs.Sink.{Appends, AppendsSome};
 ghost use Rattle.heap_script.specs.Runs.{AreBuilt, IsCut};
-ghost use Rattle.heap_run.specs.Texts.{last_bytes, status_of};
+ghost use Rattle.heap_run.specs.Texts.{last_bytes, status_of, sink_fault_status};
 ghost use Rattle.heap_run.specs.Answers.{Answers, Runs, KeepsGraph, AsksToRun, IsKeptFor, Taken};
 ghost use Rattle.heap_run.specs.Answers.{input_of, last_line_of, unopened};
 
@@ -183,12 +183,12 @@ fn run_on_heap<K: Sink, G: Gate, R: Threads + Sync>(
 
 /// Writes the last line of a script that was run, and answers the status.
 fn conclude<K: Sink>(finished: &Finished, sink: &mut K) -> u8
-    ensures cut { IsCut finished.now.how → (result ≡ 5) × (sink.new ≡ sink.old) }
-    ensures written { ¬ IsCut finished.now.how → result ≢ 5 →
+    ensures cut { IsCut finished.now.how → (result ≡ sink_fault_status) × (sink.new ≡ sink.old) }
+    ensures written { ¬ IsCut finished.now.how → result ≢ sink_fault_status →
         let last = last_line_of finished.now.how finished.now.line in (result ≡ status_of last)
         × Appends (K.HasTaken sink.old) (K.HasTaken sink.new) (last_bytes last)
         × (K.faults sink.new ≡ K.faults sink.old) }
-    ensures failed { ¬ IsCut finished.now.how → result ≡ 5 →
+    ensures failed { ¬ IsCut finished.now.how → result ≡ sink_fault_status →
         let last = last_line_of finished.now.how finished.now.line in
         AppendsSome (K.HasTaken sink.old) (K.HasTaken sink.new) (last_bytes last)
         × Rose (K.faults sink.old) (K.faults sink.new) }

@@ -30,6 +30,7 @@ spent_all {stage = stage} {collections = collections} reached spends free = reco
   stores = λ number at place. (place, refl);
   rooms = λ rooms has. has;
   free = free;
+  exact = λ exact. exact;
 }
 
 -- the sink failed between two lines

@@ -4,6 +4,7 @@ mod Lacking
 mod Carrying
 mod Trying
 mod Retrying
+mod Stopping
 mod Serving
 pub mod Handing
 mod Ways

@@ -27,8 +27,8 @@ use Rattle.heap_script.proofs.Counts.{length-does, makes_one}
 use Rattle.heap_script.proofs.Handing.{Handed-none, Handed-more, Handed-told}
 
 -- Between two lines: the lines that are left are those from this place on with these turns left, what was told was
--- handed on or waits, the objects are counted, the words that were spent are those that the lines need, so many
--- collections came since the last line, and no word of a page is granted.
+-- handed on or waits, the objects are counted, the words that were spent are those that the lines need, the heap was so
+-- far collected since the last line, and no word of a page is granted.
 pub record Running (script : ScriptText) (heap : HeapState) (objects : ℕ) (waiting : List ℕ)
     (old new : List ℕ → Type 0) (at : ℕ) (ts : List ℕ) (executed collections : ℕ) : Type 0 where
   pub reached : RanTo script (heap_of heap.main) executed
@@ -178,8 +178,8 @@ pub Running-carried : (script : ScriptText) (heap after : HeapState) (objects : 
     → LineAllocates (stage_of heap.main) (stage_of after.main) r.reached.so_far.graph graph collections (Some command)
     → in_eden after.main.young ≡ true → length after.main.free ≡ length heap.main.free
     → Running script after (objects + objects_made command) (waiting ++ text) old new at' ts' (n + 1) 0
-Running-carried script heap after objects waiting old new at at' ts ts' n number command text graph {collections} r below
-    goes spare space does-is shown uses ungranted rows =
+Running-carried script heap after objects waiting old new at at' ts ts' n number command text graph {collections} r
+    below goes spare space does-is shown uses ungranted rows =
     let so_far = r.reached.so_far in
     let later : Told = record { graph = graph; bytes = so_far.bytes ++ text } in
     let line = executed number (Some command) in

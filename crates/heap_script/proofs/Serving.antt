@@ -18,14 +18,14 @@ use Rattle.scavenger.proofs.Granted.{grants_keep_stores}
 use Rattle.collector.specs.Making.{Serves}
 use Rattle.collector.proofs.MadeRoom.{served_rows}
 use Rattle.mutator.specs.Capacities.{KeepsStores}
-use Rattle.mutator.specs.CarriesOut.{TakesRoom}
+use Rattle.mutator.specs.CarriesOut.{TakesRoom, FindsMapNotFull}
 use Rattle.heap_script.specs.Collecting.{LacksWords}
 use Rattle.heap_script.specs.Runs.{UsesNeed, Allocates}
 use Rattle.heap_script.specs.Stages.{SpendsWords, stage_of}
 use Rattle.heap_script.proofs.Lacking.{not_lacking, full_for}
 
--- What a command that does not ask for a scavenge finds of a heap in which nothing is granted, behind so many
--- collections since the last line: the heap itself; or, where a collection came, and left eden empty and without the
+-- What a command that asks for no collection finds of a heap in which nothing is granted, behind so many collections
+-- since the last line: the heap itself; or, where a collection came, and left eden empty and without the
 -- words that the command needs, the heap with so many words granted.
 pub data Served (old found : Mutator) (graph : Graph) (collections : ℕ) (command : Command) : Type 0 where
   as_it_is : found ≡ old → Served old found graph collections command
@@ -36,10 +36,10 @@ pub data Served (old found : Mutator) (graph : Graph) (collections : ℕ) (comma
 pub served : {old found : Mutator} {graph : Graph} {collections : ℕ} {command : Command} {need : ℕ}
     → Serves old found need → 1 ≤ collections
     → ((rooms : ℕ → Room) → HasRooms (heap_of old) graph rooms → need ≡ need_of graph rooms command)
-    → old.young.used ≡ 0 → Served old found graph collections command
-served (Serves.eden room is) some needs empty = Served.as_it_is is
-served {need = need} (Serves.granted lacks grants keeps) some needs empty =
-    Served.by_grant need some (record { needs = needs; lacks = lacks }) empty grants keeps
+    → FindsMapNotFull old graph command → old.young.used ≡ 0 → Served old found graph collections command
+served (Serves.eden room is) some needs unfull empty = Served.as_it_is is
+served {need = need} (Serves.granted lacks grants keeps) some needs unfull empty =
+    Served.by_grant need some (record { needs = needs; lacks = lacks; unfull = unfull }) empty grants keeps
 
 -- What a command that was carried out has done: it allocated, nothing is granted any more, and so many pages have rows
 -- of free runs.
@@ -52,13 +52,6 @@ pub record HasAllocated (old new : Mutator) (graph after : Graph) (collections :
 abbrev pub Takes : Mutator → Mutator → Graph → Graph → Command → Type 0
 Takes old new graph after command =
     (rooms : ℕ → Room) → HasRooms (heap_of old) graph rooms → TakesRoom old new graph after command rooms
-
--- it keeps the regions
-pub takes_space : {old new : Mutator} {graph after : Graph} (command : Command) → MainShows old graph
-    → Takes old new graph after command → new.seat.space ≡ old.seat.space
-takes_space {old} {new} {graph} command shows takes =
-    let (rooms, has) = shown_objects_have_rooms (heap_of old) graph shows.shows in
-    (takes rooms has).uses.beside.space
 
 -- where cells are made in eden, it is eden whose words are used
 used_of_eden : (old : Young) {new : Young} (n : ℕ) → in_eden old ≡ true → new ≡ bumped old n → new.used ≡ old.used + n
@@ -74,15 +67,16 @@ still_ungranted old n ungranted is =
 
 -- a command that finds the heap itself spends words of eden
 allocated_in_eden : {old new : Mutator} {graph after : Graph} {collections : ℕ} (command : Command)
-    → MainShows old graph → in_eden old.young ≡ true → Takes old new graph after command
-    → HasAllocated old new graph after collections command
-allocated_in_eden {old} {new} {graph} command shows ungranted takes =
+    → MainShows old graph → in_eden old.young ≡ true → FindsMapNotFull old graph command
+    → Takes old new graph after command → HasAllocated old new graph after collections command
+allocated_in_eden {old} {new} {graph} command shows ungranted unfull takes =
     let (some, had) = shown_objects_have_rooms (heap_of old) graph shows.shows in
     let one = takes some had in
     record {
       allocates = record {
         space = one.uses.beside.space;
         survivors = ap (λ (young : Young). young.survivors) one.uses.young;
+        unfull = λ (entries, finds). unfull entries finds;
         uses = λ rooms has.
             let taken = takes rooms has in
             let need = need_of graph rooms command in
@@ -181,6 +175,7 @@ module _ {old found new : Mutator} {graph after : Graph} {collections : ℕ} (co
           space = taken.uses.beside.space ∙ grants.beside.space;
           survivors = ap (λ (young : Young). young.survivors) taken.uses.young
               ∙ ap (λ (young : Young). young.survivors) grants.young;
+          unfull = λ (entries, finds). lacks.unfull entries finds;
           uses = uses_run;
         };
         ungranted = ungranted_again old.young found.young grants.run n grants.young words taken.uses.young;
@@ -190,9 +185,11 @@ module _ {old found new : Mutator} {graph after : Graph} {collections : ℕ} (co
 -- a command that is carried out on what it finds of a heap in which nothing is granted allocates on that heap
 pub allocated : {old found new : Mutator} {graph after : Graph} {collections : ℕ} (command : Command)
     → MainShows old graph → in_eden old.young ≡ true → Served old found graph collections command
-    → Takes found new graph after command → HasAllocated old new graph after collections command
-allocated {old} {found} {new} {graph} {after} command shows ungranted (Served.as_it_is is) takes =
+    → FindsMapNotFull found graph command → Takes found new graph after command
+    → HasAllocated old new graph after collections command
+allocated {old} {found} {new} {graph} {after} command shows ungranted (Served.as_it_is is) unfull takes =
     allocated_in_eden command shows ungranted
+    (subst (λ (main : Mutator). FindsMapNotFull main graph command) is unfull)
     (subst (λ (main : Mutator). Takes main new graph after command) is takes)
-allocated command shows ungranted (Served.by_grant need some lacks empty grants keeps) takes =
+allocated command shows ungranted (Served.by_grant need some lacks empty grants keeps) unfull takes =
     allocated_in_page command shows ungranted some lacks empty grants keeps takes

@@ -20,7 +20,8 @@ line_by number what = record { number = number; what = what }
 -- where a run goes on after a line is a way on of what is left
 goes-by : (lines : List Line) (at : ℕ) (ts : List ℕ) (left : List Executed) (number : ℕ) (what : What)
     → IsLeft lines at ts left → slice_get lines at ≡ Some (line_by number what)
-    → Goes lines (standing_after at ts what).at (standing_after at ts what).turns left (executed number (command_in what))
+    → Goes lines (standing_after at ts what).at (standing_after at ts what).turns left
+    (executed number (command_in what))
 goes-by lines at ts left number (Run command) is here = past_command lines at ts left number command is here
 goes-by lines at ts left number (Repeat zero end_at) is here = past_block lines at ts left number end_at is here
 goes-by lines at ts left number (Repeat (suc more) end_at) is here =

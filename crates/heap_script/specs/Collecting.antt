@@ -1,57 +1,116 @@
 -- When a command finds its heap collected.
-use Rattle.std.specs.Prelude.{◌≡◌, ◌≢◌, ℕ, false, List, Result, Err}
+use Rattle.std.specs.Prelude.{◌≡◌, ℕ, false, List, Result, Ok, Err}
 use Rattle.heap_model.specs.Types.{Command, FaultWord}
 use Rattle.heap_command.specs.declared.command.Command.TheVariants.{Scavenge}
+use Rattle.heap_command.specs.declared.command.FaultWord.TheVariants.{WeakFull}
 use Rattle.object_graph.specs.Graphs.{Graph}
-use Rattle.heap_model.specs.Rooms.{Room, HasRooms, need_of}
+use Rattle.object_graph.specs.Limits.{ideal_limits}
+use Rattle.object_graph.specs.Meaning.{done, fault, does}
+use Rattle.heap_model.specs.Heaps.{Heap}
+use Rattle.heap_model.specs.Rooms.{Room, HasRooms, need_of, FindsMapFull}
 use Rattle.nursery.specs.Young.{HasRoom}
-use Rattle.write_barrier.specs.MutatorState.{Mutator, heap_of}
+use Rattle.live_cells.specs.Exact.{Fits}
+use Rattle.write_barrier.specs.MutatorState.{Mutator, heap_of, MainShows}
 use Rattle.scavenger.specs.Scavenged.{Scavenges}
 use Rattle.scavenger.specs.Laws.{KeepsGraphs}
-use Rattle.collector.specs.Making.{IsOutOfRoom, CollectsFor}
+use Rattle.exact_heaps.specs.Collected.{CollectsAll}
+use Rattle.collector.specs.Making.{IsOutOfRoom, Serves, MakesRoom}
 use Rattle.mutator.specs.declared.stop.Stop.{Stop}
-use Rattle.mutator.specs.declared.stop.Stop.TheVariants.{Fault, NoRoom}
-use Rattle.mutator.specs.CarriesOut.{Carries}
+use Rattle.mutator.specs.declared.stop.Stop.TheVariants.{Fault, NoRoom, NoClear}
+use Rattle.mutator.specs.CarriesOut.{Carries, FindsMapNotFull, AsksWhereFull}
+use Rattle.heap_script.specs.Runs.{AsksForAll, AsksToCollect}
 
--- The command needs so many words, whatever rooms objects have in the heap, and there is no room for them.
+-- the command asks for no collection
+abbrev pub AsksForNone : Command → Type 0
+AsksForNone command = AsksToCollect command → ⊥
+
+-- The command is no fault.
+pub record IsSound (names : List (List ℕ)) (graph : Graph) (command : Command) : Type 0 where
+  pub after : Graph
+  pub written : List ℕ
+  pub is : does ideal_limits names graph command ≡ done after written
+
+-- The command needs so many words, whatever rooms objects have in the heap, and there is no room for them. It does not
+-- find its weak map full of pairs.
 pub record LacksWords (main : Mutator) (graph : Graph) (command : Command) (need : ℕ) : Type 0 where
   pub needs : (rooms : ℕ → Room) → HasRooms (heap_of main) graph rooms → need ≡ need_of graph rooms command
   pub lacks : HasRoom main.young need → ⊥
+  pub unfull : FindsMapNotFull main graph command
 
--- What a command that is tried once finds of a heap: what a scavenge left of it, if it asks for one, and else the heap
--- as it was.
-pub data Finds (old mid : Mutator) (command : Command) : Type 0 where
-  scavenged : command ≡ Scavenge → Scavenges old mid false → Finds old mid command
-  unchanged : command ≢ Scavenge → mid ≡ old → Finds old mid command
+-- the command finds its weak map full of so many pairs, whatever rooms objects have in the heap
+abbrev pub FindsPairs : Heap → Graph → Command → ℕ → Type 0
+FindsPairs heap graph command entries =
+    (rooms : ℕ → Room) → HasRooms heap graph rooms → FindsMapFull graph rooms command entries
 
--- What a command finds of a heap, in which there may be room for it or not: what a scavenge left of it, if the command
--- asks for one; what collections for the words that it needs left, if there was no room for these; or, unless it asks,
--- the heap as it was: where it has no room, only a command that faults, which `carries` and `gave_up`, below, say.
-pub data Collects (old mid : Mutator) (graph : Graph) (command : Command) : Type 0 where
-  asked : command ≡ Scavenge → Scavenges old mid false → Collects old mid graph command
-  unchanged : command ≢ Scavenge → mid ≡ old → Collects old mid graph command
-  for_room : (need : ℕ) → command ≢ Scavenge → LacksWords old graph command need → CollectsFor old mid need
-      → Collects old mid graph command
+-- A command that asks for a collection was carried out on what that left of the heap, and leaves that.
+pub data CarriesAsked (names : List (List ℕ)) (old new : Mutator) (graph : Graph) (command : Command) (text : List ℕ)
+    : Type 0 where
+  scavenges : command ≡ Scavenge → Scavenges old new false → KeepsGraphs old new
+      → Carries names new new graph command text (Ok tt) → CarriesAsked names old new graph command text
+  collects : AsksForAll command → CollectsAll old new graph → Carries names new new graph command text (Ok tt)
+      → CarriesAsked names old new graph command text
 
--- The command was tried once: it was carried out on what it found, or stopped there. If it asks for a scavenge, it
--- leaves what it found.
-pub record Tries (names : List (List ℕ)) (old new : Mutator) (graph : Graph) (command : Command) (text : List ℕ)
+-- The command was tried once. One that asks for a collection was carried out; any other was so on the heap as it was,
+-- or stopped there, and it did not find its weak map full of pairs, unless it stopped for that.
+pub data Tries (names : List (List ℕ)) (old new : Mutator) (graph : Graph) (command : Command) (text : List ℕ)
     (result : Result (Unit {0}) Stop) : Type 0 where
-  pub mid : Mutator
-  pub finds : Finds old mid command
-  pub keeps : KeepsGraphs old mid
-  pub carries : Carries names mid new graph command text result
-  pub asked : command ≡ Scavenge → new ≡ mid
+  asked : result ≡ Ok tt → CarriesAsked names old new graph command text → Tries names old new graph command text result
+  unasked : AsksForNone command → Carries names old new graph command text result
+      → AsksWhereFull old graph command result → Tries names old new graph command text result
 
--- The command was carried out on what it found, once there was room if need be, or stopped there. If it asks for a
--- scavenge, it leaves what it found. Where it faults, nothing has changed, and where it stopped for want of room, the
--- heap that is left is what collections for as many words left, which were in vain.
-pub record CarriesAtLast (names : List (List ℕ)) (old new : Mutator) (graph : Graph) (command : Command) (text : List ℕ)
-    (result : Result (Unit {0}) Stop) : Type 0 where
-  pub mid : Mutator
-  pub collects : Collects old mid graph command
-  pub keeps : KeepsGraphs old mid
-  pub carries : Carries names mid new graph command text result
-  pub asked : command ≡ Scavenge → new ≡ mid
-  pub faulted : (word : FaultWord) → result ≡ Err (Fault word) → new ≡ old
-  pub gave_up : (need : ℕ) → result ≡ Err (NoRoom need) → CollectsFor old new need × IsOutOfRoom new need
+-- A full collection came for a command. Either it lacked words, and a scavenge made no room for them. Or it found its
+-- weak map full of pairs, on the heap as it was.
+pub data CollectsFully (names : List (List ℕ)) (old new : Mutator) (graph : Graph) (command : Command) : Type 0 where
+  for_room : (mid : Mutator) (need : ℕ) → IsSound names graph command → LacksWords old graph command need
+      → Scavenges old mid false → KeepsGraphs old mid → IsOutOfRoom mid need → CollectsAll mid new graph
+      → CollectsFully names old new graph command
+  for_pairs : (entries : ℕ) → FindsPairs (heap_of old) graph command entries → CollectsAll old new graph
+      → CollectsFully names old new graph command
+
+-- What a command that asks for no collection finds of a heap on which it is carried out: the heap as it was; or what
+-- a scavenge left of it, for the words that the command lacked, which have room there; or what a full collection left,
+-- with room for the words that the command lacked there, if it lacked some.
+pub data Collects (names : List (List ℕ)) (old mid : Mutator) (graph : Graph) (command : Command) : Type 0 where
+  unchanged : mid ≡ old → Collects names old mid graph command
+  scavenged : (need : ℕ) → IsSound names graph command → LacksWords old graph command need
+      → MakesRoom old mid false need → Collects names old mid graph command
+  collected : CollectsFully names old mid graph command → Collects names old mid graph command
+  granted : (last : Mutator) (need : ℕ) → CollectsFully names old last graph command
+      → LacksWords last graph command need → Serves last mid need → Collects names old mid graph command
+
+-- The command was carried out: one that asks for a collection on what that left, and any other on what it found, where
+-- its weak map is not full of pairs.
+pub data IsCarriedOut (names : List (List ℕ)) (old new : Mutator) (graph : Graph) (command : Command) (text : List ℕ)
+    : Type 0 where
+  asked : CarriesAsked names old new graph command text → IsCarriedOut names old new graph command text
+  unasked : (mid : Mutator) → AsksForNone command → Collects names old mid graph command → MainShows mid graph
+      → FindsMapNotFull mid graph command → Carries names mid new graph command text (Ok tt)
+      → IsCarriedOut names old new graph command text
+
+-- Behind a full collection there is no room for the words that the command needs: they fit nowhere.
+pub record HasNoPlace (main : Mutator) (graph : Graph) (command : Command) (need : ℕ) : Type 0 where
+  pub lacks : LacksWords main graph command need
+  pub out : IsOutOfRoom main need
+  pub nowhere : Fits (heap_of main) need → ⊥
+
+-- A fault comes on the heap as it was; but `weakfull` comes behind a full collection where the map was full of pairs.
+pub data FaultsOn (names : List (List ℕ)) (old new : Mutator) (graph : Graph) (command : Command) (word : FaultWord)
+    : Type 0 where
+  unchanged : new ≡ old → FaultsOn names old new graph command word
+  collected : word ≡ WeakFull → CollectsFully names old new graph command → FaultsOn names old new graph command word
+
+-- The command stopped for good. Its meaning is the fault; or it is none, and the heap was fully collected, and has no
+-- room for it; or the heap was fully collected, and its weak map is full still, which is the fault `weakfull`.
+abbrev pub StopsAt : List (List ℕ) → Mutator → Mutator → Graph → Command → Stop → Type 0
+StopsAt names old new graph command (Fault word) =
+    (does ideal_limits names graph command ≡ fault word) × FaultsOn names old new graph command word
+StopsAt names old new graph command (NoRoom need) =
+    IsSound names graph command × CollectsFully names old new graph command × HasNoPlace new graph command need
+StopsAt names old new graph command (NoClear entries) =
+    (does ideal_limits names graph command ≡ fault WeakFull) × CollectsFully names old new graph command
+
+-- the command was carried out at last, or stopped for good
+abbrev pub CarriesAtLast : List (List ℕ) → Mutator → Mutator → Graph → Command → List ℕ
+    → Result (Unit {0}) Stop → Type 0
+CarriesAtLast names old new graph command text (Ok _) = IsCarriedOut names old new graph command text
+CarriesAtLast names old new graph command text (Err stop) = StopsAt names old new graph command stop

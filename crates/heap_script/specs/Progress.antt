@@ -38,8 +38,8 @@ abbrev pub made_by : Option Command → ℕ
 made_by None = 0
 made_by (Some command) = objects_made command
 
--- a line that runs a command does with the heap what the command does, once there is room if need be, and one that runs
--- none does nothing
+-- a line that runs a command does with the heap what the command does, once way is made for it if need be, and one that
+-- runs none does nothing
 abbrev pub CarriesLine : List (List ℕ) → Mutator → Mutator → Graph → Option Command → List ℕ
     → Result (Unit {0}) Stop → Type 0
 CarriesLine names old new graph None text result = (new ≡ old) × (text ≡ []) × (result ≡ Ok tt)
@@ -50,8 +50,8 @@ abbrev pub outcome_of : Result ℕ Stop → Result (Unit {0}) Stop
 outcome_of (Ok place) = Ok tt
 outcome_of (Err stop) = Err stop
 
--- How a run ends at a line whose command was not carried out. Where the entries that are refused one more are not
--- cleared, the map is full.
+-- How a run ends at a line whose command was not carried out. A weak map that is full of pairs behind a full collection
+-- is the fault `weakfull`.
 abbrev pub how_of : Stop → How
 how_of (stop.Fault word) = Fault word
 how_of (stop.NoRoom need) = HeapFull need
@@ -74,7 +74,7 @@ Halts script stage collections waiting finished so_far old new faults_old faults
     EndsRun script stage.heap stage.rows collections finished.executed so_far came finished.line
     × Handed old new waiting so_far.bytes × (faults_new ≡ faults_old)
 
--- The run before its last bytes are handed on: how far it came, how many collections came since the last line,
+-- The run before its last bytes are handed on: how far it came, how far the heap was collected since the last line,
 -- what it spent, and how it halted.
 pub record Pauses (script : ScriptText) (stage : Stage) (waiting : List ℕ) (finished : Finished)
     (old new : List ℕ → Type 0) (faults_old faults_new : ℕ) : Type 0 where

@@ -1,10 +1,11 @@
 -- How far a script was run on a heap, and how the run ended.
-use Rattle.std.specs.Prelude.{◌≡◌, ◌≢◌, ◌⊎◌, ◌↔◌, ℕ, ◌+◌, ◌<◌, ◌≤◌, List, ◌∷◌}
+use Rattle.std.specs.Prelude.{◌≡◌, ◌⊎◌, ◌↔◌, ℕ, ◌+◌, ◌<◌, ◌≤◌, List, ◌∷◌}
 use Rattle.std.specs.Prelude.{[], ◌++◌, length, take, drop, All, Option, Some, None, IsTrue}
 use Rattle.std.specs.Prelude.{false, slice_get, nat_lt, if◌then◌else◌}
-use Rattle.heap_model.specs.Types.{Command, Run}
+use Rattle.heap_model.specs.Types.{Command, FaultWord, Run}
 use Rattle.heap_command.specs.Executed.{Executed}
-use Rattle.heap_command.specs.declared.command.Command.TheVariants.{Scavenge}
+use Rattle.heap_command.specs.declared.command.FaultWord.TheVariants.{WeakFull}
+use Rattle.heap_command.specs.declared.command.Command.TheVariants.{Scavenge, Gc, Census}
 use Rattle.object_graph.specs.Graphs.{Graph}
 use Rattle.object_graph.specs.Limits.{ideal_limits}
 use Rattle.object_graph.specs.Run.{Told, told, lines_most, Ending, end, fault_at, limit_at, ending, EndsAfter}
@@ -18,11 +19,12 @@ use Rattle.heap_model.specs.Slots.{IsPlace}
 use Rattle.heap_model.specs.Needs.{capacity_at, lacks_room}
 use Rattle.heap_model.specs.Collectable.{AreFreeRuns}
 use Rattle.heap_model.specs.Reaching.{IsTight, FillsPages}
-use Rattle.heap_model.specs.Rooms.{Room, HasRooms, need_of}
+use Rattle.heap_model.specs.Rooms.{Room, HasRooms, need_of, FindsMapFull}
 use Rattle.heap_model.specs.Showing.{Shows}
 use Rattle.free_runs.specs.FreeRuns.{AreFree, FitsNowhere, whole_rows}
-use Rattle.root_mark.specs.Rooted.{KeepsRooted, FreeIsRun}
-use Rattle.collector.specs.Making.{LeavesRooted}
+use Rattle.live_cells.specs.Exact.{Exact, Fits}
+use Rattle.live_cells.specs.Fitting.{DeadIsFree}
+use Rattle.exact_heaps.specs.Collected.{LeavesExact}
 use Rattle.scavenger.specs.Laws.{KeepsPlaces, TakesWords, PromotesWhatFits, PromotesNoOther, IsStuck}
 use Rattle.mutator.specs.Capacities.{KeepsStores}
 use Rattle.mutator.specs.declared.output.TheConstants.{OUTPUT_BYTES, ROOM}
@@ -41,16 +43,17 @@ AreBuilt lines = All (λ line. IsBuilt unbuilt_keywords line.what) lines
 abbrev pub left_after : ScriptText → ℕ → List Executed
 left_after script executed = drop executed (executed_lines script.lines)
 
--- The heap, whose pages have these free runs, is full for so many words: eden is empty, each young cell is reached from
--- a variable or a slot of a page, each cell that is not free is reached from variables alone, where pairs of weak
--- tables count as slots, the survivors and these words are more than the words of the young generation, each free word
--- of a page is in a free run, no free run has so many words, and each young cell is longer than each free run.
-pub record IsFull (heap : Heap) (rows : List (List Run)) (need : ℕ) : Type 0 where
+-- The heap, which shows a graph and whose pages have these free runs, is full for so many words: it keeps exactly what
+-- can be reached, and they fit nowhere beside that. Eden is empty, each young cell is reached from a variable or a slot
+-- of a page, the survivors and these words are more than the words of the young generation, each word of a page that is
+-- not kept is in a free run, no free run has so many words, and each young cell is longer than each free run.
+pub record IsFull (heap : Heap) (rows : List (List Run)) (graph : Graph) (need : ℕ) : Type 0 where
+  pub exact : Exact heap graph
+  pub full : Fits heap need → ⊥
   pub empty : heap.used ≡ 0
   pub tight : IsTight heap
-  pub rooted : KeepsRooted heap
   pub lacks : IsTrue (lacks_room heap need)
-  pub free_words : FreeIsRun heap rows
+  pub dead : DeadIsFree heap rows
   pub runs : FitsNowhere rows need
   pub stuck : IsStuck heap rows
 
@@ -71,11 +74,18 @@ pub record UsesNeed (old new : Stage) (graph after : Graph) (collections : ℕ) 
   pub spends : SpendsWords old new collections (need_of graph rooms command)
   pub stores : KeepsStores old.heap new.heap graph after command rooms
 
--- A command that leads from one graph to another allocates on the heap, behind so many collections. The regions stay, and
--- no survivor comes or goes.
+-- a command finds its weak map full of pairs, whatever rooms objects have in the heap
+abbrev pub FindsMapFullFor : Heap → Graph → Option Command → Type 0
+FindsMapFullFor heap graph None = ⊥
+FindsMapFullFor heap graph (Some command) =
+    (entries : ℕ) × ((rooms : ℕ → Room) → HasRooms heap graph rooms → FindsMapFull graph rooms command entries)
+
+-- A command that leads from one graph to another allocates on the heap, behind so many collections. It does not find
+-- its weak map full of pairs. The regions stay, and no survivor comes or goes.
 pub record Allocates (old new : Stage) (graph after : Graph) (collections : ℕ) (command : Command) : Type 0 where
   pub space : new.heap.space ≡ old.heap.space
   pub survivors : new.heap.survivors ≡ old.heap.survivors
+  pub unfull : FindsMapFullFor old.heap graph (Some command) → ⊥
   pub uses : (rooms : ℕ → Room) → HasRooms old.heap graph rooms
       → UsesNeed old new graph after collections command rooms
 
@@ -99,21 +109,29 @@ pub record IsCollected (old new : Stage) (graph : Graph) : Type 0 where
   pub free : AreFreeRuns new.heap new.rows
   pub apart : AreFree new.rows
 
--- What is told of a full collection: objects have the rooms that they had; the regions stay; the heap is the old one
--- moved, where cells of pages that are kept stay in their places; all that is not free is reached from variables, where
--- pairs of weak tables count as slots; eden is empty, and the survivors are no more than survivors and used words
--- before; each free word of a page is in a free run, the runs neither overlap nor touch, and each cell that is young
--- still is reached, and longer than each of them.
-pub record IsFullyCollected (old new : Stage) (graph : Graph) : Type 0 where
-  pub rooms : (rooms : ℕ → Room) → HasRooms old.heap graph rooms ↔ HasRooms new.heap graph rooms
-  pub leaves : LeavesRooted old.heap new.heap new.rows
+-- What is told of a full collection: the heap that is left keeps exactly what can be reached, each live cell of a page
+-- in its place, and what is kept needs no more room than before.
+abbrev pub IsFullyCollected : Stage → Stage → Graph → Type 0
+IsFullyCollected old new graph = LeavesExact old.heap new.heap new.rows graph
 
--- what a line does with the heap, before which so many collections came since the last line: one that runs no command
--- leaves it as it is, `scavenge` collects and promotes survivors alone, and any other command allocates
+-- the command asks for a full collection: `gc`, or `census`, which counts what is left
+abbrev pub AsksForAll : Command → Type 0
+AsksForAll command = (command ≡ Gc) ⊎ (command ≡ Census)
+
+-- the command asks for a collection
+abbrev pub AsksToCollect : Command → Type 0
+AsksToCollect command = (command ≡ Scavenge) ⊎ AsksForAll command
+
+-- What a line does with the heap, before which so many collections came since the last line: one that runs no command
+-- leaves it as it is, `scavenge` collects and promotes survivors alone, `gc` and `census` collect fully, and any other
+-- command allocates.
 pub data LineAllocates (old new : Stage) (graph after : Graph) (collections : ℕ) : Option Command → Type 0 where
   passes : new ≡ old → LineAllocates old new graph after collections None
   collects : IsCollected old new graph → LineAllocates old new graph after collections (Some Scavenge)
-  allocates : (command : Command) → command ≢ Scavenge → Allocates old new graph after collections command
+  collects_all : (command : Command) → AsksForAll command → IsFullyCollected old new graph
+      → LineAllocates old new graph after collections (Some command)
+  allocates : (command : Command) → (AsksToCollect command → ⊥)
+      → Allocates old new graph after collections command
       → LineAllocates old new graph after collections (Some command)
 
 -- the heap lacks room for the words that the command of a line needs, whatever rooms objects have in it
@@ -122,12 +140,14 @@ LacksWordsFor heap graph None = ⊥
 LacksWordsFor heap graph (Some command) =
     (rooms : ℕ → Room) → HasRooms heap graph rooms → IsTrue (lacks_room heap (need_of graph rooms command))
 
--- The run does not end after so many lines, but eden lacks room for the words that the next line needs.
+-- The run does not end after so many lines, and the next line does not find its weak map full of pairs, but eden lacks
+-- room for the words that it needs.
 pub record WantsRoom (script : ScriptText) (heap : Heap) (executed : ℕ) (so_far : Told) : Type 0 where
   pub goes_on : ending ideal_limits script.fields so_far.graph executed (left_after script executed) ≡ None
   pub line : Executed
   pub next : slice_get (executed_lines script.lines) executed ≡ Some line
   pub lacks : LacksWordsFor heap so_far.graph line.command
+  pub unfull : FindsMapFullFor heap so_far.graph line.command → ⊥
 
 -- no free run has the words that the command of a line needs, whatever rooms objects have in the heap
 abbrev pub FitsNowhereFor : Stage → Graph → Option Command → Type 0
@@ -140,12 +160,20 @@ pub record LacksAllRoom (script : ScriptText) (stage : Stage) (executed : ℕ) (
   pub wants : WantsRoom script stage.heap executed so_far
   pub runs : FitsNowhereFor stage so_far.graph wants.line.command
 
--- The words that the executed lines of a script spend, one line after another, up to this stage, before which so many
--- collections came since the last line. Before the first line no word is used, and each page is one free run. Each line
--- spends what its command needs, by the graph and the rooms that the lines before it led to. Between two lines the heap
--- is scavenged once where its eden lacks room for the words that the next line needs, and then survivors alone are
--- promoted; and where eden lacks room for them still, and no free run has them, a full collection comes. No third
--- collection comes.
+-- The next line finds its weak map full of pairs, and is no line too many.
+pub record WantsClearing (script : ScriptText) (heap : Heap) (executed : ℕ) (so_far : Told) : Type 0 where
+  pub few : executed < lines_most
+  pub line : Executed
+  pub next : slice_get (executed_lines script.lines) executed ≡ Some line
+  pub full : FindsMapFullFor heap so_far.graph line.command
+
+-- The words that the executed lines of a script spend, one line after another, up to this stage; and how far the heap
+-- was collected since the last line: 0 where it was not, 1 by a scavenge, and 2 by a full collection. Before the first
+-- line no word is used, and the free runs are the pages, each whole. Each line spends what its command needs, by the
+-- graph and the rooms that the lines before it led to. Between two lines the heap is scavenged once where its eden
+-- lacks room for the words that the next line needs, and then survivors alone are promoted; and where eden lacks room
+-- for them still, and no free run has them, a full collection comes. It comes too, and alone, where the next line finds
+-- its weak map full of pairs, since some of them may be such as it clears. Nothing comes behind it.
 pub data Spends (script : ScriptText) : Stage → ℕ → ℕ → Type 0 where
   none : (stage : Stage) → stage.heap.used ≡ 0 → stage.heap.survivors ≡ 0
       → stage.rows ≡ whole_rows stage.heap.space.sizes.pages → RanTo script stage.heap 0 → Spends script stage 0 0
@@ -160,11 +188,14 @@ pub data Spends (script : ScriptText) : Stage → ℕ → ℕ → Type 0 where
   twice : (old new : Stage) (executed : ℕ) → Spends script old executed 1
       → (before : RanTo script old.heap executed) → LacksAllRoom script old executed before.so_far
       → RanTo script new.heap executed → IsFullyCollected old new before.so_far.graph → Spends script new executed 2
+  cleared : (old new : Stage) (executed : ℕ) → Spends script old executed 0
+      → (before : RanTo script old.heap executed) → WantsClearing script old.heap executed before.so_far
+      → RanTo script new.heap executed → IsFullyCollected old new before.so_far.graph → Spends script new executed 2
 
--- The heap has the regions of the one to which the lines led that spent words, and so many collections since the last of
--- them; and as many words are used and have survived. Each object stands where it stands there, with a store of as many
--- slots. The rooms that the objects of the graph after the lines have there are their rooms in the heap too. Its pages
--- have the free runs of that one.
+-- The heap has the regions of the one to which the lines led that spent words, and so many collections since the last
+-- of them; and as many words are used and have survived. Each object stands where it stands there, with a store of as
+-- many slots. The rooms that the objects of the graph after the lines have there are their rooms in the heap too. Its
+-- pages have the free runs of that one. It keeps exactly what can be reached, if that one does.
 pub record HasSpent (script : ScriptText) (heap : Heap) (executed : ℕ) : Type 0 where
   pub last : Stage
   pub collections : ℕ
@@ -178,6 +209,7 @@ pub record HasSpent (script : ScriptText) (heap : Heap) (executed : ℕ) : Type 
   pub rooms : (rooms : ℕ → Room) → HasRooms last.heap reached.so_far.graph rooms
       → HasRooms heap reached.so_far.graph rooms
   pub free : AreFreeRuns heap last.rows
+  pub exact : Exact last.heap reached.so_far.graph → Exact heap reached.so_far.graph
 
 -- the run of the script ends after so many lines, with this told, in this way
 abbrev pub EndsAs : ScriptText → ℕ → Told → Ending → Type 0
@@ -189,7 +221,7 @@ EndsAs script executed so_far ended =
 abbrev pub LacksRoomFor : Heap → List (List Run) → Graph → ℕ → Option Command → Type 0
 LacksRoomFor heap rows graph need None = ⊥
 LacksRoomFor heap rows graph need (Some command) =
-    ((rooms : ℕ → Room) → HasRooms heap graph rooms → need ≡ need_of graph rooms command) × IsFull heap rows need
+    ((rooms : ℕ → Room) → HasRooms heap graph rooms → need ≡ need_of graph rooms command) × IsFull heap rows graph need
 
 -- of these lines the next one has this number, and the heap is full for its command
 abbrev pub IsFullAt : Heap → List (List Run) → Graph → ℕ → ℕ → List Executed → Type 0
@@ -198,21 +230,26 @@ IsFullAt heap rows graph line need (next ∷ more) =
 IsFullAt heap rows graph line need _ = ⊥
 
 -- The run does not end after so many lines: one is next, and it neither faults nor stands at the limit. But the heap is
--- full for its command, for which it was collected twice: it was scavenged, and then fully collected.
+-- full for its command, though it was fully collected since the last line.
 pub record FullAt (script : ScriptText) (heap : Heap) (rows : List (List Run)) (collections executed : ℕ)
     (so_far : Told) (line need : ℕ) : Type 0 where
   pub goes_on : ending ideal_limits script.fields so_far.graph executed (left_after script executed) ≡ None
   pub full : IsFullAt heap rows so_far.graph line need (left_after script executed)
-  pub twice : collections ≡ 2
+  pub collected : collections ≡ 2
+
+-- A fault comes before the heap is collected for its line; but where a weak map was full of pairs it comes behind a
+-- full collection, if the map is full still.
+abbrev pub FaultsBehind : FaultWord → ℕ → Type 0
+FaultsBehind word collections = (collections ≡ 0) ⊎ ((word ≡ WeakFull) × (collections ≡ 2))
 
 -- After so many lines the run comes to an end, in this way and at this line, on a heap whose pages have these free
--- runs, and behind so many collections since the last line: none, but where it is full. A sink that fails
--- is no end of a script.
+-- runs, and which was so far collected since the last line: not at all, but where it, or a weak map, is full. A sink
+-- that fails is no end of a script.
 abbrev pub EndsRun : ScriptText → Heap → List (List Run) → ℕ → ℕ → Told → How → ℕ → Type 0
 EndsRun script heap rows collections executed so_far how.End line =
     (line ≡ 0) × (collections ≡ 0) × EndsAs script executed so_far end
 EndsRun script heap rows collections executed so_far (how.Fault word) line =
-    (collections ≡ 0) × EndsAs script executed so_far (fault_at line word)
+    FaultsBehind word collections × EndsAs script executed so_far (fault_at line word)
 EndsRun script heap rows collections executed so_far (how.HeapFull need) line =
     FullAt script heap rows collections executed so_far line need
 EndsRun script heap rows collections executed so_far (how.SinkFault need) line = ⊥

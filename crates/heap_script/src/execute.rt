@@ -1,21 +1,21 @@
-//! One command of a script on the heap. Which line comes next stands in `interpreter` and
-//! `loop_counters`.
+//! One command of a script on the heap. What is done where it stops stands in `making_way`, and which line comes next
+//! in `interpreter` and `loop_counters`.
 ghost use Rattle.std.specs.Prelude.{◌≡◌, ◌+◌, ◌<◌, ◌≤◌, ◌^◌};
 ghost use Rattle.std.specs.Prelude.{ℕ, List, ◌++◌, length, if◌then◌else◌};
-ghost use Rattle.std.specs.Prelude.{◌↔◌, false, is_ok, IsTrue, OnOk, OnErr, IfOk};
-ghost use Rattle.tagged_word.specs.Cells.{cell_words_most};
+ghost use Rattle.std.specs.Prelude.{false, is_ok, OnOk, OnErr, IfOk};
 ghost use Rattle.object_graph.specs.Graphs.{Graph};
+ghost use Rattle.object_graph.specs.Reach.{reached_objects, reached_entries};
 ghost use Rattle.object_graph.specs.Run.{lines_most};
+ghost use Rattle.object_graph.specs.Texts.{line, census_text};
 ghost use Rattle.heap_command.specs.Commands.{IsWithin};
 ghost use Rattle.script_text.specs.declared.script.What.TheVariants.{Run};
 ghost use Rattle.script_text.specs.Limits.{open_most};
 ghost use Rattle.script_text.specs.Table.{unbuilt_keywords};
 ghost use Rattle.script_text.specs.Sound.{IsBuilt, NamesWithin, AreShort};
-ghost use Rattle.nursery.specs.Young.{HasRoom};
 ghost use Rattle.scavenger.specs.Scavenged.{Scavenges};
 ghost use Rattle.scavenger.specs.Laws.{KeepsGraphs};
 ghost use Rattle.mutator.specs.CarriesOut.{field_numbers};
-ghost use Rattle.collector.specs.Making.{IsOutOfRoom, CollectsFor};
+ghost use Rattle.exact_heaps.specs.Collected.{CollectsAll};
 ghost use Rattle.collector.specs.States.{HeapShows};
 ghost use Rattle.heap_script.specs.Collecting.{Tries, CarriesAtLast};
 ghost use Rattle.heap_script.specs.Progress.{objects_made, made_by, command_in};
@@ -23,8 +23,10 @@ ghost use Rattle.heap_script.specs.Progress.{CarriesLine, outcome_of};
 ghost use Rattle.heap_script.specs.LoopCounters.{standing_after};
 
 use crate::loop_counters::LoopCounters;
+use crate::making_way::{Tried, make_way};
 use collector::Heap;
 use heap_command::Command;
+use live_cells::{laws_of_counts, laws_of_fitting};
 use mutator::{OUTPUT_BYTES, Output, ROOM, Stop};
 use script_text::{Script, What};
 
@@ -67,8 +69,8 @@ pub(crate) fn execute_line(
     }
 }
 
-/// Carries a command out. Where there is no room for it, the heap makes some by collections, behind which it
-/// may grant words of a page, and then it is tried again.
+/// Carries a command out. Where it stops for want of room, or since its weak map is full of pairs, way is made for it,
+/// and then it is tried again.
 #[inline(always)]
 fn carry_out(
     heap: &mut Heap,
@@ -91,40 +93,21 @@ fn carry_out(
     ensures counted { OnOk result (objects.new ≡ objects.old + objects_made command.now) }
 {
     // The call stands in one place alone: with a second one it is not inlined into the loop over
-    // lines, whatever its attribute asks. Once there is room the command finds it, so no third try
-    // comes.
-    let mut again = false;
+    // lines, whatever its attribute asks.
+    let mut tried = Tried::Once;
     'tries: loop {
         let Err(stop) = execute(heap, script, objects, command, out) else {
             return Ok(());
         };
-        let Stop::NoRoom { need } = stop else {
+        let Some(next) = make_way(heap, stop, tried) else {
+            // A weak map that is full still, or words for which there is no room, behind a full
+            // collection: the one is a fault, and the others fit nowhere.
+            laws_of_counts();
+            laws_of_fitting();
             return Err(stop);
         };
-        if again || !ensure_room(heap, need) {
-            return Err(stop);
-        }
-        again = true;
+        tried = next;
     }
-}
-
-/// Asks the heap for so many words, for which a command found no room, and answers whether there
-/// is room now.
-#[cold]
-#[inline(never)]
-fn ensure_room(heap: &mut Heap, need: u32) -> bool
-    requires some { 1 ≤ need }
-    requires few { need ≤ cell_words_most }
-    requires shown { (graph : Graph) × HeapShows heap.old graph }
-    ensures room { IsTrue result → HasRoom heap.new.main.young need }
-    ensures full { result ≡ false → IsOutOfRoom heap.new.main need }
-    ensures collected { ¬ HasRoom heap.old.main.young need →
-        CollectsFor heap.old.main heap.new.main need }
-    ensures shows { (graph : Graph) → HeapShows heap.old graph → HeapShows heap.new graph }
-    ensures rooms { KeepsGraphs heap.old.main heap.new.main }
-    ensures spare { heap.new.spare ≡ heap.old.spare }
-{
-    heap.ensure(need).is_ok()
 }
 
 /// Scavenges the heap, as the command asks.
@@ -137,6 +120,34 @@ fn scavenge(heap: &mut Heap)
     ensures spare { heap.new.spare ≡ heap.old.spare }
 {
     heap.scavenge();
+}
+
+/// Collects the heap fully, as the command asks.
+#[cold]
+#[inline(never)]
+fn collect_all(heap: &mut Heap)
+    requires shown { (graph : Graph) × HeapShows heap.old graph }
+    ensures collected { (graph : Graph) → HeapShows heap.old graph →
+        CollectsAll heap.old.main heap.new.main graph }
+    ensures spare { heap.new.spare ≡ heap.old.spare }
+{
+    heap.collect_all();
+}
+
+/// Collects the heap fully, and tells how many objects and entries of weak maps are left.
+#[cold]
+#[inline(never)]
+fn tell_census(heap: &mut Heap, out: &mut Output)
+    requires shown { (graph : Graph) × HeapShows heap.old graph }
+    requires room { length out.old + ROOM ≤ OUTPUT_BYTES }
+    ensures collected { (graph : Graph) → HeapShows heap.old graph →
+        CollectsAll heap.old.main heap.new.main graph }
+    ensures told { (graph : Graph) → HeapShows heap.old graph →
+        out.new ≡ out.old ++ line (census_text (reached_objects graph) (reached_entries graph)) }
+    ensures spare { heap.new.spare ≡ heap.old.spare }
+{
+    let census = heap.census();
+    mutator::put_census(census.objects, census.entries, out);
 }
 
 /// Carries a command out, if there is room for it. `objects` counts the objects that were made.
@@ -189,6 +200,14 @@ fn execute(
         Command::Shape { x } => mutator::shape(heap.main_mut(), script, *x, out),
         Command::Scavenge => {
             scavenge(heap);
+            Ok(())
+        }
+        Command::Gc => {
+            collect_all(heap);
+            Ok(())
+        }
+        Command::Census => {
+            tell_census(heap, out);
             Ok(())
         }
         _ => unreachable!(),

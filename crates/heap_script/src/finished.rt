@@ -11,8 +11,8 @@ pub enum How {
     End,
     /// The command of the next line is this fault.
     Fault(FaultWord),
-    /// The heap has no room for the words that the command of the next line needs, so many, neither in
-    /// eden nor in a free run of a page, though it was scavenged twice for them.
+    /// The heap has no room for the words that the command of the next line needs, so many, though it
+    /// keeps exactly what can be reached: it was fully collected since the last line.
     HeapFull { need: u32 },
     /// The sink failed. Where it did so after the run had come to a full heap, this is the need
     /// there, and else 0.

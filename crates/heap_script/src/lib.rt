@@ -3,7 +3,7 @@
 //!
 //! Model: a run has come so far as it has executed lines. `RanTo` of `specs/Runs.antt` says that a
 //! heap shows the graph after them, `Spends` from which words of eden and of free runs the lines had
-//! what they needed, and how often and why the heap was collected between them, and `EndsAs` in what way
+//! what they needed, and how far and why the heap was collected between them, and `EndsAs` in what way
 //! a run ends. `Finishes` is what `run_script` promises.
 //! Invariant: between two lines the place in the script and the turns left of its open blocks stand
 //! for the lines that are left to execute, what was told was handed on or waits in the output, and no
@@ -15,6 +15,7 @@ mod finished;
 mod flushing;
 mod interpreter;
 mod loop_counters;
+mod making_way;
 
 pub use finished::{Finished, How};
 pub use interpreter::run_script;

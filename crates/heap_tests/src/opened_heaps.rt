@@ -172,23 +172,6 @@ fn reserves(rt: &impl Abort, heap: &mut Heap, need: u32, at: Option<u32>) {
 }
 
 #[test]
-fn an_opened_heap_has_room_in_eden_and_in_its_page(rt: HostRuntime) -> Result<(), Fail> {
-    let mut heap = opened(&rt, rt.alloc(), SMALL)?;
-    assert_eq!(rt; heap.ensure(64), Ok(()));
-    // The first 65 words of the page are granted, and no cell is made in them.
-    assert_eq!(rt; heap.ensure(65), Ok(()));
-    // More than the 1,983 that are left of it: a full collection takes back what was granted.
-    assert_eq!(rt; heap.ensure(1_984), Ok(()));
-    assert_eq!(rt; heap.ensure(2_048), Ok(()));
-    heap.scavenge();
-    assert_eq!(rt; heap.ensure(65), Ok(()));
-    assert_eq!(rt; heap.ensure(64), Ok(()));
-    assert!(rt; heap.main().granted() == Run { at: 0, words: 65 });
-    assert_eq!(rt; heap.main().used(), 0);
-    Ok(())
-}
-
-#[test]
 fn eden_gives_its_words_one_behind_another_to_its_end(rt: HostRuntime) -> Result<(), Fail> {
     let mut heap = opened(&rt, rt.alloc(), SMALL)?;
     assert_eq!(rt; heap.image().words.as_slice().len(), 10_442);

@@ -3,3 +3,4 @@ mod SamePaths
 mod PathLists
 pub mod BindingTrees
 mod BoundFrom
+mod MarkedEntries

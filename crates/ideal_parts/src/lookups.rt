@@ -1,11 +1,14 @@
 //! The objects that values refer to, by their kinds, and whether there is room in them.
-ghost use Rattle.std.specs.Prelude.{◌≡◌, ◌<◌, [], IfOk, length};
+ghost use Rattle.std.specs.Prelude.{◌≡◌, ◌<◌, ◌&&◌, IfOk, is_some, length};
 ghost use Rattle.object_graph.specs.Meaning.{no_room_for, no_entry_for};
 ghost use Rattle.object_graph.specs.Graphs.{plain_at, list_at, weak_at};
 ghost use Rattle.object_graph.specs.Limits.{ideal_limits};
+ghost use Rattle.object_graph.specs.Objects.{entry_value};
+ghost use Rattle.object_graph.specs.Reach.{is_marked};
 ghost use Rattle.ideal_parts.specs.Lookups.{FindsAs, seen_plain, seen_list, seen_weak};
 
 use crate::keyed::value_under;
+use crate::marks::{count_keyed, is_marked};
 use heap_command::FaultWord;
 use object_graph::limits::{ENTRIES_MOST, FIELDS_MOST};
 use object_graph::{Entry, Field, Object, Value};
@@ -92,10 +95,16 @@ pub fn has_no_room(plain: &Plain<'_>, name: u32) -> bool
     is_new && plain.fields.len() >= FIELDS_MOST as usize
 }
 
-/// Whether the key is new to the weak map, which has as many entries as it may have.
-pub fn is_full_for(entries: &[Entry], key: u32) -> bool
-    ensures { result ≡ no_entry_for ideal_limits [] entries.now key }
+/// Whether no entry with a marked key has this key, and as many have a marked key as a weak map may have.
+pub fn is_full_for(marks: &[bool], entries: &[Entry], key: u32) -> bool
+    ensures { result ≡ no_entry_for marks.now entries.now key }
 {
-    let is_new = value_under(entries, key).is_none();
-    is_new && entries.len() >= ENTRIES_MOST as usize
+    !is_known(marks, entries, key) && count_keyed(marks, entries) >= u64::from(ENTRIES_MOST)
+}
+
+/// Whether the key is marked, and an entry has it.
+fn is_known(marks: &[bool], entries: &[Entry], key: u32) -> bool
+    ensures { result ≡ (is_marked marks.now key && is_some (entry_value entries.now key)) }
+{
+    is_marked(marks, key) && value_under(entries, key).is_some()
 }

@@ -37,7 +37,7 @@ pub fn marked_entries(marks: &[bool], object: &Object) -> u64
 }
 
 /// How many of the entries have a marked key.
-fn count_keyed(marks: &[bool], entries: &[Entry]) -> u64
+pub(crate) fn count_keyed(marks: &[bool], entries: &[Entry]) -> u64
     ensures { result ≡ count_by (λ entry. is_marked marks.now entry.key) entries.now }
 {
     let mut count = 0;

@@ -53,7 +53,7 @@ used_not_dead {cell = cell} {words} at keeps has used word dead =
     ]
 
 -- a live cell is not free
-live_used : {heap : Heap} {graph : Graph} {cell : Cell} {words : List ℕ} → HasCell heap cell words
+pub live_used : {heap : Heap} {graph : Graph} {cell : Cell} {words : List ℕ} → HasCell heap cell words
     → BelongsToReached heap graph cell.at → IsTrue (is_free_kind cell.layout.kind) → ⊥
 live_used has (BelongsToReached.place number place reached) = used_not_free (place_used place) has refl
 live_used {cell = cell} has (BelongsToReached.named owner slot names reached) =

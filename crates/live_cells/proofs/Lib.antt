@@ -8,6 +8,7 @@ pub mod SlotsReached
 pub mod LiveReached
 pub mod Pigeons
 pub mod PairCounts
+pub mod FullMaps
 pub mod LiveKept
 pub mod MovedNames
 pub mod KeptOnly

@@ -1,13 +1,17 @@
 -- How many pairs the table of a weak map holds, against the entries of the graph.
 use Rattle.std.specs.Prelude.{◌≡◌, ℕ, ◌≤◌, List, Some, slice_get, count_by, IsTrue}
 use Rattle.object_graph.specs.declared.object.Object.TheVariants.{Weak}
+use Rattle.heap_command.specs.declared.command.FaultWord.TheVariants.{WeakFull}
 use Rattle.object_graph.specs.Graphs.{Graph}
 use Rattle.object_graph.specs.Invariants.{IsGraph}
 use Rattle.object_graph.specs.Reach.{is_marked, reach}
-use Rattle.heap_model.specs.Types.{Entry}
+use Rattle.object_graph.specs.Meaning.{fault, does}
+use Rattle.object_graph.specs.Limits.{ideal_limits}
+use Rattle.heap_model.specs.Types.{Entry, Command}
 use Rattle.heap_model.specs.Heaps.{Heap}
 use Rattle.heap_model.specs.Slots.{IsPlace}
 use Rattle.heap_model.specs.Needs.{count_at}
+use Rattle.heap_model.specs.Rooms.{Room, HasRooms, FindsMapFull}
 use Rattle.heap_model.specs.Showing.{Shows}
 use Rattle.live_cells.specs.Exact.{Exact}
 
@@ -33,3 +37,10 @@ abbrev pub ExactMapsHaveNoOthers : Type 0
 ExactMapsHaveNoOthers =
     (heap : Heap) (graph : Graph) (at : ℕ) (entries : List Entry) → IsGraph graph → Exact heap graph
     → IsReachedMap heap graph at entries → count_at heap at ≡ reached_keys graph entries
+
+-- So a command that finds its map full there is a fault: as many keys of entries can be reached as a map may have.
+abbrev pub ExactMapsAreFull : Type 0
+ExactMapsAreFull =
+    (heap : Heap) (graph : Graph) (rooms : ℕ → Room) (names : List (List ℕ)) (command : Command) (entries : ℕ)
+    → IsGraph graph → Exact heap graph → HasRooms heap graph rooms → FindsMapFull graph rooms command entries
+    → does ideal_limits names graph command ≡ fault WeakFull

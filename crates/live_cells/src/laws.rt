@@ -2,7 +2,7 @@
 //! of heaps that keep nothing else.
 ghost use Rattle.live_cells.specs.Census.{KeepsTheCensus};
 ghost use Rattle.live_cells.specs.Cleared.{LiveMapsTell, LiveIsClosed, TakenPairsLeaveLive};
-ghost use Rattle.live_cells.specs.Counts.{MapsHaveReachedKeys, ExactMapsHaveNoOthers};
+ghost use Rattle.live_cells.specs.Counts.{MapsHaveReachedKeys, ExactMapsHaveNoOthers, ExactMapsAreFull};
 ghost use Rattle.live_cells.specs.Fitting.{NoRunFitsNone, RunsFit, SweptDeadIsFree, MovedDeadIsFree};
 ghost use Rattle.live_cells.specs.Keeping.{MovesForReached, LiveIsForReached, SweptKeepsNoOther};
 ghost use Rattle.live_cells.specs.Keeping.{MovedKeepsNoOther, TightIsExact, MovedIsExact};
@@ -24,11 +24,13 @@ pub fn laws_of_live_cells()
 {}
 
 /// A weak map that can be reached has at least as many pairs as entries whose key can be reached. In
-/// a heap that keeps exactly what can be reached it has just as many. A heap that keeps nothing else
-/// has as many objects' cells, and its weak maps as many pairs, as the census tells.
+/// a heap that keeps exactly what can be reached it has just as many; so a command that finds its map
+/// full there is a fault in the graph too. A heap that keeps nothing else has as many objects' cells,
+/// and its weak maps as many pairs, as the census tells.
 pub fn laws_of_counts()
     ensures at_least { MapsHaveReachedKeys }
     ensures exact { ExactMapsHaveNoOthers }
+    ensures full { ExactMapsAreFull }
     ensures census { KeepsTheCensus }
 {}
 

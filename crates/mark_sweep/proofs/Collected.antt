@@ -8,6 +8,7 @@ use Rattle.heap_table.specs.Seats.{RestStays}
 use Rattle.heap_table.specs.Staying.{rest_stays_again}
 use Rattle.heap_model.specs.Types.{Run}
 use Rattle.heap_model.specs.Heaps.{Heap}
+use Rattle.heap_model.specs.Rooms.{RoomsAreNoFuller}
 use Rattle.heap_model.specs.Showing.{Shows}
 use Rattle.heap_model.specs.Collectable.{IsCollectable}
 use Rattle.heap_model.specs.Remembered.{AreRemembered}
@@ -15,15 +16,14 @@ use Rattle.live_cells.specs.Exact.{KeepsNoOther}
 use Rattle.live_cells.specs.Fitting.{DeadIsFree}
 use Rattle.live_cells.proofs.DeadIsFree.{swept_dead_is_free}
 use Rattle.live_cells.proofs.KeptOnly.{swept_keeps_no_other}
-use Rattle.live_cells.proofs.LiveKept.{reached_is_live}
 use Rattle.write_barrier.specs.MutatorState.{Mutator, heap_of, IsTied, AvoidsFree, MainShows}
 use Rattle.object_cells.proofs.TakenRuns.{bumped_none}
 use Rattle.ephemeron_clear.specs.Clearing.{Clears}
 use Rattle.sweeper.specs.Swept.{Sweeps, place_if_marked}
-use Rattle.mark_sweep.specs.MarkSwept.{KeepsObjects, MarkSweeps, RoomsAreNoFuller, StillShows, Ungrants}
+use Rattle.mark_sweep.specs.MarkSwept.{LiveCellsStay, KeepsObjects, MarkSweeps, Ungrants}
 use Rattle.mark_sweep.proofs.Ungranted.{heap_stays, ungranted_remembered}
 use Rattle.mark_sweep.proofs.ClearedHeap.{IsMarked, still_collectable, still_live, still_shown}
-use Rattle.mark_sweep.proofs.SweptObjects.{SweptAfter, marked_stay, objects_kept, rooms_no_fuller}
+use Rattle.mark_sweep.proofs.SweptObjects.{SweptAfter, live_stays, marked_stay, objects_kept, rooms_no_fuller}
 
 -- From a heap that shows a graph, nothing was granted any more; its live cells were marked; dead entries were cleared;
 -- and what was not marked was made free.
@@ -74,8 +74,7 @@ module _ {old bare cleared new : Mutator} {graph : Graph} {maps marked : List �
   after = record {
     shown = steps.is_marked.shows;
     takes = steps.clears.takes;
-    reached_marked = λ number at reached place.
-        reached_is_live (heap_of bare) graph marked number at steps.is_marked.shows steps.is_marked.live reached place;
+    live = steps.is_marked.live;
     moved = steps.sweeps.moved;
     shows = keeps.shows;
     reached = keeps.reached;
@@ -144,8 +143,8 @@ module _ {old bare cleared new : Mutator} {graph : Graph} {maps marked : List �
       (ungranted_remembered steps.ungrants steps.shown.bounded steps.shown.remembered))
 
   -- So the graph is shown.
-  still : StillShows new graph
-  still = record {
+  still_shows : MainShows new graph
+  still_shows = record {
     tied = tied;
     is_graph = steps.shown.is_graph;
     quiet = steps.sweeps.seat.phase ∙ steps.clears.takes.whole.quiet;
@@ -160,11 +159,12 @@ module _ {old bare cleared new : Mutator} {graph : Graph} {maps marked : List �
   -- And all is as it should be.
   pub collected : MarkSweeps old new graph
   collected = record {
-    still = still;
+    shows = still_shows;
     keeps = keeps;
     dead = dead;
     runs = steps.sweeps.apart;
     rows = steps.sweeps.rows ∙ ap (λ (space : Space). space.sizes.pages) (sym steps.sweeps.seat.space);
+    cells = subst (λ (heap : Heap). LiveCellsStay heap (heap_of new)) same_heap (live_stays after);
     objects = subst (λ (heap : Heap). KeepsObjects heap (heap_of new) graph) same_heap (objects_kept after);
     rooms = subst (λ (heap : Heap). RoomsAreNoFuller heap (heap_of new) graph) same_heap (rooms_no_fuller after);
     seat = rest;

@@ -1,20 +1,18 @@
--- What is left of objects once a heap was cleared and swept: each that can be reached stands where it stood, and none
--- holds more.
-use Rattle.std.proofs.Common.{◌≡◌, ℕ, ◌≤◌, inr, List, length, Contains, Some, IsTrue, slice_get}
+-- What is left of cells and objects once a heap was cleared and swept: each live cell stands where it stood, so does
+-- each object that can be reached, and none holds more.
+use Rattle.std.proofs.Common.{◌≡◌, ℕ, ◌≤◌, inr, List, Contains, Some, IsTrue, slice_get}
 use Rattle.std.proofs.Common.{refl, sym, ◌∙◌, ap, subst, arith}
 use Rattle.std.proofs.lemmas.Bool.{false≢true}
 use Rattle.tagged_word.specs.Cells.{is_free_kind}
 use Rattle.object_graph.specs.declared.object.Object.TheVariants as graph_object
 use Rattle.object_graph.specs.Graphs.{Graph}
 use Rattle.object_graph.specs.Reach.{is_marked, reach}
-use Rattle.heap_model.specs.Types.{Value, Object, Cell}
-use Rattle.heap_model.specs.Heaps.{Heap}
+use Rattle.heap_model.specs.Types.{Object, Cell}
+use Rattle.heap_model.specs.Heaps.{Heap, words_of_cell}
 use Rattle.heap_model.specs.Slots.{is_object_kind, IsPlace}
-use Rattle.heap_model.specs.Kinds.{count_offset}
 use Rattle.heap_model.specs.Needs.{capacity_at, count_at}
-use Rattle.heap_model.specs.Rooms.{Room, room_at}
+use Rattle.heap_model.specs.Rooms.{Room, room_at, IsNoFuller, RoomsAreNoFuller}
 use Rattle.heap_model.specs.Showing.{Shows}
-use Rattle.heap_model.proofs.WordsRead.{word_of_cell}
 use Rattle.heap_moves.specs.Moved.{IsMoved}
 use Rattle.heap_moves.specs.Laws.{IsPlaceMoved}
 use Rattle.heap_moves.specs.Standing.{Stays}
@@ -22,13 +20,15 @@ use Rattle.heap_moves.proofs.AllStands.{whole_for}
 use Rattle.heap_moves.proofs.MovedCells.{origin, place_before, place_moved}
 use Rattle.heap_moves.proofs.MovedRooms.{moves_keep_room}
 use Rattle.live_cells.specs.Keeping.{StayInPlace}
+use Rattle.live_cells.specs.Live.{AreLive}
+use Rattle.live_cells.proofs.LiveKept.{reached_is_live}
 use Rattle.live_cells.proofs.ReachedMarked.{shown_place}
 use Rattle.write_barrier.specs.MutatorState.{Mutator, heap_of}
 use Rattle.ephemeron_table.specs.Probes.{IsWeakCellAt}
 use Rattle.ephemeron_clear.specs.Clearing.{TakesUnmarked}
 use Rattle.sweeper.specs.Swept.{place_if_marked}
 use Rattle.sweeper.proofs.KeptPlaces.{place_is_kept, place_of_marked}
-use Rattle.mark_sweep.specs.MarkSwept.{IsNoFuller, KeepsObjects, RoomsAreNoFuller}
+use Rattle.mark_sweep.specs.MarkSwept.{LiveCellsStay, KeepsObjects}
 
 -- what is marked stays in its place, and nothing else stays
 pub marked_stay : (marked : List ℕ) → StayInPlace marked (place_if_marked marked)
@@ -39,34 +39,32 @@ marked_stay marked = record {
       (sym kept.same, kept.among);
 }
 
--- a list that is shown has as many elements as it counts
-list_counted : {heap : Heap} {graph : Graph} {number at : ℕ} (elements : List Value) → Shows heap graph
-    → slice_get graph.objects number ≡ Some (graph_object.List elements) → IsTrue (is_marked (reach graph) number)
-    → IsPlace heap number at → count_at heap at ≡ length elements
-list_counted {heap} {number = number} elements shows object reached place =
-    let shown = shows.reached number (graph_object.List elements) object reached in
-    ap (count_at heap) (shown.once _ place)
-    ∙ word_of_cell count_offset (length elements) shown.has shown.shows.counted
-
 -- Pairs were taken out of the tables of weak maps of a heap, and of what was left the marked cells stay in their
 -- places.
 pub record SweptAfter (old mid : Mutator) (new : Heap) (graph : Graph) (maps marked : List ℕ) : Type 0 where
   pub shown : Shows (heap_of old) graph
   pub takes : TakesUnmarked old mid maps marked
-  pub reached_marked : (number at : ℕ) → IsTrue (is_marked (reach graph) number) → IsPlace (heap_of old) number at
-      → Contains marked at
+  pub live : AreLive (heap_of old) marked
   pub moved : IsMoved (heap_of mid) new (place_if_marked marked)
   pub shows : Shows new graph
   pub reached : (number at : ℕ) → IsPlace new number at → IsTrue (is_marked (reach graph) number)
 
 module _ {old mid : Mutator} {new : Heap} {graph : Graph} {maps marked : List ℕ}
     (after : SweptAfter old mid new graph maps marked) where
-  -- an object that can be reached stands where it stood
+  -- each live cell stands where it stood
+  pub live_stays : LiveCellsStay (heap_of old) new
+  live_stays cell words has live =
+      let stood = after.moved.stands cell (words_of_cell (heap_of mid) cell) cell.at
+      (after.takes.cells.stays cell words has) (place_of_marked marked cell.at ((after.live cell.at).1 live)) in
+      (stood.others, stood.has)
+
+  -- an object that can be reached does
   reached_stays : (number at : ℕ) → IsTrue (is_marked (reach graph) number) → IsPlace (heap_of old) number at
       → IsPlace new number at
   reached_stays number at reached place =
       place_moved after.moved at ((after.takes.places number at).0 place)
-      (place_of_marked marked at (after.reached_marked number at reached place))
+      (place_of_marked marked at
+      (reached_is_live (heap_of old) graph marked number at after.shown after.live reached place))
 
   -- what stands stood there once pairs were taken
   stood_between : (number at : ℕ) → IsPlace new number at → IsPlace (heap_of mid) number at × Contains marked at
@@ -138,10 +136,6 @@ module _ {old mid : Mutator} {new : Heap} {graph : Graph} {maps marked : List �
     stays = reached_stays;
     stood = stood_before;
     capacities = same_capacity;
-    elements = λ number at elements object place.
-        let reached = after.reached number at place in
-        list_counted elements after.shows object reached place
-        ∙ sym (list_counted elements after.shown object reached (stood_before number at place));
     entries = no_more_entries;
   }
 

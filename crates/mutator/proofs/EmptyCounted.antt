@@ -13,10 +13,9 @@ use Rattle.heap_model.specs.Heaps.{Heap}
 use Rattle.heap_model.specs.Slots.{undefined_word, HoldsStore}
 use Rattle.heap_model.specs.Kinds.{HasTable, IsSoundOf}
 use Rattle.heap_model.specs.Showing.{ShowsObject}
-use Rattle.heap_model.proofs.CountsStay.{HasCountOf}
 use Rattle.object_cells.proofs.RunCells.{bare_layout}
 use Rattle.mutator.specs.Making.{empty_counted}
-use Rattle.mutator.proofs.NewCells.{NewCell, cell_of, RefersNowhere}
+use Rattle.mutator.proofs.NewCells.{NewCell, cell_of, RefersNowhere, CountsNone}
 
 -- what such a cell is made of
 abbrev pub counted_cell : Kind → Header → NewCell
@@ -36,7 +35,7 @@ pub record IsCountedKind (k : Kind) (shape : ℕ) (what : Object) : Type 0 where
       → IsSoundOf k heap (cell_of at (counted_cell k header)) (empty_counted header)
   pub shows : (heap : Heap) (marks : List Bool) (at : ℕ) (header : Header)
       → ShowsObject heap marks (cell_of at (counted_cell k header)) (empty_counted header) what
-  pub counts : (header : Header) → HasCountOf (empty_counted header) what
+  pub counts : (header : Header) → CountsNone (empty_counted header) what
 
 -- so it is with lists without elements
 pub list_is_counted : IsCountedKind kind.List list_shape (ListOf [])

@@ -1,5 +1,5 @@
 -- Which rooms `wput` and `wdel` give a weak map, where the map is known.
-use Rattle.std.proofs.Common.{◌≡◌, ℕ, List, length, Option, Some, None, refl, sym, ◌∙◌, ap, subst, arith}
+use Rattle.std.proofs.Common.{◌≡◌, ℕ, List, Option, Some, None, refl, sym, ◌∙◌, ap, subst}
 use Rattle.std.specs.Prelude.{option_and_then, slice_set}
 use Rattle.heap_model.specs.Types.{Operand, Command, Value, Entry}
 use Rattle.heap_command.specs.declared.command.Command.TheVariants as command
@@ -8,25 +8,23 @@ use Rattle.object_graph.specs.declared.object.Object.TheVariants.{Weak}
 use Rattle.object_graph.specs.Graphs.{Graph, WeakObject, value_of, object_in, as_weak}
 use Rattle.object_graph.specs.Objects.{entry_value, with_entry, without_entry}
 use Rattle.heap_model.specs.Laws.{ReachesNoMore}
-use Rattle.heap_model.specs.Needs.{capacity_at}
+use Rattle.heap_model.specs.Needs.{capacity_at, count_at}
 use Rattle.heap_model.specs.Rooms.{Room, weak_of, key_of, with_room, changed, room_put, room_without, rooms_after}
 use Rattle.write_barrier.specs.MutatorState.{Mutator, heap_of}
 use Rattle.object_cells.specs.Capacities.{ChangesObject}
 use Rattle.ephemeron_table.specs.WeakObjects.{IsWeakAt}
 use Rattle.ephemeron_table.specs.EntryChanges.{map_room}
-use Rattle.ephemeron_table.proofs.EntryCounts.{length-with_entry_new, length-with_entry_there}
-use Rattle.ephemeron_table.proofs.DeletedEntries.{length-without_entry, without_none}
 use Rattle.mutator.specs.Capacities.{KeepsStores}
 use Rattle.mutator.proofs.KnownObjects.{IsKnown, known_is}
 use Rattle.mutator.proofs.KeptStores.{IsAfter, keeps_others, with_room-same, with_room-other}
 
 module _ {old new : Mutator} {graph after : Graph} {rooms : ℕ → Room} (one : IsAfter old new graph after rooms)
     (fewer : ReachesNoMore graph after) where
-  -- the weak map of a command has the room that the command gives it, whose pairs are as many as the entries
+  -- the weak map of a command has the room that the command gives it, of which so many pairs are filled
   pub keeps_weak : {at : ℕ} {weak : WeakObject} (command : Command) (entries : List Entry) (room : Room)
       → IsWeakAt old graph at weak → after.objects ≡ slice_set graph.objects weak.number (Weak entries)
       → rooms_after graph rooms command ≡ with_room rooms weak.number room
-      → room.entries ≡ length entries → ChangesObject (heap_of old) (heap_of new) at room.capacity
+      → count_at (heap_of new) at ≡ room.entries → ChangesObject (heap_of old) (heap_of new) at room.capacity
       → KeepsStores (heap_of old) (heap_of new) graph after command rooms
   keeps_weak {at} {weak} command entries room stands objects gives many changes =
       keeps_others command weak.number at (Weak weak.entries) (Weak entries) room one fewer (record {
@@ -38,20 +36,11 @@ module _ {old new : Mutator} {graph after : Graph} {rooms : ℕ → Room} (one :
         others = λ number apart.
             ap (λ (r : ℕ → Room). r number) gives ∙ with_room-other rooms weak.number room number apart;
         own = λ there marked place.
-            let counts = many ∙ sym (one.shown.counts weak.number at entries there marked place) in
             let same = sym changes.own in
+            let counts = sym many in
             λ i. record { capacity = same i; entries = counts i };
         changes = changes;
       })
-
-  -- a weak map has as many pairs after `wput` as there are entries then
-  put_entries : (entries : List Entry) (number : ℕ) (value : Value) (room : Room) (found : Option Value)
-      → entry_value entries number ≡ found → room.entries ≡ length entries
-      → (room_put room found).entries ≡ length (with_entry entries number value)
-  put_entries entries number value room None is many =
-      omega (arith, many, length-with_entry_new entries number value is)
-  put_entries entries number value room (Some before) is many =
-      many ∙ sym (length-with_entry_there entries number before value is)
 
   -- which room a command gives the weak map by the entry of its key
   entry_gives : {m at number : ℕ} {weak : WeakObject} (k : Operand) (after_it : Room → Option Value → Room)
@@ -75,23 +64,13 @@ module _ {old new : Mutator} {graph after : Graph} {rooms : ℕ → Room} (one :
       → after.objects ≡ slice_set graph.objects weak.number (Weak (with_entry weak.entries number value))
       → ChangesObject (heap_of old) (heap_of new) at
       (room_put (map_room old at weak) (entry_value weak.entries number)).capacity
+      → count_at (heap_of new) at ≡ (room_put (map_room old at weak) (entry_value weak.entries number)).entries
       → KeepsStores (heap_of old) (heap_of new) graph after (command.WPut m k v) rooms
-  keeps_wput {m} {at} {number} {weak} k v value known key stands objects changes =
+  keeps_wput {m} {at} {number} {weak} k v value known key stands objects changes counts =
       keeps_weak (command.WPut m k v) (with_entry weak.entries number value) _ stands objects
-      (entry_gives k room_put known key stands)
-      (put_entries weak.entries number value (map_room old at weak) (entry_value weak.entries number) refl
-      (one.shows.counts weak.number at weak.entries stands.object stands.reached stands.place)) changes
+      (entry_gives k room_put known key stands) counts changes
 
-  -- and so it has after `wdel`
-  without_entries : (entries : List Entry) (number : ℕ) (room : Room) (found : Option Value)
-      → entry_value entries number ≡ found → room.entries ≡ length entries
-      → (room_without room found).entries ≡ length (without_entry entries number)
-  without_entries entries number room None is many =
-      many ∙ sym (ap (λ (all : List Entry). length all) (without_none entries number is))
-  without_entries entries number room (Some before) is many =
-      omega (arith, many, length-without_entry entries number before is)
-
-  -- its capacity stays then
+  -- the capacity of a weak map stays when an entry goes
   without_capacity : (room : Room) (found : Option Value) → (room_without room found).capacity ≡ room.capacity
   without_capacity room None = refl
   without_capacity room (Some before) = refl
@@ -102,12 +81,11 @@ module _ {old new : Mutator} {graph after : Graph} {rooms : ℕ → Room} (one :
       → IsWeakAt old graph at weak
       → after.objects ≡ slice_set graph.objects weak.number (Weak (without_entry weak.entries number))
       → ChangesObject (heap_of old) (heap_of new) at (capacity_at (heap_of old) at)
+      → count_at (heap_of new) at ≡ (room_without (map_room old at weak) (entry_value weak.entries number)).entries
       → KeepsStores (heap_of old) (heap_of new) graph after (command.WDel m k) rooms
-  keeps_wdel {m} {at} {number} {weak} k known key stands objects changes =
+  keeps_wdel {m} {at} {number} {weak} k known key stands objects changes counts =
       let found : Option Value = entry_value weak.entries number in
       keeps_weak (command.WDel m k) (without_entry weak.entries number) _ stands objects
-      (entry_gives k room_without known key stands)
-      (without_entries weak.entries number (map_room old at weak) found refl
-      (one.shows.counts weak.number at weak.entries stands.object stands.reached stands.place))
+      (entry_gives k room_without known key stands) counts
       (subst (ChangesObject (heap_of old) (heap_of new) at) (sym (without_capacity (map_room old at weak) found))
       changes)

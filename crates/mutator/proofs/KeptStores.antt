@@ -4,19 +4,19 @@ use Rattle.std.proofs.Common.{IsTrue, slice_get, refl, cond, sym, ◌∙◌, ap,
 use Rattle.std.specs.Prelude.{slice_set}
 use Rattle.std.proofs.lemmas.Bool.{cases_eq, ne_eqb}
 use Rattle.std.proofs.lemmas.Option.{slice_get_within, same_Some}
-use Rattle.heap_model.specs.Types.{Command, Object, Cell, Held}
+use Rattle.heap_model.specs.Types.{Command, Object, Entry, Cell, Held}
 use Rattle.object_graph.specs.declared.object.Object.TheVariants.{Plain, Weak, List as ListOf}
 use Rattle.object_graph.specs.Graphs.{Graph}
 use Rattle.object_graph.specs.Reach.{is_marked, reach}
 use Rattle.object_graph.proofs.Lists.{slice_get-set_same, slice_get-set_other}
-use Rattle.heap_model.specs.Heaps.{Heap}
-use Rattle.heap_model.specs.Slots.{IsPlace}
+use Rattle.heap_model.specs.Heaps.{Heap, HasCell}
+use Rattle.heap_model.specs.Slots.{is_object_kind, IsPlace}
 use Rattle.heap_model.specs.Wholeness.{Whole}
-use Rattle.heap_model.specs.Needs.{capacity_at}
+use Rattle.heap_model.specs.Needs.{capacity_at, count_at}
 use Rattle.heap_model.specs.Rooms.{Room, room_at, HasRooms, with_room, rooms_after}
 use Rattle.heap_model.specs.Laws.{ReachesNoMore, bound}
-use Rattle.heap_model.proofs.BoundHeaps.{none_in, bound_moves}
-use Rattle.heap_model.proofs.CountsStay.{place_of}
+use Rattle.heap_model.proofs.BoundHeaps.{none_in, bound_keeps, bound_moves}
+use Rattle.heap_model.proofs.CountsStay.{place_of, count_stays}
 use Rattle.heap_model.proofs.CellOutcomes.{CellsMove, places_stay}
 use Rattle.heap_model.proofs.PlacesBefore.{place_before}
 use Rattle.heap_model.proofs.ShownObjects.{object_of_shown}
@@ -29,6 +29,12 @@ use Rattle.mutator.proofs.SameHeld.{one_address, one_number}
 -- each object stands where it stood
 abbrev pub PlacesStay : Heap → Heap → Type 0
 PlacesStay old new = (number at : ℕ) → IsPlace old number at → IsPlace new number at
+
+-- an object's cell that stands at the address stands there with the same words
+abbrev pub CellStands : Heap → Heap → ℕ → Type 0
+CellStands old new at =
+    (cell : Cell) (words : List ℕ) → HasCell old cell words → IsTrue (is_object_kind cell.layout.kind) → cell.at ≡ at
+    → HasCell new cell words
 
 -- A heap that showed a graph, of which objects had these rooms, shows another one, and each object stands where it
 -- stood.
@@ -57,35 +63,46 @@ stood {old} {graph = graph} number at what one both place =
     subst (IsPlace (heap_of old) number) (once was.cell.at (one.stays number was.cell.at before) ∙ sym (once at place))
     before
 
--- and it has the room that it had, where it keeps its capacity
+-- a weak map has as many pairs filled as before, where its cell stands with the same words
+pairs_stay : {old new : Mutator} {graph after : Graph} {rooms : ℕ → Room} (number at : ℕ) (entries : List Entry)
+    → IsAfter old new graph after rooms → InBoth graph after number (Weak entries) → IsPlace (heap_of old) number at
+    → CellStands (heap_of old) (heap_of new) at → count_at (heap_of new) at ≡ count_at (heap_of old) at
+pairs_stay {old} {new} number at entries one both was stands =
+    let shown = one.shows.shows.reached number (Weak entries) both.was both.marked_was in
+    let object : IsTrue (is_object_kind shown.cell.layout.kind) = ap is_object_kind shown.shows.of_kind in
+    let same : shown.cell.at ≡ at = sym (shown.once at was) in
+    subst (λ a. count_at (heap_of new) a ≡ count_at (heap_of old) a) same
+    (count_stays shown.has (stands shown.cell shown.words shown.has object same) shown.shows.of_kind)
+
+-- and an object has the room that it had, where it keeps its capacity
 pub room_stays : {old new : Mutator} {graph after : Graph} {rooms : ℕ → Room} (number at : ℕ) (what : Object)
     → IsAfter old new graph after rooms → InBoth graph after number what → IsPlace (heap_of old) number at
-    → IsPlace (heap_of new) number at → capacity_at (heap_of new) at ≡ capacity_at (heap_of old) at
+    → CellStands (heap_of old) (heap_of new) at → capacity_at (heap_of new) at ≡ capacity_at (heap_of old) at
     → room_at (heap_of new) at what ≡ room_at (heap_of old) at what
-room_stays {old} {new} number at (Plain cap fields) one both was place keeps =
+room_stays number at (Plain cap fields) one both was stands keeps =
     ap (λ n. record { capacity = n; entries = 0 }) keeps
-room_stays {old} {new} number at (ListOf elements) one both was place keeps =
+room_stays number at (ListOf elements) one both was stands keeps =
     ap (λ n. record { capacity = n; entries = 0 }) keeps
-room_stays {old} {new} number at (Weak entries) one both was place keeps =
-    let counts = one.shown.counts number at entries both.is both.marked place
-    ∙ sym (one.shows.counts number at entries both.was both.marked_was was) in
+room_stays number at (Weak entries) one both was stands keeps =
+    let counts = pairs_stay number at entries one both was stands in
     λ i. record { capacity = keeps i; entries = counts i }
 
--- A command that leaves all objects as they are, and their stores, leaves all rooms.
+-- A command that leaves all objects as they are, and their cells and stores, leaves all rooms.
 pub keeps_all : {old new : Mutator} {graph after : Graph} {rooms : ℕ → Room} (command : Command)
     → IsAfter old new graph after rooms → ReachesNoMore graph after → after.objects ≡ graph.objects
     → ((number : ℕ) → rooms_after graph rooms command number ≡ rooms number)
+    → ((at : ℕ) → CellStands (heap_of old) (heap_of new) at)
     → ((number at : ℕ) → IsPlace (heap_of old) number at → capacity_at (heap_of new) at ≡ capacity_at (heap_of old) at)
     → ((number at : ℕ) → IsPlace (heap_of new) number at → IsPlace (heap_of old) number at)
     → KeepsStores (heap_of old) (heap_of new) graph after command rooms
-keeps_all {old} {new} {graph} {after} {rooms} command one fewer same rooms_stay capacities none_made = record {
+keeps_all {old} {new} {graph} {after} {rooms} command one fewer same rooms_stay stand capacities none_made = record {
   has = λ number at what there marked place.
       let was = ap (λ objects. slice_get objects number) (sym same) ∙ there in
       let both : InBoth graph after number what =
       record { was = was; marked_was = fewer number marked; is = there; marked = marked } in
       let before = stood number at what one both place in
       rooms_stay number ∙ one.has number at what was both.marked_was before
-      ∙ sym (room_stays number at what one both before place (capacities number at before));
+      ∙ sym (room_stays number at what one both before (stand at) (capacities number at before));
   stays = one.stays;
   others = λ number at place same_room. capacities number at place;
   made = λ number at place apart. absurd (apart (none_made number at place));
@@ -135,7 +152,8 @@ keeps_others {old} {new} {graph} {after} {rooms} command of at was now room one 
             let before = stood number other what one both place in
             let elsewhere : other ≢ at = λ same. apart (one_number number of other at before is.place same) in
             is.others number apart ∙ one.has number other what there_was both.marked_was before
-            ∙ sym (room_stays number other what one both before place
+            ∙ sym (room_stays number other what one both before
+            (λ cell words has object here. is.changes.stand cell words has object (λ same. elsewhere (sym here ∙ same)))
             (is.changes.others number other before elsewhere))
       ];
   stays = one.stays;
@@ -189,6 +207,7 @@ keeps_still command same shows shown has fewer objects rooms_stay =
       has = has;
       stays = λ number at place. subst (λ (main : Mutator). IsPlace (heap_of main) number at) (sym same) place;
     }) fewer objects rooms_stay
+    (λ at cell words has object here. subst (λ (main : Mutator). HasCell (heap_of main) cell words) (sym same) has)
     (λ number at place. ap (λ (main : Mutator). capacity_at (heap_of main) at) same)
     (λ number at place. subst (λ (main : Mutator). IsPlace (heap_of main) number at) same place)
 
@@ -207,5 +226,7 @@ keeps_bound {old} command x one below is shows shown has fewer objects rooms_sta
       has = has;
       stays = λ number at place. subst (λ heap. IsPlace heap number at) (sym is) (none_went number at cells place);
     }) fewer objects rooms_stay
+    (λ at cell words has object here. subst (λ heap. HasCell heap cell words) (sym is)
+    (bound_keeps (heap_of old) x one below whole has))
     (λ number at place. ap (λ heap. capacity_at heap at) is ∙ kept_where_none_went at whole cells place)
     (λ number at place. stood_before x one below whole (subst (λ heap. IsPlace heap number at) is place))

@@ -35,3 +35,4 @@ mod KnownObjects
 mod MadeRooms
 mod CommandRooms
 mod EntryRooms
+pub mod MapsNotFull

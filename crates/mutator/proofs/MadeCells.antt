@@ -11,13 +11,12 @@ use Rattle.shape_tree.specs.Shapes.{IsShapeOf}
 use Rattle.heap_model.specs.Heaps.{Heap}
 use Rattle.heap_model.specs.Kinds.{IsSoundOf}
 use Rattle.heap_model.specs.Showing.{ShowsObject}
-use Rattle.heap_model.proofs.CountsStay.{HasCountOf}
 use Rattle.nursery.specs.Young.{HasRoom}
 use Rattle.write_barrier.specs.MutatorState.{Mutator, MainShows}
 use Rattle.mutator.proofs.EmptyCells.{no_fields, plain_cell, plain_fresh, plain_laid, IsEmptyCell, empty_is_sound}
 use Rattle.mutator.proofs.EmptyCells.{empty_shows}
 use Rattle.mutator.proofs.EmptyCounted.{IsCountedKind, counted_cell, counted_fresh}
-use Rattle.mutator.proofs.NewCells.{cell_of}
+use Rattle.mutator.proofs.NewCells.{cell_of, CountsNone}
 use Rattle.object_cells.specs.Contents.{next_at}
 use Rattle.mutator.proofs.PutCells.{with_cell_words}
 use Rattle.heap_command.specs.declared.command.Command.TheVariants as command
@@ -32,18 +31,17 @@ plain_making graph x cap few = record {
   done = λ names. refl;
   need = λ rooms. refl;
   gives = λ rooms number. refl;
-  none = tt;
 }
 
 -- what `list` makes
 pub list_making : (graph : Graph) (x : ℕ) → IsMaking graph (command.List x) x 3 (ListOf [])
 list_making graph x =
-    record { fits = tt; done = λ names. refl; need = λ rooms. refl; gives = λ rooms number. refl; none = tt }
+    record { fits = tt; done = λ names. refl; need = λ rooms. refl; gives = λ rooms number. refl }
 
 -- what `weak` makes
 pub weak_making : (graph : Graph) (x : ℕ) → IsMaking graph (command.Weak x) x 3 (Weak [])
 weak_making graph x =
-    record { fits = tt; done = λ names. refl; need = λ rooms. refl; gives = λ rooms number. refl; none = refl }
+    record { fits = tt; done = λ names. refl; need = λ rooms. refl; gives = λ rooms number. refl }
 
 -- the layout word of a shape of paths is that of plain cells, so the cell of a plain object without fields is made
 pub plain_made : {main : Mutator} {graph : Graph} {header : Header} {cap : ℕ} (x : ℕ) → MainShows main graph
@@ -77,6 +75,6 @@ counted_made {main} {graph} {k} {shape} {object} {what} x is shows room small ca
       sound = subst (IsSoundOf k heap cell) words (is.sound heap at header);
       shows = subst (λ all. ShowsObject heap (reach (make graph x what)) cell all what) words
           (is.shows heap (reach (make graph x what)) at header);
-      counts = subst (λ all. HasCountOf all what) words (is.counts header);
+      counts = subst (λ all. CountsNone all what) words (is.counts header);
       carries = carries;
     }

@@ -16,7 +16,6 @@ use Rattle.heap_model.specs.Heaps.{Heap, words_of_cell}
 use Rattle.heap_model.specs.Changes.{IsRunOf}
 use Rattle.heap_model.specs.Showing.{ShowsObject}
 use Rattle.heap_model.specs.Laws.{bound}
-use Rattle.heap_model.proofs.CountsStay.{HasCountOf}
 use Rattle.write_barrier.specs.MutatorState.{Mutator, heap_of, MainShows, reserved}
 use Rattle.write_barrier.specs.MutatorState.{with_table}
 use Rattle.write_barrier.specs.Recording.{Touches}
@@ -26,7 +25,7 @@ use Rattle.object_cells.proofs.TakenRuns.{room_stays, taken_run}
 use Rattle.object_cells.proofs.UnusedWords.{next_run}
 use Rattle.mutator.specs.Binding.{BindsMade}
 use Rattle.mutator.specs.Making.{new_touch}
-use Rattle.mutator.proofs.NewCells.{NewCell, RefersNowhere, cell_of}
+use Rattle.mutator.proofs.NewCells.{NewCell, RefersNowhere, CountsNone, cell_of}
 use Rattle.mutator.proofs.PutCells.{with_cell, HasRoomFor, IsSoundThere}
 use Rattle.mutator.proofs.Rebinding.{HoldsAnew, heap_bound}
 
@@ -114,7 +113,7 @@ pub record IsSoundNewCell (main : Mutator) (graph : Graph) (x : ℕ) (one : NewC
   pub sound : IsSoundThere (heap_of main) (next_at main) (bumped main.young one.size).used one
   pub shows : let cell = cell_of (next_at main) one in
       ShowsObject (made_heap main one) (reach (make graph x what)) cell (words_of_cell (made_heap main one) cell) what
-  pub counts : HasCountOf (words_of_cell (made_heap main one) (cell_of (next_at main) one)) what
+  pub counts : CountsNone (words_of_cell (made_heap main one) (cell_of (next_at main) one)) what
   pub carries : one.header.object ≡ length graph.objects
 
 -- there is room for a cell where there is for its words

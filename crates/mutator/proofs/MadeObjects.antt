@@ -2,11 +2,10 @@
 use Rattle.std.proofs.Common.{◌≡◌, ℕ, ◌+◌, ◌<◌, ◌≤◌, ◌^◌, List, [], ◌∷◌, length, Ok, Err, sym}
 use Rattle.std.proofs.Common.{refl, ◌∙◌, ap, subst, arith, inl, inr}
 use Rattle.heap_model.specs.Types.{Command, Object, Cell, Held, Run}
-use Rattle.tagged_word.proofs.Members.{first_in, one_in}
+use Rattle.tagged_word.proofs.Members.{one_in}
 use Rattle.object_graph.specs.declared.object.Object.TheVariants.{Weak}
 use Rattle.object_graph.specs.Graphs.{Graph, make}
 use Rattle.object_graph.specs.Meaning.{done, does}
-use Rattle.object_graph.specs.Reach.{reach}
 use Rattle.object_graph.specs.Limits.{ideal_limits}
 use Rattle.object_graph.specs.Invariants.{IsGraph, IsObject, IsEntry}
 use Rattle.graph_laws.specs.GraphLaws.{FitsCommand}
@@ -18,20 +17,15 @@ use Rattle.nursery.specs.Young.{Young, HasRoom, other_half}
 use Rattle.handle_roots.specs.declared.held.Held.TheVariants as held
 use Rattle.heap_table.specs.Seats.{Seat, RestStays}
 use Rattle.heap_table.specs.Staying.{rest_stays_again}
-use Rattle.heap_model.specs.Heaps.{Heap, HasCell, words_of_cell}
+use Rattle.heap_model.specs.Heaps.{Heap}
 use Rattle.heap_model.specs.Wholeness.{Whole}
 use Rattle.heap_model.specs.Changes.{AreFillers, CellsChange, IsOwnChange}
-use Rattle.heap_model.specs.Counting.{CountsEntries}
 use Rattle.heap_model.specs.Collectable.{IsCollectable, AreFreeRuns}
 use Rattle.heap_model.specs.Remembered.{AreRemembered, TouchesCells}
 use Rattle.heap_model.specs.Rooms.{Room, bare_room, need_of, rooms_after, with_room}
 use Rattle.heap_model.specs.Showing.{Shows}
 use Rattle.heap_model.specs.Laws.{IsNoEntryKey, ReachesOneMore, bound}
 use Rattle.heap_model.proofs.SlotWords.{All-slice_get}
-use Rattle.heap_model.proofs.ShownObjects.{object_of_shown}
-use Rattle.heap_model.proofs.CellOutcomes.{cells_move, object_is_no_filler, stays_standing}
-use Rattle.heap_model.proofs.CountsStay.{counts_made}
-use Rattle.heap_model.proofs.BoundHeaps.{none_in, bound_keeps}
 use Rattle.heap_model.proofs.NewObjects.{new_objects_show}
 use Rattle.heap_model.proofs.RememberedAlike.{bound_stays_remembered}
 use Rattle.heap_model.proofs.StaysCollectable.{own_changes_stay_collectable, bound_stays_collectable}
@@ -49,7 +43,7 @@ use Rattle.mutator.specs.CarriesOut.{Carries}
 use Rattle.mutator.specs.Making.{new_touch}
 use Rattle.mutator.proofs.NewCells.{NewCell, cell_of}
 use Rattle.mutator.proofs.MadeRecords.{new_touches}
-use Rattle.mutator.proofs.MadeRooms.{HasNoEntry, MakesOne, makes_one, keeps_made}
+use Rattle.mutator.proofs.MadeRooms.{MakesOne, makes_one, keeps_made}
 use Rattle.mutator.proofs.PutCells.{IsPutCell, with_cell_put}
 use Rattle.mutator.proofs.Rebinding.{heap_bound}
 use Rattle.mutator.specs.declared.stop.Stop.TheVariants.{NoRoom}
@@ -72,7 +66,6 @@ pub record IsMaking (graph : Graph) (command : Command) (x size : ℕ) (what : O
   pub need : (rooms : ℕ → Room) → need_of graph rooms command ≡ size
   pub gives : (rooms : ℕ → Room) (number : ℕ)
       → rooms_after graph rooms command number ≡ with_room rooms (length graph.objects) bare_room number
-  pub none : HasNoEntry what
 
 -- a new object is the only one that can be reached and could not be before
 reaches_one_more : {graph : Graph} {command : Command} {x size : ℕ} {what : Object} → IsGraph graph
@@ -146,19 +139,6 @@ module _ {old mid filled new : Mutator} {graph : Graph} {command : Command} {x a
       (new_objects_show (heap_of old) now graph x cell what below shows.shows put.whole shows.shows.paths put.cells
       put.own (subst (λ a. a < 2 ^ 32) makes.run small) made.carries made.shows (no_entry_key graph shows.is_graph)
       (reaches_one_more shows.is_graph making))
-
-  -- and weak maps count their entries: an object's cell that stood stands
-  made_counts : CountsEntries (heap_of new) (make graph x what)
-  made_counts =
-      let words : List ℕ = words_of_cell now cell in
-      let stands : (other : Cell) (others : List ℕ) → HasCell now other others → HasCell (heap_of new) other others =
-      λ other others has. subst (λ h. HasCell h other others) (sym (bound_heap makes))
-      (bound_keeps now x refers below put.whole has) in
-      counts_made x what shows.shows made_shows shows.counts (reaches_one_more shows.is_graph making)
-      (λ other others has object. stands other others
-      (stays_standing (cells_move put.cells) has (object_is_no_filler other.layout.kind object) (none_in other)))
-      (stands cell words (put.cells.comes cell (first_in cell [])))
-      (object_of_shown now (reach (make graph x what)) cell words what made.shows) made.carries made.counts
 
   -- the halves are as they were
   same_half : new.young.half ≡ old.young.half
@@ -245,7 +225,6 @@ module _ {old mid filled new : Mutator} {graph : Graph} {command : Command} {x a
     quiet = ap (λ (main : Mutator). main.seat.phase) makes.holds.held
         ∙ ap (λ (seat : Seat). seat.phase) (filled_seat makes) ∙ shows.quiet;
     shows = made_shows;
-    counts = made_counts;
     collectable = made_collectable;
     free = made_free;
     apart = made_apart;
@@ -277,9 +256,9 @@ module _ {old mid filled new : Mutator} {graph : Graph} {command : Command} {x a
   -- and the command is carried out
   pub making_carried : (names : List (List ℕ)) → Carries names old new graph command [] (Ok tt)
   making_carried names =
-      let makes_it : MakesOne (heap_of old) (heap_of new) =
-      subst (MakesOne (heap_of old)) (sym (bound_heap makes))
-      (makes_one x refers shows.shows.whole made.fits.fresh put below) in (
+      let makes_it : MakesOne (heap_of old) (heap_of new) what =
+      subst (λ heap. MakesOne (heap_of old) heap what) (sym (bound_heap makes))
+      (makes_one x refers what shows.shows.whole made.fits.fresh put made.counts below) in (
         make graph x what,
         making.done names,
         made_main,
@@ -291,7 +270,7 @@ module _ {old mid filled new : Mutator} {graph : Graph} {command : Command} {x a
             shown = made_main;
             has = has;
             stays = makes_it.stays;
-          }) (reaches_one_more shows.is_graph making) refl making.none (making.gives rooms) makes_it;
+          }) (reaches_one_more shows.is_graph making) refl (making.gives rooms) makes_it;
         },
       )
 

@@ -2,14 +2,15 @@
 use Rattle.std.proofs.Common.{◌≡◌, ℕ, false, List, [], ◌∷◌, length, Some, slice_get, sym, ◌∙◌, ap, subst}
 use Rattle.std.specs.Prelude.{Contains}
 use Rattle.std.proofs.lemmas.Option.{same_Some}
-use Rattle.heap_model.specs.Types.{Header, LayoutWord, Cell}
+use Rattle.heap_model.specs.Types.{Header, LayoutWord, Object, Cell}
 use Rattle.tagged_word.specs.Headers.{IsHeader, header_bits}
 use Rattle.tagged_word.specs.Layouts.{IsLayout}
 use Rattle.tagged_word.specs.Cells.{cell_size, has_length, scavenge_offsets, store_slot}
 use Rattle.tagged_word.proofs.Members.{one_in}
+use Rattle.object_graph.specs.declared.object.Object.TheVariants.{Plain, Weak, List as ListOf}
 use Rattle.heap_model.specs.Heaps.{Heap, words_of_cell}
 use Rattle.heap_model.specs.Slots.{undefined_word}
-use Rattle.heap_model.specs.Kinds.{HasWord}
+use Rattle.heap_model.specs.Kinds.{HasWord, count_offset}
 use Rattle.heap_model.specs.Laws.{RefersToNothing}
 use Rattle.heap_model.proofs.WordClasses.{undefined_refers_not}
 
@@ -46,3 +47,9 @@ fresh_refers_not heap at fresh are offset word to there stands refers =
     same_Some undefined_word word
     (sym fresh.slot ∙ ap (λ words. slice_get words store_slot) (sym are) ∙ ap (slice_get _) same ∙ stands) in
     undefined_refers_not to (word_is ∙ refers)
+
+-- of a weak map: the words of its own cell say that none of its pairs is filled
+abbrev pub CountsNone : List ℕ → Object → Type 0
+CountsNone words (Plain cap fields) = Unit {0}
+CountsNone words (ListOf elements) = Unit {0}
+CountsNone words (Weak entries) = HasWord words count_offset 0

@@ -3,7 +3,7 @@ use Rattle.std.proofs.Common.{◌≡◌, ℕ, ◌+◌, ◌<◌, List, [], Some, 
 use Rattle.std.specs.Prelude.{Option, IsTrue, is_some}
 use Rattle.std.specs.FinMap.{get}
 use Rattle.std.proofs.lemmas.Bool.{false≢true}
-use Rattle.heap_model.specs.Types.{Command, Value, Held, Cell, Run}
+use Rattle.heap_model.specs.Types.{Command, Value, Held, Run}
 use Rattle.object_graph.specs.Graphs.{Graph, bind}
 use Rattle.object_graph.specs.Meaning.{done, does}
 use Rattle.object_graph.specs.Limits.{ideal_limits}
@@ -17,19 +17,15 @@ use Rattle.nursery.specs.Young.{HasRoom, other_half}
 use Rattle.handle_roots.specs.Roots.{FitsHeld, with_root}
 use Rattle.heap_table.specs.declared.phase.Phase.TheVariants.{Quiet}
 use Rattle.heap_table.specs.Seats.{heap_words, RestStays}
-use Rattle.heap_model.specs.Heaps.{Heap, HasCell}
-use Rattle.heap_model.specs.Slots.{is_object_kind}
+use Rattle.heap_model.specs.Heaps.{Heap}
 use Rattle.heap_model.specs.Changes.{AreFillers}
-use Rattle.heap_model.specs.Counting.{CountsEntries}
 use Rattle.heap_model.specs.Collectable.{IsCollectable, AreFreeRuns}
 use Rattle.heap_model.specs.Remembered.{AreRemembered}
 use Rattle.heap_model.specs.Rooms.{Room, need_of, rooms_after}
 use Rattle.heap_model.specs.Showing.{ShowsHeld, Shows}
 use Rattle.heap_model.specs.Laws.{ReachesNoMore, BindsAnew, bound}
 use Rattle.heap_model.proofs.AnewBindings.{get-insert_same, binds_anew}
-use Rattle.heap_model.proofs.BoundHeaps.{bound_keeps}
 use Rattle.heap_model.proofs.BoundGraphs.{bindings_show}
-use Rattle.heap_model.proofs.CountsStay.{counts_stay}
 use Rattle.heap_model.proofs.StaysCollectable.{bound_stays_collectable}
 use Rattle.heap_model.proofs.FreeStays.{bound_keeps_free, bound_keeps_fillers}
 use Rattle.heap_model.proofs.RememberedAlike.{bound_stays_remembered}
@@ -118,16 +114,11 @@ rebound_shows {old} {new} {graph} {after} names command text x one shows carried
     let fewer : ReachesNoMore graph after = reaches_no_more names command text shows carried none in
     let bound_shows : Shows (bound heap x one) after =
     bindings_show heap graph after x one below shows.shows anew held_fits shown fewer in
-    let kept : (cell : Cell) (words : List ℕ) → HasCell heap cell words → IsTrue (is_object_kind cell.layout.kind)
-    → HasCell (bound heap x one) cell words =
-    λ cell words has object. bound_keeps heap x one below shows.shows.whole has in
     record {
       tied = bound_tied x one below shows holds;
       is_graph = graphs_stay ideal_limits names graph command after text ideal_field_limit fits carried shows.is_graph;
       quiet = subst (λ (main : Mutator). main.seat.phase ≡ Quiet) (sym holds.held) shows.quiet;
       shows = subst (λ heap. Shows heap after) (sym (heap_bound x one holds)) bound_shows;
-      counts = subst (λ heap. CountsEntries heap after) (sym (heap_bound x one holds))
-          (counts_stay shows.shows bound_shows shows.counts anew.objects fewer kept);
       collectable = subst (λ heap. IsCollectable heap (other_half new.young.half)) (sym (heap_bound x one holds))
           (subst (λ (half : ℕ). IsCollectable (bound heap x one) (other_half half))
           (sym (ap (λ (main : Mutator). main.young.half) holds.held))

@@ -8,7 +8,7 @@ use Rattle.mutator.specs.declared.stop.Stop.{Stop}
 use Rattle.mutator.specs.CarriesOut.{Carries}
 
 -- an answer that is an error, and this one, is that
-stopped_by : (answer : Result Unit Stop) (stop : Stop) → IsErrAnd answer (λ one. one ≡ stop) → answer ≡ Err stop
+pub stopped_by : (answer : Result Unit Stop) (stop : Stop) → IsErrAnd answer (λ one. one ≡ stop) → answer ≡ Err stop
 stopped_by (Ok done) stop is = absurd is
 stopped_by (Err one) stop is = ap (λ e. Err e) is
 

@@ -1,34 +1,29 @@
 -- What `wput`, `wget` and `wdel` mean, where their variables, their weak map and their key are known.
-use Rattle.std.proofs.Common.{◌≡◌, ℕ, Bool, true, false, List, [], length, Some, ◌∙◌, ap}
+use Rattle.std.proofs.Common.{◌≡◌, ℕ, ◌≤◌, false, List, [], Some, None, IsTrue, ◌∙◌, ap, arith}
 use Rattle.std.specs.Prelude.{unwrap_or}
-use Rattle.heap_model.specs.Types.{Operand, Value}
+use Rattle.heap_model.specs.Types.{Operand, Value, Entry}
 use Rattle.heap_command.specs.declared.command.Command.TheVariants.{WPut, WGet, WDel}
 use Rattle.heap_command.specs.declared.command.FaultWord.TheVariants.{WeakFull}
 use Rattle.object_graph.specs.declared.value.Value.TheVariants.{Undefined, Ref}
 use Rattle.object_graph.specs.Objects.{entry_value, with_entry, without_entry}
 use Rattle.object_graph.specs.Graphs.{Graph, WeakObject, bind, value_of, as_weak}
-use Rattle.object_graph.specs.Meaning.{done, fault, unless, weak_most, no_entry_for, reweave, does}
-use Rattle.object_graph.specs.Reach.{reach}
+use Rattle.object_graph.specs.Meaning.{done, unless, weak_most, no_entry_for, reweave, does}
+use Rattle.object_graph.specs.Reach.{is_marked, reach}
 use Rattle.object_graph.proofs.WeakMost.{no_entry_for-is}
 use Rattle.object_graph.specs.Limits.{ideal_limits}
-use Rattle.ephemeron_table.specs.EntryChanges.{IsMapFull}
+use Rattle.live_cells.specs.Counts.{reached_keys}
 use Rattle.mutator.proofs.KnownObjects.{IsKnown}
-use Rattle.mutator.proofs.FieldMeanings.{room_by, no_room_by}
+use Rattle.mutator.proofs.FieldMeanings.{room_by}
 
--- a map that is full for a key is one that takes no entry for it
-lacks_test : (marks : List Bool) (weak : WeakObject) (number : ℕ) → IsMapFull weak number
-    → no_entry_for ideal_limits marks weak.entries number ≡ true
-lacks_test marks weak number lacks =
-    no_entry_for-is marks weak.entries number
-    ∙ no_room_by weak_most (entry_value weak.entries number) (length weak.entries) lacks.fresh lacks.full
-
--- and one that is not full for a key takes an entry for it
-has_test : (marks : List Bool) (weak : WeakObject) (number : ℕ) → (IsMapFull weak number → ⊥)
-    → no_entry_for ideal_limits marks weak.entries number ≡ false
-has_test marks weak number few =
-    no_entry_for-is marks weak.entries number
-    ∙ room_by weak_most (entry_value weak.entries number) (length weak.entries)
-    (λ fresh full. few (record { fresh = fresh; full = full }))
+-- a weak map takes an entry for a key that can be reached, where that is there or there are few pairs, which are at
+-- least as many as the entries whose key can be reached
+pub has_test : (graph : Graph) (pairs : ℕ) (entries : List Entry) (number : ℕ)
+    → IsTrue (is_marked (reach graph) number) → reached_keys graph entries ≤ pairs
+    → (entry_value entries number ≡ None → weak_most ≤ pairs → ⊥) → no_entry_for (reach graph) entries number ≡ false
+has_test graph pairs entries number marked many few =
+    no_entry_for-is (reach graph) entries number marked
+    ∙ room_by weak_most (entry_value entries number) (reached_keys graph entries)
+    (λ fresh full. few fresh (omega (arith, full, many)))
 
 module _ {graph : Graph} {m number : ℕ} {target : Value} {weak : WeakObject} (names : List (List ℕ)) (k : Operand)
     (known : IsKnown as_weak graph m target weak) (key : value_of graph k ≡ Some (Ref number)) where
@@ -45,21 +40,14 @@ module _ {graph : Graph} {m number : ℕ} {target : Value} {weak : WeakObject} (
   module _ {value : Value} (v : Operand) (is : value_of graph v ≡ Some value) where
     -- a `wput` whose variables, weak map and key are known
     wput_known : does ideal_limits names graph (WPut m k v)
-        ≡ unless WeakFull (no_entry_for ideal_limits (reach graph) weak.entries number)
+        ≡ unless WeakFull (no_entry_for (reach graph) weak.entries number)
         (done (reweave graph weak (with_entry weak.entries number value)) [])
     wput_known = rw (known.bound, key, is, known.refers)
 
-    -- where the map does not lack entries, the key's has the value
-    pub wput_done : (IsMapFull weak number → ⊥) → does ideal_limits names graph (WPut m k v)
+    -- where the map takes an entry for the key, that has the value
+    pub wput_done : no_entry_for (reach graph) weak.entries number ≡ false → does ideal_limits names graph (WPut m k v)
         ≡ done (reweave graph weak (with_entry weak.entries number value)) []
-    wput_done few =
+    wput_done takes =
         wput_known
         ∙ ap (λ test. unless WeakFull test (done (reweave graph weak (with_entry weak.entries number value)) []))
-        (has_test (reach graph) weak number few)
-
-    -- and where it does, it is full
-    pub wput_full : IsMapFull weak number → does ideal_limits names graph (WPut m k v) ≡ fault WeakFull
-    wput_full lacks =
-        wput_known
-        ∙ ap (λ test. unless WeakFull test (done (reweave graph weak (with_entry weak.entries number value)) []))
-        (lacks_test (reach graph) weak number lacks)
+        takes

@@ -5,7 +5,7 @@ use Rattle.object_graph.specs.Graphs.{Graph}
 use Rattle.object_graph.specs.Meaning.{done, fault, does}
 use Rattle.object_graph.specs.Limits.{ideal_limits}
 use Rattle.nursery.specs.Young.{HasRoom}
-use Rattle.heap_model.specs.Rooms.{Room, HasRooms, need_of}
+use Rattle.heap_model.specs.Rooms.{Room, HasRooms, need_of, FindsMapFull}
 use Rattle.write_barrier.specs.MutatorState.{Mutator, heap_of, MainShows}
 use Rattle.object_cells.specs.Uses.{UsesMore}
 use Rattle.mutator.specs.Capacities.{KeepsStores}
@@ -25,7 +25,8 @@ pub record TakesRoom (old new : Mutator) (graph after : Graph) (command : Comman
 
 -- The call carried the command out, and wrote the text: the heap then shows what the command means, and the words
 -- that it needs were taken. It stops exactly where the meaning is a fault, or where there is none and the words are not
--- there where cells are made; both change nothing. `NoClear` never comes: no entry waits to be cleared.
+-- there where cells are made; or where a weak map is full of pairs, of which some may wait to be cleared, so that the
+-- meaning may be a fault or not. All three change nothing.
 abbrev pub Carries : List (List ℕ) → Mutator → Mutator → Graph → Command → List ℕ → Result Unit Stop → Type 0
 Carries names old new graph command text (Ok _) =
     (after : Graph) × (does ideal_limits names graph command ≡ done after text) × MainShows new after
@@ -36,4 +37,19 @@ Carries names old new graph command text (Err (NoRoom need)) =
     (after : Graph) × (written : List ℕ) × (does ideal_limits names graph command ≡ done after written)
     × ((rooms : ℕ → Room) → HasRooms (heap_of old) graph rooms → need ≡ need_of graph rooms command)
     × (HasRoom old.young need → ⊥) × (new ≡ old)
-Carries names old new graph command text (Err (NoClear entries)) = ⊥
+Carries names old new graph command text (Err (NoClear entries)) =
+    ((rooms : ℕ → Room) → HasRooms (heap_of old) graph rooms → FindsMapFull graph rooms command entries) × (new ≡ old)
+
+-- the command does not find its map full, with any number of pairs, by the rooms that objects have in the heap
+abbrev pub FindsMapNotFull : Mutator → Graph → Command → Type 0
+FindsMapNotFull main graph command =
+    (entries : ℕ)
+    → ((rooms : ℕ → Room) → HasRooms (heap_of main) graph rooms → FindsMapFull graph rooms command entries) → ⊥
+
+-- A call that does not ask for a clearing did not find its map full: neither one that carried its command out, nor one
+-- that stopped for another reason.
+abbrev pub AsksWhereFull : Mutator → Graph → Command → Result Unit Stop → Type 0
+AsksWhereFull main graph command (Ok _) = FindsMapNotFull main graph command
+AsksWhereFull main graph command (Err (Fault word)) = FindsMapNotFull main graph command
+AsksWhereFull main graph command (Err (NoRoom need)) = FindsMapNotFull main graph command
+AsksWhereFull main graph command (Err (NoClear entries)) = Unit

@@ -9,7 +9,7 @@ use Rattle.list_store.specs.declared.stop.PutStop.TheVariants as put
 use Rattle.ephemeron_table.specs.declared.stop.TableStop.{TableStop}
 use Rattle.ephemeron_table.specs.declared.stop.TableStop.TheVariants as table
 use Rattle.mutator.specs.declared.stop.Stop.{Stop}
-use Rattle.mutator.specs.declared.stop.Stop.TheVariants.{Fault, NoRoom}
+use Rattle.mutator.specs.declared.stop.Stop.TheVariants.{Fault, NoRoom, NoClear}
 
 -- too many fields and too many paths are faults, and what is wanted of room is told
 abbrev pub stop_of : FieldStop → Stop
@@ -27,7 +27,7 @@ abbrev pub stop_of_put : PutStop → Stop
 stop_of_put put.Range = Fault word.Range
 stop_of_put (put.Full room) = NoRoom room.need
 
--- too many entries are a fault, and what is wanted of room is told
+-- too many pairs are no fault as long as some may be cleared, and what is wanted of room is told
 abbrev pub stop_of_table : TableStop → Stop
-stop_of_table (table.TableFull entries) = Fault word.WeakFull
+stop_of_table (table.TableFull entries) = NoClear entries
 stop_of_table (table.Full room) = NoRoom room.need

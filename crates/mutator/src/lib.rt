@@ -24,7 +24,7 @@ pub use fields::{del, get, set};
 pub use lists::{at, new_list, push, put};
 pub use making::new_plain;
 pub use output::{OUTPUT_BYTES, Output, ROOM};
-pub use printing::{print, same};
+pub use printing::{print, put_census, same};
 pub use shapes::{alike, shape};
 pub use stop::Stop;
 pub use trims::{shift, trunc};

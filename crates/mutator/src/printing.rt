@@ -1,9 +1,9 @@
-//! The commands `print` and `same`, which write a line and leave the heap as it is. The bytes wait
-//! in an `Output` of `output.rt`; what is written of shapes is in `shapes.rt`.
+//! The commands `print` and `same`, which write a line and leave the heap as it is; and the line of a
+//! census. The bytes wait in an `Output` of `output.rt`; what is written of shapes is in `shapes.rt`.
 ghost use Rattle.std.specs.Prelude.{◌≡◌, ℕ, ◌+◌, ◌++◌, ◌≤◌, List, [], length, is_ok, if◌then◌else◌};
 ghost use Rattle.heap_command.specs.Commands.{IsWithin};
 ghost use Rattle.object_graph.specs.Graphs.{Graph};
-ghost use Rattle.object_graph.specs.Texts.{line, truth_text, value_text};
+ghost use Rattle.object_graph.specs.Texts.{census_text, line, truth_text, value_text};
 ghost use Rattle.object_graph.specs.declared.value.Value.{Value};
 ghost use Rattle.write_barrier.specs.MutatorState.{MainShows};
 ghost use Rattle.mutator.specs.CarriesOut.{Carries, field_numbers};
@@ -71,6 +71,21 @@ pub(crate) fn put_truth(truth: bool, out: &mut Output)
     } else {
         out.put(b"false\n");
     }
+}
+
+/// Writes how many objects there are and how many entries of weak maps, and a line feed. The output
+/// has room for `ROOM` bytes.
+#[inline(never)]
+pub fn put_census(objects: u32, entries: u32, out: &mut Output)
+    requires { length out.old + ROOM ≤ OUTPUT_BYTES }
+    ensures { out.new ≡ out.old ++ line (census_text objects entries) }
+{
+    let mut buffer = Buffer::new();
+    out.put(b"objects ");
+    out.put(buffer.format(objects).as_bytes());
+    out.put(b" entries ");
+    out.put(buffer.format(entries).as_bytes());
+    out.put(b"\n");
 }
 
 /// Writes a value, and a line feed.

@@ -1,4 +1,4 @@
-//! Why a command is not carried out: its fault, a heap that has no room for it, or a full weak map.
+//! Why a command is not carried out: its fault, a heap that has no room for it, or a weak map that is full of pairs.
 ghost use Rattle.std.specs.Prelude.{◌≡◌};
 
 use ephemeron_table::TableStop;
@@ -17,8 +17,8 @@ pub enum Stop {
     /// Where cells are made, in eden or in words that were granted of a page, there is no room for the
     /// words that the command allocates, which are so many.
     NoRoom { need: u32 },
-    /// An entry was refused: its map is full, with so many, and the heap may still hold entries that a
-    /// full collection would clear.
+    /// An entry was refused: its map is full of pairs, so many, and some of them may be such as a full
+    /// collection clears. Where one just came, the command's meaning is the fault `weakfull`.
     NoClear { entries: u32 },
 }
 
@@ -100,7 +100,7 @@ impl From<TableStop> for Stop {
 
     fn from(stop: TableStop) -> Stop {
         match stop {
-            TableStop::TableFull { entries: _ } => Stop::Fault(FaultWord::WeakFull),
+            TableStop::TableFull { entries } => Stop::NoClear { entries },
             TableStop::Full(room) => Stop::NoRoom { need: room.need },
         }
     }

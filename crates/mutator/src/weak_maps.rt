@@ -5,7 +5,7 @@ ghost use Rattle.heap_command.specs.Commands.{IsWithin};
 ghost use Rattle.object_graph.specs.Graphs.{Graph};
 ghost use Rattle.write_barrier.specs.MutatorState.{MainShows};
 ghost use Rattle.mutator.specs.Binding.{Binds, BindsMade};
-ghost use Rattle.mutator.specs.CarriesOut.{Carries, field_numbers};
+ghost use Rattle.mutator.specs.CarriesOut.{AsksWhereFull, Carries, field_numbers};
 
 use crate::lookups::{find_weak_map, key, operand, operands};
 use crate::making::{COUNTED_WORDS, fill_counted};
@@ -40,14 +40,16 @@ pub fn new_weak(main: &mut Main, x: u32, object: u32) -> Result<(), Stop>
 
 /// Gives the entry of the key `k` in the weak map `m` the value.
 ///
-/// Stops with `unbound`, `notweak`, `badkey` where the key is no object, `weakfull` where the key is
-/// new and the map has 256 entries, or for want of room for a new table or box.
+/// Stops with `unbound`, `notweak`, `badkey` where the key is no object, with `NoClear` where the key is
+/// new and 256 pairs of the map's table are filled, or for want of room for a new table or box.
 #[inline(always)]
 pub fn wput(main: &mut Main, m: u32, k: Operand, v: Operand) -> Result<(), Stop>
     requires shown { (graph : Graph) × MainShows main.old graph }
     requires within { IsWithin main.old.seat.space.variables field_numbers (Command.WPut m k v) }
     ensures carried { (graph : Graph) (names : List (List ℕ)) → MainShows main.old graph →
         Carries names main.old main.new graph (Command.WPut m k v) [] result }
+    ensures asks { (graph : Graph) → MainShows main.old graph →
+        AsksWhereFull main.old graph (Command.WPut m k v) result }
 {
     // All three are read before any is judged: `unbound` comes before all other faults.
     let (target, named) = operands(main, Operand::Var(m), k)?;

@@ -55,7 +55,7 @@ fields_reached graph plain is there marked =
 
 -- limits that let each object have 64 fields
 abbrev wide_limits : Limits
-wide_limits = record { fields = λ cap. fields_most; paths = None; dead_keys = true }
+wide_limits = record { fields = λ cap. fields_most; paths = None }
 
 -- these limits let no object have more fields than 64
 wide_limits_are : HasFieldLimit wide_limits

@@ -37,5 +37,6 @@ nothing_changes heap at capacity same = record {
   own = same;
   others = λ number other place apart. refl;
   stays = λ number other place. place;
+  stand = λ cell words has object apart. has;
   none_made = λ number other place. place;
 }

@@ -108,6 +108,9 @@ module _ {old new : Heap} {cell came : Cell} {others beside made : List Cell}
         (stays_standing cells place.has (object_is_no_filler place.cell.layout.kind place.object)
         (λ there. not_own (went_object writing.step place.cell there place.object)));
     stays = own_places_stay writing.step;
+    stand = λ other words has object apart.
+        stays_standing (cells_move writing.step.cells) has (object_is_no_filler other.layout.kind object)
+        (λ there. apart (sym (ap (λ (one : Cell). one.at) (went_object writing.step other there object))));
     none_made = none_made;
   }
 

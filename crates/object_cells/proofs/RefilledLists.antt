@@ -47,7 +47,6 @@ written_elements_show old new graph list cell others made elements shows there c
       among = first_in cell others;
       carries = carries;
       shows = λ marks reached. list_shows whole shown writes slots;
-      counts = tt;
     } in
     replaced_shows list.number (ListOf elements) graph.paths shows
     (relists graph list elements shows.is_graph are.are)

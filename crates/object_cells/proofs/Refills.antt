@@ -54,7 +54,6 @@ refills_show old new graph plain fields gone came made shows there are added res
       among = refills.among;
       carries = refills.carries;
       shows = λ marks reached. refills.shows;
-      counts = tt;
     } in
     record {
       paths = new.paths;

@@ -4,11 +4,9 @@ use Rattle.std.proofs.Common.{◌∙◌, ap, subst, Bool, arith, ◌⊎◌, inl,
 use Rattle.std.specs.Prelude.{Contains, IsTrue}
 use Rattle.std.proofs.lemmas.Bool.{false≢true}
 use Rattle.std.proofs.lemmas.Option.{none-some, same_Some}
-use Rattle.std.proofs.lemmas.List.Elements.{Contains-append_left}
 use Rattle.page_space.specs.Extents.{Space, eden_start}
 use Rattle.nursery.specs.Young.{Young, other_half}
 use Rattle.heap_model.specs.Types.{Object, Path, Cell}
-use Rattle.object_graph.specs.declared.object.Object.TheVariants as graph_object
 use Rattle.object_graph.specs.Graphs.{Graph}
 use Rattle.object_graph.specs.Reach.{is_marked, reach}
 use Rattle.object_graph.specs.Invariants.{IsGraph}
@@ -17,13 +15,9 @@ use Rattle.graph_laws.proofs.Reaches.{reach_has_bound, reach_closed, reach_least
 use Rattle.heap_model.specs.Heaps.{Heap, words_of_cell}
 use Rattle.heap_model.specs.Slots.{is_object_kind}
 use Rattle.heap_model.specs.Wholeness.{HasSizes, HasRows}
-use Rattle.heap_model.specs.Showing.{ShowsObject, Shows}
+use Rattle.heap_model.specs.Showing.{ShowsObject}
 use Rattle.heap_model.specs.Changes.{CellsChange, IsOwnChange, IsGraphChange}
-use Rattle.heap_model.specs.Counting.{CountsEntries}
 use Rattle.heap_model.specs.Collectable.{IsCollectable, AreFreeRuns}
-use Rattle.heap_model.proofs.ShownObjects.{object_of_shown}
-use Rattle.heap_model.proofs.CellOutcomes.{cells_move, object_is_no_filler, stays_standing}
-use Rattle.heap_model.proofs.CountsStay.{HasCountOf, count_kept, count_came}
 use Rattle.heap_model.proofs.WholeStays.{own_changes_keep_whole}
 use Rattle.heap_model.proofs.ShownGraphs.{own_changes_show}
 use Rattle.heap_model.proofs.StaysCollectable.{own_changes_stay_collectable}
@@ -90,7 +84,6 @@ pub record ReplacesCells (old new : Heap) (graph : Graph) (number : ℕ) (object
   pub carries : cell.header.object ≡ number
   pub shows : (marks : List Bool) → MarksReached graph marks
       → ShowsObject new marks cell (words_of_cell new cell) object
-  pub counts : HasCountOf (words_of_cell new cell) object
 
 -- the change of the graph is that of the cells
 graph_changes : {old new : Heap} (graph : Graph) (number : ℕ) (object : Object) (paths : List Path)
@@ -123,34 +116,6 @@ graph_changes {new = new} graph number object paths same links replaces =
           ];
       numbered = λ cell there is_object. absurd (false≢true (sym (replaces.no_object cell there) ∙ is_object));
     }
-
--- weak maps count their entries: the cells of all others stand as before
-counts_after : {old new : Heap} (graph : Graph) (number : ℕ) (object : Object) (paths : List Path)
-    {gone came made : List Cell} → Shows old graph → Shows new (replaced graph number object paths)
-    → CountsEntries old graph → HasReachedLinks graph object → ReplacesCells old new graph number object gone came made
-    → CountsEntries new (replaced graph number object paths)
-counts_after {new = new} graph number object paths {gone} {came} {made} shows shown counts links replaces other at
-    entries there marked place =
-    let after : Graph = replaced graph number object paths in
-    let reached : MarksReached graph (reach after) =
-    λ one marked. reaches_no_more graph number object paths one links marked in
-    let words : List ℕ = words_of_cell new replaces.cell in
-    elim (put_cases graph.objects number object other (graph_object.Weak entries) there) [
-      | inl old ↦ count_kept shown (record {
-        shows = shows;
-        counts = counts;
-        there = old.0;
-        marked = reached other marked;
-        stays = λ cell words has object carries.
-            stays_standing (cells_move replaces.cells) has (object_is_no_filler cell.layout.kind object)
-            (λ went. old.1 (sym carries ∙ replaces.only cell went object));
-      }) there marked place
-      | inr put ↦
-          count_came shown there marked
-          (replaces.cells.comes replaces.cell (Contains-append_left came made replaces.cell replaces.among))
-          (object_of_shown new (reach after) replaces.cell words object (replaces.shows (reach after) reached))
-          (replaces.carries ∙ sym put.0) (subst (λ (one : Object). HasCountOf words one) put.1 replaces.counts) place
-    ]
 
 -- the mutator rests again where its change of cells is remembered
 pub rests_again : {old new : Mutator} {graph : Graph} (gone came made : List Cell) → MainShows old graph
@@ -191,7 +156,6 @@ replaced_shows {old} {new} {graph} number object paths {gone} {came} {made} show
       is_graph = is_graph;
       quiet = takes.phase ∙ shows.quiet;
       shows = shown;
-      counts = counts_after graph number object paths shows.shows shown shows.counts links replaces;
       collectable = subst (λ (half : ℕ). IsCollectable now (other_half half))
           (sym (ap (λ (young : Young). young.half) takes.young))
           (own_changes_stay_collectable before now gone came made (other_half old.young.half) shows.shows.whole

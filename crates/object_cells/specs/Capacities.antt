@@ -1,11 +1,11 @@
 -- How many slots the stores of objects have, property stores and those of lists, and how many pairs the tables of weak
 -- maps; and what becomes of them.
-use Rattle.std.specs.Prelude.{◌≡◌, ◌≢◌, ℕ, ◌+◌, ◌^◌, ◌<◌, ◌⊎◌, List, Contains, slice_get, Some}
+use Rattle.std.specs.Prelude.{◌≡◌, ◌≢◌, ℕ, ◌+◌, ◌^◌, ◌<◌, ◌⊎◌, List, Contains, slice_get, Some, IsTrue}
 use Rattle.heap_model.specs.Types.{Kind, Cell}
 use Rattle.tagged_word.specs.declared.layout.Kind.TheVariants as kind
 use Rattle.tagged_word.specs.Cells.{store_slot}
-use Rattle.heap_model.specs.Heaps.{Heap}
-use Rattle.heap_model.specs.Slots.{reference_word, IsPlace}
+use Rattle.heap_model.specs.Heaps.{Heap, HasCell}
+use Rattle.heap_model.specs.Slots.{reference_word, is_object_kind, IsPlace}
 use Rattle.heap_model.specs.Wholeness.{Whole, NamesFrom}
 use Rattle.heap_model.specs.Needs.{capacity_at}
 use Rattle.object_cells.specs.CellWrites.{Owns, WritesOwnCells}
@@ -13,13 +13,16 @@ use Rattle.object_cells.specs.OwnWords.{ChangesOwnWords}
 
 -- Of the words before the layout words only those of the object at the address have changed, and newly used ones. The
 -- object has a store of so many slots, or a table of so many pairs, and each other object one of as many as before.
--- Each object stands where it stood, and none is made.
+-- Each object stands where it stood, with the same words in its own cell but for the one that is changed, and none is
+-- made.
 pub record ChangesObject (old new : Heap) (at capacity : ℕ) : Type 0 where
   pub words : ChangesOwnWords old new at
   pub own : capacity_at new at ≡ capacity
   pub others : (number other : ℕ) → IsPlace old number other → other ≢ at
       → capacity_at new other ≡ capacity_at old other
   pub stays : (number other : ℕ) → IsPlace old number other → IsPlace new number other
+  pub stand : (cell : Cell) (words : List ℕ) → HasCell old cell words → IsTrue (is_object_kind cell.layout.kind)
+      → cell.at ≢ at → HasCell new cell words
   pub none_made : (number other : ℕ) → IsPlace new number other → IsPlace old number other
 
 -- Words of one object's own cells were written in a whole heap, and stores, tables and boxes made.

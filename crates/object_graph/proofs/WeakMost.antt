@@ -1,18 +1,40 @@
--- When a weak map has no room, where every entry counts.
-use Rattle.std.proofs.Common.{◌≡◌, ◌==◌, ◌&&◌, ◌∙◌, ap, refl, ℕ, ◌+◌, Bool, true, false, cond, List, []}
-use Rattle.std.proofs.Common.{◌∷◌, length, Option, Some, is_none, nat_le, arith, zero-add}
+-- When a weak map has no room for a key that can be reached.
+use Rattle.std.proofs.Common.{◌≡◌, ◌==◌, ◌&&◌, ◌∙◌, ap, sym, refl, ℕ, ◌+◌, Bool, true, false, cond, List, []}
+use Rattle.std.proofs.Common.{◌∷◌, Option, Some, is_none, nat_le, arith, zero-add, inl, inr}
 use Rattle.std.specs.Prelude.{count_by, if◌then◌else◌}
+use Rattle.std.proofs.lemmas.Bool.{cases_eq, ne_eqb}
 use Rattle.std.proofs.lemmas.Bool.Decides.{nat_tests}
 use Rattle.std.proofs.lemmas.List.Sums.{sum_by-cons}
 use Rattle.object_graph.specs.declared.value.Value.{Value}
 use Rattle.object_graph.specs.declared.object.Entry.{Entry}
 use Rattle.object_graph.specs.Objects.{entry_value}
 use Rattle.object_graph.specs.Meaning.{no_entry_for, weak_most}
-use Rattle.object_graph.specs.Limits.{ideal_limits}
+use Rattle.object_graph.specs.Reach.{is_marked}
 
--- whether the entry has this key
-abbrev has_key : ℕ → Entry → Bool
-has_key key entry = entry.key == key
+-- whether the entry has this key, which is marked
+abbrev has_key : List Bool → ℕ → Entry → Bool
+has_key marks key entry = is_marked marks entry.key && (entry.key == key)
+
+-- a test that needs a true one is the other alone
+and_alone : (a b : Bool) → a ≡ true → (a && b) ≡ b
+and_alone a b is = ap (λ t. t && b) is
+
+-- and one beside a false one is false
+and_false : (a b : Bool) → b ≡ false → (a && b) ≡ false
+and_false true b is = is
+and_false false b is = refl
+
+-- where the key is marked, that is whether it has the key
+key_alone : (marks : List Bool) (key : ℕ) (entry : Entry) → is_marked marks key ≡ true
+    → has_key marks key entry ≡ (entry.key == key)
+key_alone marks key entry marked =
+    elim (cases_eq entry.key key) [
+      | inl same ↦
+          and_alone (is_marked marks entry.key) (entry.key == key) (ap (is_marked marks) same ∙ marked)
+      | inr apart ↦
+          and_false (is_marked marks entry.key) (entry.key == key) (ne_eqb entry.key key apart)
+          ∙ sym (ne_eqb entry.key key apart)
+    ]
 
 -- one entry more is counted where it has the key
 no_key-cons : (here : Bool) (n : ℕ) (value : Value) (rest : Option Value) → (n == 0) ≡ is_none rest
@@ -21,22 +43,20 @@ no_key-cons true n value rest same = grind (arith, nat_tests)
 no_key-cons false n value rest same = rw zero-add same
 
 -- no entry is counted that has the key where the key has no value
-no_key : (entries : List Entry) (key : ℕ) → (count_by (has_key key) entries == 0) ≡ is_none (entry_value entries key)
-no_key [] key = refl
-no_key (entry ∷ entries) key =
-    let rest = count_by (has_key key) entries in
-    ap (λ n. n == 0) (sum_by-cons (λ e. cond (has_key key e) 1 0) entry entries)
-    ∙ no_key-cons (has_key key entry) rest entry.value (entry_value entries key) (no_key entries key)
+no_key : (marks : List Bool) (entries : List Entry) (key : ℕ) → is_marked marks key ≡ true
+    → (count_by (has_key marks key) entries == 0) ≡ is_none (entry_value entries key)
+no_key marks [] key marked = refl
+no_key marks (entry ∷ entries) key marked =
+    let rest = count_by (has_key marks key) entries in
+    ap (λ n. n == 0) (sum_by-cons (λ e. cond (has_key marks key e) 1 0) entry entries)
+    ∙ ap (λ t. cond t 1 0 + rest == 0) (key_alone marks key entry marked)
+    ∙ no_key-cons (entry.key == key) rest entry.value (entry_value entries key) (no_key marks entries key marked)
 
--- as many are counted as there are
-count_by-all : (entries : List Entry) → count_by (λ entry. true) entries ≡ length entries
-count_by-all [] = refl
-count_by-all (entry ∷ entries) = omega (arith, sum_by-cons (λ e. 1) entry entries, count_by-all entries)
-
--- so there is no room for a new key in a full map, whatever can be reached
-pub no_entry_for-is : (marks : List Bool) (entries : List Entry) (key : ℕ)
-    → no_entry_for ideal_limits marks entries key
-    ≡ (is_none (entry_value entries key) && nat_le weak_most (length entries))
-no_entry_for-is marks entries key =
-    ap (λ new. new && nat_le weak_most (count_by (λ entry. true) entries)) (no_key entries key)
-    ∙ ap (λ n. is_none (entry_value entries key) && nat_le weak_most n) (count_by-all entries)
+-- So there is no room for a new key that can be reached where as many keys can be as a map may have.
+pub no_entry_for-is : (marks : List Bool) (entries : List Entry) (key : ℕ) → is_marked marks key ≡ true
+    → no_entry_for marks entries key
+    ≡ (is_none (entry_value entries key)
+    && nat_le weak_most (count_by (λ entry. is_marked marks entry.key) entries))
+no_entry_for-is marks entries key marked =
+    ap (λ new. new && nat_le weak_most (count_by (λ entry. is_marked marks entry.key) entries))
+    (no_key marks entries key marked)

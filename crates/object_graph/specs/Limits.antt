@@ -1,5 +1,5 @@
 -- What graphs may hold.
-use Rattle.std.specs.Prelude.{ℕ, true, Some}
+use Rattle.std.specs.Prelude.{ℕ, Some}
 use Rattle.object_graph.specs.Meaning.{Limits}
 use Rattle.object_graph.specs.Invariants.{fields_most}
 
@@ -7,7 +7,6 @@ use Rattle.object_graph.specs.Invariants.{fields_most}
 abbrev pub paths_most : ℕ
 paths_most = 8192
 
--- An object may have 64 fields, whatever its cap, there may be 8,192 field paths, and every entry of a weak map counts
--- towards the 256 that it may have.
+-- An object may have 64 fields, whatever its cap, and there may be 8,192 field paths.
 abbrev pub ideal_limits : Limits
-ideal_limits = record { fields = λ cap. fields_most; paths = Some paths_most; dead_keys = true }
+ideal_limits = record { fields = λ cap. fields_most; paths = Some paths_most }

@@ -1,5 +1,5 @@
 -- The meaning of each command.
-use Rattle.std.specs.Prelude.{ℕ, suc, Bool, true, false, not, ◌&&◌, ◌||◌, List, [], ◌∷◌, ◌++◌, length, take}
+use Rattle.std.specs.Prelude.{ℕ, suc, Bool, true, false, not, ◌&&◌, List, [], ◌∷◌, ◌++◌, length, take}
 use Rattle.std.specs.Prelude.{drop, Option, Some, None, is_none, option_and_then, nat_le, ◌==◌, ℤ, pos, negsuc, ◌+ℤ◌}
 use Rattle.std.specs.Prelude.{int_le, count_by, unwrap_or, slice_get, slice_set, if◌then◌else◌}
 use Rattle.std.specs.Ordering.{int_eq}
@@ -29,14 +29,12 @@ pub record Limits : Type 0 where
   pub fields : ℕ → ℕ
   -- the most field paths; None is no limit
   pub paths : Option ℕ
-  -- whether an entry counts towards the most entries of a weak map though its key cannot be reached
-  pub dead_keys : Bool
 
 -- the most elements of a list
 abbrev pub list_most : ℕ
 list_most = 1000
 
--- the most entries of a weak map
+-- the most entries of a weak map whose key can be reached
 abbrev pub weak_most : ℕ
 weak_most = 256
 
@@ -69,15 +67,12 @@ abbrev pub no_room_for : Limits → PlainObject → ℕ → Bool
 no_room_for limits plain name =
     is_none (field_value plain.fields name) && nat_le (limits.fields plain.cap) (length plain.fields)
 
--- an entry counts: its key can be reached, or keys that cannot count too
-abbrev pub counts : Limits → List Bool → Entry → Bool
-counts limits marks entry = limits.dead_keys || is_marked marks entry.key
-
--- no entry that counts has the key, and as many count as a weak map may have
-abbrev pub no_entry_for : Limits → List Bool → List Entry → ℕ → Bool
-no_entry_for limits marks entries key =
-    (count_by (λ entry. counts limits marks entry && (entry.key == key)) entries == 0)
-    && nat_le weak_most (count_by (counts limits marks) entries)
+-- Of the entries whose key can be reached none has this key, and there are as many as a weak map may have. Entries with
+-- other keys do not count.
+abbrev pub no_entry_for : List Bool → List Entry → ℕ → Bool
+no_entry_for marks entries key =
+    (count_by (λ entry. is_marked marks entry.key && (entry.key == key)) entries == 0)
+    && nat_le weak_most (count_by (λ entry. is_marked marks entry.key) entries)
 
 -- the graph with these fields in the object in place of its own, and these paths
 abbrev pub refill : Graph → PlainObject → List Field → List Path → Graph
@@ -184,7 +179,7 @@ does limits names graph (command.WPut m k v) =
     given Unbound (value_of graph v) (λ value.
     given NotWeak (weak_at graph.objects target) (λ weak.
     given BadKey (object_in key) (λ number.
-    unless WeakFull (no_entry_for limits (reach graph) weak.entries number) (
+    unless WeakFull (no_entry_for (reach graph) weak.entries number) (
     done (reweave graph weak (with_entry weak.entries number value)) []))))))
 does limits names graph (command.WGet y m k) =
     given Unbound (get graph.bindings m) (λ target.

@@ -16,7 +16,7 @@ pub const PATHS_MOST: u32 = 8_192;
 /// The most elements of a list.
 pub const ELEMENTS_MOST: u32 = 1_000;
 
-/// The most entries of a weak map.
+/// The most entries of a weak map whose keys can be reached.
 pub const ENTRIES_MOST: u32 = 256;
 
 /// The numbers are those of the definitions.

@@ -19,7 +19,8 @@ run | repeat 2; print 1; end; print 2 | 6 0 0 | 0 0
 run | let i 0; repeat 2; repeat 3; add i 1; end; print i; end | 20 0 0 | 0 0
 run | repeat 2; repeat 0; print 1; end; end; print 3 | 6 0 0 | 0 0
 run | print 1; repeat 3; get y q f; end | 2 3 0 | 0 0
-run | gc | 
+run | gc | 1 0 0 | 0 0
+run | mark | 
 run x | print 5 | 
 run | scavenge | 1 0 0 | 0 0
 run | repeat 6000; new x 8; end | 12001 0 0 | 2730 10
@@ -48,7 +49,9 @@ run --young 64 | list l; push l 1; repeat 100; push l 2; trunc l 1; end | 303 0 
 run --young 64 | list l; repeat 4; push l 1; end; repeat 100; shift l 1; push l 1; end | 311 0 0 | 56 5
 run --young 64 | weak m; repeat 100; new k 0; wput m k 1; end | 302 0 0 | 6 32
 run --pages 1 --young 64 | let o 0; repeat 512; new t 2; set t n o; let o t; end; scavenge; scavenge; \
-weak m; repeat 100; new k 0; wput m k 1; end | 2067 12 34 | 0 31
+weak m; repeat 100; new k 0; wput m k 1; end | 2354 0 0 | 6 23
+run --pages 1 --young 64 | let o 0; repeat 512; new t 2; set t n o; let o t; end; scavenge; scavenge; \
+weak m; repeat 100; new k 1; set k n o; let o k; wput m k 1; end | 2077 14 34 | 0 36
 run --young 64 | weak m; new k 0; wput m k 1; repeat 100; wput m k 5000000000; wput m k 1; end | 304 0 0 | 40 0
 run --young 64 | list l; weak m; repeat 3; new x 8; wput m x l; drop x; scavenge; end | 18 0 0 | 0 28
 run --young 64 | new x 0; scavenge; new y 0; scavenge; drop x; scavenge; new z 0 | 7 0 0 | 2 0

@@ -1,5 +1,5 @@
 -- A scavenge that has come to its end is one, and the heap that is left shows the graph.
-use Rattle.std.proofs.Common.{◌≡◌, ℕ, ◌<◌, ◌≤◌, ◌⊎◌, Bool, List, Contains, Option, inl, inr, slice_get, sym, ◌∙◌, ap}
+use Rattle.std.proofs.Common.{◌≡◌, ℕ, ◌<◌, ◌≤◌, ◌⊎◌, Bool, List, Contains, inl, inr, slice_get, sym, ◌∙◌, ap}
 use Rattle.std.proofs.Common.{subst}
 use Rattle.std.proofs.Common.{arith}
 use Rattle.object_graph.specs.Graphs.{Graph}
@@ -10,19 +10,12 @@ use Rattle.free_runs.specs.FreeRuns.{AreFree, longest_of}
 use Rattle.free_runs.specs.Laws.{IsFreeWord}
 use Rattle.free_runs.proofs.Takes.{longest_tells}
 use Rattle.heap_table.specs.Seats.{heap_words}
-use Rattle.object_graph.specs.declared.object.Object.TheVariants.{Weak}
-use Rattle.heap_model.specs.Heaps.{Heap}
-use Rattle.heap_model.specs.Showing.{Shows}
-use Rattle.heap_model.specs.Counting.{CountsEntries}
 use Rattle.heap_model.specs.Collectable.{IsCollectable, AreFreeRuns}
 use Rattle.heap_model.specs.Remembered.{AreRemembered}
 use Rattle.heap_model.proofs.CellsApart.{has_is_cell}
-use Rattle.heap_moves.specs.Moved.{IsMoved}
 use Rattle.heap_moves.specs.Standing.{Stays}
-use Rattle.heap_moves.proofs.AllStands.{whole_for, shows_for}
-use Rattle.heap_moves.proofs.MovedCells.{place_before}
+use Rattle.heap_moves.proofs.AllStands.{shows_for}
 use Rattle.heap_moves.proofs.MovedGraphs.{moves_show}
-use Rattle.heap_moves.proofs.MovedRooms.{moves_keep_room}
 use Rattle.heap_moves.proofs.RoomsStay.{moves_keep_rooms}
 use Rattle.write_barrier.specs.MutatorState.{Mutator, heap_of, MainShows}
 use Rattle.scav_copy.specs.declared.places.Home.{Home}
@@ -42,18 +35,6 @@ use Rattle.scavenger.proofs.EndRecords.{end_is_remembered}
 use Rattle.scavenger.proofs.EndedHeap.{ending_is, left_young, left_is, left_is_moved, left_alone, left_stayed}
 use Rattle.scavenger.proofs.EndedHeap.{left_tiles}
 use Rattle.scavenger.proofs.EndedHeap.{left_few}
-
--- where entries were counted, they are in the moved heap
-pub counts_stay : {old new : Heap} {to : ℕ → Option ℕ} {graph : Graph} → Shows old graph → IsMoved old new to
-    → CountsEntries old graph → CountsEntries new graph
-counts_stay {old} {new} {to} shows moved counts number at entries there marked place =
-    let before = place_before moved place in
-    let reached = shows.reached number (Weak entries) there marked in
-    let room = moves_keep_room old new to number before.at at (whole_for (Stays to) shows.whole) moved before.place
-    before.stays in
-    room.count reached.cell reached.words reached.has (sym (reached.once before.at before.place))
-    (inr reached.shows.of_kind)
-    ∙ counts number before.at entries there marked before.place
 
 module _ {old new : Mutator} {all : Bool} {fixed : Fixed} {homes : List Home} {words : List ℕ} {fill refused : ℕ}
     (young : IsYoung old.young) (is : IsEnded old new all fixed homes words fill refused) where
@@ -148,7 +129,6 @@ module _ {old new : Mutator} {all : Bool} {fixed : Fixed} {homes : List Home} {w
         is_graph = shows.is_graph;
         quiet = is.seat.phase ∙ shows.quiet;
         shows = moves_show (heap_of old) (heap_of new) to graph (shows_for (Stays to) shows.shows) moved;
-        counts = counts_stay shows.shows moved shows.counts;
         collectable = left_is_collectable;
         free = left_is_free;
         apart = λ row one there among from below. none_granted (omega (arith, from, below));

@@ -22,7 +22,6 @@ use Rattle.heap_moves.proofs.RoomsStay.{moves_keep_rooms}
 use Rattle.write_barrier.specs.MutatorState.{Mutator, heap_of, AreGranted, AvoidsFree, MainShows}
 use Rattle.scavenger.specs.Granting.{Grants, GrantsKeepGraphs, GrantsKeepStores, GrantsStayTight}
 use Rattle.scavenger.proofs.PagesRuns.{whole, whole_is}
-use Rattle.scavenger.proofs.Ended.{counts_stay}
 use Rattle.scavenger.proofs.GrantedWords.{Granting}
 use Rattle.scavenger.proofs.GrantedCells.{granted}
 use Rattle.scavenger.proofs.GrantedMoves.{all_but, all_but_stays, all_but_same, used_apart, granted_is_moved}
@@ -96,7 +95,6 @@ module _ {old new : Mutator} {n : ℕ} (grants : Grants old new n) {graph : Grap
     quiet = grants.beside.phase ∙ shows.quiet;
     shows = moves_show (heap_of old) (heap_of new) (all_but one.at) graph
         (shows_for (Stays (all_but one.at)) shows.shows) is_moved;
-    counts = counts_stay shows.shows is_moved shows.counts;
     collectable = may_collect;
     free = subst (λ heap. AreFreeRuns heap new.free) (sym is_granted)
         (runs_left grants.takes granting grants.own shows.free);

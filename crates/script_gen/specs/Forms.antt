@@ -64,8 +64,8 @@ trunc_form list length kept =
 abbrev pub print_form : Kept → Form
 print_form kept = form (codes "print") (Seen ∷ []) kept
 
--- The form of a first draw 27 to 48, for the list of this number and length. Its rows are 27 to 34, 35 to 38,
--- 39 to 42, 43 to 45, and 46 to 48. A list without elements is pushed to in place of a `put`, and in place of an `at` of it `v` is
+-- The form of a first draw 27 to 48, for the list of this number and length. Its rows are 27 to 34, 35 to 38, 39 to 42,
+-- 43 to 45, and 46 to 48. A list without elements is pushed to in place of a `put`, and in place of an `at` of it `v` is
 -- printed.
 abbrev pub list_form : ℕ → ℕ → ℕ → Kept → Form
 list_form first list length kept =

@@ -85,4 +85,4 @@ same_keyword a b = bytes_eq (keyword_text a) (keyword_text b)
 
 -- the commands that are not built
 abbrev pub unbuilt_keywords : Row Keyword
-unbuilt_keywords = Mark ∷ Finish ∷ Gc ∷ Census ∷ []
+unbuilt_keywords = Mark ∷ Finish ∷ []

@@ -55,12 +55,7 @@ pub enum OperandKind {
 pub(crate) const PLACES_MOST: usize = 3;
 
 /// The commands that are not built.
-pub(crate) const UNBUILT_KEYWORDS: &[Keyword] = &[
-    Keyword::Mark,
-    Keyword::Finish,
-    Keyword::Gc,
-    Keyword::Census,
-];
+pub(crate) const UNBUILT_KEYWORDS: &[Keyword] = &[Keyword::Mark, Keyword::Finish];
 
 /// The command with this word.
 pub(crate) fn keyword_of(token: &[u8]) -> Option<Keyword>

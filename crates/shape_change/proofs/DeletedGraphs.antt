@@ -151,6 +151,7 @@ none_deleted {main} {graph} {plain = plain} name shows is header_at none =
         own = refl;
         others = λ number other place apart. refl;
         stays = λ number other place. place;
+        stand = λ cell words has object apart. has;
         none_made = λ number other place. place;
       };
       shows = subst (ShowsRefilled main graph plain)

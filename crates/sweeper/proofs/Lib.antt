@@ -8,7 +8,6 @@ pub mod SweepSteps
 pub mod RowSteps
 pub mod PassedCells
 pub mod RowWalks
-pub mod RowLimits
 pub mod SweptHeap
 pub mod KeptPlaces
 pub mod SweptMoves

@@ -16,7 +16,8 @@ use Rattle.heap_model.proofs.RegionRows.{row_between}
 use Rattle.heap_model.proofs.RowEnds.{first_word_counts}
 use Rattle.heap_table.specs.Seats.{heap_words}
 use Rattle.write_barrier.specs.MutatorState.{Mutator, heap_of}
-use Rattle.sweeper.specs.Sweeping.{InRow, IsLimit, MaySweep, Sweeping}
+use Rattle.cell_reading.specs.Limits.{IsLimit}
+use Rattle.sweeper.specs.Sweeping.{InRow, MaySweep, Sweeping}
 use Rattle.sweeper.proofs.Gaps.{ahead_stays}
 use Rattle.sweeper.proofs.SweptRows.{region_is_swept}
 use Rattle.sweeper.proofs.SweepSteps.{sweep_further}

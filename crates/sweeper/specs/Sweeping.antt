@@ -1,6 +1,6 @@
 -- How far a sweep has come: which stretches of cells became free cells, what that made of free runs and of what is
 -- recorded, and how far the row of a region has been gone along.
-use Rattle.std.specs.Prelude.{◌≡◌, ℕ, ◌+◌, ◌-◌, ◌*◌, ◌/◌, ◌<◌, ◌≤◌, ◌⊎◌, ◌↔◌, List, [], ◌∷◌, ◌++◌, Some, Contains}
+use Rattle.std.specs.Prelude.{◌≡◌, ℕ, ◌+◌, ◌-◌, ◌*◌, ◌/◌, ◌<◌, ◌≤◌, ◌⊎◌, ◌↔◌, List, [], ◌∷◌, ◌++◌, Contains}
 use Rattle.std.specs.Prelude.{IsTrue}
 use Rattle.std.specs.Prelude.{length, set, slice_get}
 use Rattle.tagged_word.specs.Cells.{is_free_kind}
@@ -15,6 +15,7 @@ use Rattle.heap_table.specs.Seats.{RestStays, heap_words}
 use Rattle.heap_model.specs.Types.{Cell, Run}
 use Rattle.heap_model.specs.Heaps.{Heap, Row, HasCell}
 use Rattle.heap_model.specs.Kinds.{HasNoNumber}
+use Rattle.cell_reading.specs.Limits.{EndsBy}
 use Rattle.heap_model.specs.RegionRows.{StandsBetween, IsRowFrom}
 use Rattle.heap_model.specs.Wholeness.{Whole}
 use Rattle.heap_model.specs.Changes.{Patch, IsPatch, IsPatched, PatchesDisjoint, written}
@@ -120,16 +121,6 @@ pub record IsBegun (first : Mutator) : Type 0 where
   pub limits : IsSpace first.seat.space
   pub quiet : first.seat.phase ≡ Quiet
   pub whole : Whole (heap_of first)
-
--- A used row that ends at an address ends by the limit: there, or before it, where a word is 0.
-pub record EndsBy (heap : Heap) (limit row_end : ℕ) : Type 0 where
-  pub within : row_end ≤ limit
-  pub stops : (row_end ≡ limit) ⊎ (slice_get heap.words row_end ≡ Some 0)
-
--- by such a limit ends the used row of the region that stands between two addresses
-pub record IsLimit (heap : Heap) (start end limit : ℕ) : Type 0 where
-  pub within : limit ≤ end
-  pub ends : (row : Row) → IsRowFrom heap start row → EndsBy heap limit row.end
 
 -- A sweep may go along the row of the region between two addresses.
 pub record MaySweep (first now : Mutator) (marked : List ℕ) (start end : ℕ) : Type 0 where

@@ -1,32 +1,17 @@
 //! The sweep of all regions of cells, one after another.
-ghost use Rattle.std.specs.Prelude.{◌≡◌, ◌≤◌, ℕ, length};
+ghost use Rattle.std.specs.Prelude.{◌≡◌, length};
 ghost use Rattle.page_space.specs.Extents.{roots_start};
 ghost use Rattle.heap_table.specs.declared.phase.Phase.TheVariants.{Quiet};
-ghost use Rattle.heap_model.specs.Heaps.{Heap};
-ghost use Rattle.heap_model.specs.RegionRows.{StandsBetween};
-ghost use Rattle.heap_model.specs.Wholeness.{HasRows, Whole};
+ghost use Rattle.heap_model.specs.Wholeness.{Whole};
 ghost use Rattle.write_barrier.specs.MutatorState.{Mutator, heap_of};
 ghost use Rattle.sweeper.specs.Swept.{IsSweepable, Sweeps};
-ghost use Rattle.sweeper.specs.Sweeping.{IsBegun, IsLimit, MaySweep, Sweeping};
+ghost use Rattle.sweeper.specs.Sweeping.{IsBegun, MaySweep, Sweeping};
 
 use crate::covering::clear_pages;
 use crate::rows::sweep_row;
 use cell_list::CellList;
-use page_space::Region;
+use cell_reading::row_limit;
 use write_barrier::Main;
-
-/// Where the row of the region that stands between two addresses ends at the latest.
-fn row_limit(main: &Main, start: u32, end: u32) -> u32
-    requires stands { StandsBetween main.now.seat.space start end }
-    requires few { main.now.young.used ≤ main.now.seat.space.sizes.young }
-    ensures { (heap : Heap) → heap.space ≡ main.now.seat.space → heap.used ≡ main.now.young.used →
-        HasRows heap → IsLimit heap start end result }
-{
-    match main.regions().region(start) {
-        Region::Eden => start + main.used(),
-        _ => end,
-    }
-}
 
 /// Sweeps the region that stands between two addresses.
 fn sweep_region(main: &mut Main, marked: &CellList, start: u32, end: u32)

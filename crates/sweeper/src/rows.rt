@@ -1,27 +1,16 @@
 //! Going along the row of a region, from cell to cell.
-ghost use Rattle.std.specs.Prelude.{◌≡◌, ◌≢◌, ℕ, ◌+◌, ◌<◌, ◌≤◌, ◌↔◌, List, Some, slice_get, IsTrue};
-ghost use Rattle.page_space.specs.Extents.{marks_start, roots_start};
-ghost use Rattle.heap_table.specs.declared.phase.Phase.TheVariants.{Quiet};
-ghost use Rattle.heap_table.specs.Seats.{heap_words};
+ghost use Rattle.std.specs.Prelude.{◌≡◌, ℕ, ◌+◌, List};
+ghost use Rattle.page_space.specs.Extents.{roots_start};
 ghost use Rattle.write_barrier.specs.MutatorState.{Mutator, heap_of};
-ghost use Rattle.sweeper.specs.Sweeping.{InRow, IsLimit, MayPass, MaySweep, Sweeping};
+ghost use Rattle.cell_reading.specs.Limits.{IsLimit};
+ghost use Rattle.sweeper.specs.Sweeping.{InRow, MayPass, MaySweep, Sweeping};
 
 use crate::covering::cover;
 use cell_layout::Cell;
 use cell_list::CellList;
-use cell_reading::known_cell;
+use cell_reading::{goes_on, known_cell};
 use page_space::PAGE_WORDS;
 use write_barrier::Main;
-
-/// Whether the row of a region goes on at an address: it ends at a limit, or before, where a word is 0.
-fn goes_on(main: &Main, at: u32, limit: u32) -> bool
-    requires quiet { main.now.seat.phase ≡ Quiet }
-    requires within { limit ≤ marks_start main.now.seat.space }
-    ensures { let word = slice_get (heap_words main.now.seat) at in
-        IsTrue result ↔ ((at < limit) × (word ≢ Some 0)) }
-{
-    at < limit && main.word(at) != 0
-}
 
 /// Makes the cells from an address up to another one free cell, if there are any.
 fn end_stretch(main: &mut Main, from: u32, at: u32)

@@ -16,7 +16,6 @@ use Rattle.page_space.specs.Extents.{Extent}
 use Rattle.page_space.proofs.Lists.{contains_none}
 use Rattle.nursery.specs.Young.{Young, other_half}
 use Rattle.remembered_set.specs.Recorded.{Recorded}
-use Rattle.object_graph.specs.declared.object.Object.TheVariants.{Weak}
 use Rattle.object_graph.specs.Graphs.{start}
 use Rattle.object_graph.specs.Invariants.{IsObject, HasItsPath, IsGraph}
 use Rattle.object_graph.proofs.FirstPaths.{empty_paths_are, length-empty_paths}
@@ -183,7 +182,6 @@ started_shows main is = (
     is_graph = start_is;
     quiet = is.beside.phase;
     shows = first_shows main is;
-    counts = λ number at entries there marked place. absurd (none-some (Weak entries) there);
     collectable = first_is_collectable main (other_half main.young.half) is;
     free = first_are_free main is;
     apart = λ row run there among begins ends. absurd (omega (arith, begins, ends, nothing_granted main is));

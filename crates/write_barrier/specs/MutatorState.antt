@@ -18,7 +18,6 @@ use Rattle.heap_table.specs.declared.phase.Phase.TheVariants.{Quiet}
 use Rattle.heap_table.specs.Seats.{Seat, RestStays, fresh, heap_words}
 use Rattle.heap_model.specs.Heaps.{Heap}
 use Rattle.heap_model.specs.Showing.{Shows}
-use Rattle.heap_model.specs.Counting.{CountsEntries}
 use Rattle.heap_model.specs.Changes.{AreFillers}
 use Rattle.heap_model.specs.Collectable.{IsCollectable, AreFreeRuns}
 use Rattle.heap_model.specs.Remembered.{AreRemembered}
@@ -56,15 +55,14 @@ pub record IsTied (main : Mutator) : Type 0 where
   pub space : main.young.space ≡ main.seat.space
   pub granted : AreGranted (heap_of main) main.young.granted
 
--- The parts agree, only the mutator runs, and the heap shows the graph, which is one that a script makes. No entry of a
--- weak map was cleared. A scavenge may come: the half that the survivors are not in is empty, each free run is one free
--- cell, no such begins in what is granted, and recorded are exactly the slots of pages that refer to young cells.
+-- The parts agree, only the mutator runs, and the heap shows the graph, which is one that a script makes. A scavenge may
+-- come: the half that the survivors are not in is empty, each free run is one free cell, no such begins in what is
+-- granted, and recorded are exactly the slots of pages that refer to young cells.
 pub record MainShows (main : Mutator) (graph : Graph) : Type 0 where
   pub tied : IsTied main
   pub is_graph : IsGraph graph
   pub quiet : main.seat.phase ≡ Quiet
   pub shows : Shows (heap_of main) graph
-  pub counts : CountsEntries (heap_of main) graph
   pub collectable : IsCollectable (heap_of main) (other_half main.young.half)
   pub free : AreFreeRuns (heap_of main) main.free
   pub apart : AvoidsFree main.young.granted main.free

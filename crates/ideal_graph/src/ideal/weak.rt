@@ -1,15 +1,16 @@
 //! The commands on weak maps.
-ghost use Rattle.std.specs.Prelude.{◌≡◌, ◌<◌, [], length};
+ghost use Rattle.std.specs.Prelude.{◌≡◌, ◌<◌, [], IfOk, IfErr, length};
 ghost use Rattle.heap_command.specs.declared.command.Command.{Command};
-ghost use Rattle.object_graph.specs.Limits.{ideal_limits};
 ghost use Rattle.ideal_graph.specs.Steps.{StepsTo, Steps};
 ghost use Rattle.object_graph.specs.declared.object.Object.{Object};
 ghost use Rattle.object_graph.specs.Graphs.{replace};
 ghost use Rattle.object_graph.specs.Meaning.{no_entry_for, done};
+ghost use Rattle.object_graph.specs.Reach.{reach};
 
 use super::{Ideal, IdealStop, Said};
 use heap_command::{FaultWord, Operand};
 use ideal_parts::{bind, is_full_for, key, value_under, with_value, without_key};
+use object_graph::limits::ENTRIES_MOST;
 use object_graph::{Entries, Entry, Object, Value};
 
 impl Ideal {
@@ -22,7 +23,7 @@ impl Ideal {
         let value = self.value(v)?;
         let weak = self.weak(target)?;
         let key = key(named)?;
-        if is_full_for(weak.entries, key) {
+        if self.is_full(weak.entries, key)? {
             return Err(IdealStop::ScriptFault(FaultWord::WeakFull));
         }
         let entries = with_value(self.alloc, weak.entries, key, value)?;
@@ -54,6 +55,20 @@ impl Ideal {
         let entries = without_key(self.alloc, weak.entries, key)?;
         let number = weak.number;
         self.reweave(number, entries)
+    }
+
+    /// Whether a weak map of these entries has no room for the key. Where they are fewer than it may have,
+    /// no marks are needed.
+    fn is_full(&self, entries: &[Entry], key: u32) -> Result<bool, IdealStop>
+        ensures full { IfOk result (λ full.
+            full ≡ no_entry_for (reach self.now.graph) entries.now key) }
+        ensures memory { IfErr result (λ stop. stop ≡ IdealStop.NoMemory) }
+    {
+        if entries.len() < ENTRIES_MOST as usize {
+            return Ok(false);
+        }
+        let marks = self.reached()?;
+        Ok(is_full_for(&marks, entries, key))
     }
 
     /// Gives the weak map of this number these entries.

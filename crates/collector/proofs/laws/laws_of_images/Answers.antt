@@ -3,7 +3,7 @@ use Rattle.collector.proofs.ImageStores.{images_keep_stores, images_have_rooms}
 use Rattle.collector.proofs.ImagesTight.{images_are_tight}
 use Rattle.collector.proofs.ImagesFree.{images_keep_free}
 use Rattle.collector.proofs.ImagesStuck.{images_stay_stuck}
-use Rattle.collector.proofs.ImagesRooted.{images_keep_rooted, images_keep_runs}
+use Rattle.collector.proofs.ImagesExact.{images_are_exact, images_keep_dead}
 use Rattle.collector.proofs.laws.laws_of_images.Goals as goal
 
 pub returns : goal.returns
@@ -15,6 +15,6 @@ returns c = record {
   tight = images_are_tight;
   free = images_keep_free;
   stuck = images_stay_stuck;
-  rooted = images_keep_rooted;
-  runs = images_keep_runs;
+  exact = images_are_exact;
+  dead = images_keep_dead;
 }

@@ -1,13 +1,13 @@
 -- The pair of the entry is removed.
 use Rattle.std.proofs.Common.{◌∙◌, arith}
 use Rattle.object_cells.proofs.CellsRead.{place_before_marks}
-use Rattle.ephemeron_table.proofs.EntryPairs.{entry_pair}
+use Rattle.ephemeron_table.proofs.EntryPairs.{entry_counted, entry_pair}
 use Rattle.ephemeron_table.proofs.KeysFound.{weak_shown, shown_there, key_told}
 use Rattle.ephemeron_table.proofs.KeysProbed.{comes_within, none_at_free, none_passed}
 use Rattle.ephemeron_table.proofs.KnownTables.{keys_beside, map_beside, shown_known}
 use Rattle.ephemeron_table.proofs.TablesRead.{count_within}
 use Rattle.ephemeron_table.proofs.DeletedPairs.{deletes_nothing, deletes_pair}
-use Rattle.ephemeron_table.proofs.DeletedEntries.{deletes_entry, IsDeleting, length-without_entry}
+use Rattle.ephemeron_table.proofs.DeletedEntries.{deletes_entry, IsDeleting}
 use Rattle.ephemeron_table.proofs.deleting.delete.Goals as goal
 
 pub table_of-table-requires-clause-there : goal.table_of-table-requires-clause-there
@@ -42,13 +42,9 @@ remove_pair-requires-clause-beside c =
 pub remove_pair-requires-clause-some : goal.remove_pair-requires-clause-some
 remove_pair-requires-clause-some c =
     let shown = c.requires.shown in
-    let weak = weak_shown shown.shows shown.is in
-    let told = key_told c.table_of-table.result c.in-Key.place weak shown.is_key c.table_of-table.ensures
-    (comes_within c.in-Key.ensures.0) (c.in-Key.ensures.1 ∙ c.reference.ensures) in
-    let counted = shown.shows.counts shown.weak.number c.args.map shown.weak.entries shown.is.object shown.is.reached
-    shown.is.place in
-    let less = length-without_entry shown.weak.entries shown.number told.value told.is_entry in
-    omega (arith, counted, less)
+    entry_counted (entry_pair c.table_of-table.result c.in-Key.place shown.shows shown.is shown.is_key
+    c.addresses_fit.ensures.within c.table_of-table.ensures (comes_within c.in-Key.ensures.0)
+    (c.in-Key.ensures.1 ∙ c.reference.ensures))
 
 pub returns-in-Key : goal.returns-in-Key
 returns-in-Key c =

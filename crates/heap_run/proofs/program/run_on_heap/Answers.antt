@@ -3,12 +3,14 @@ use Rattle.std.proofs.lemmas.Bool.{cases_eq}
 use Rattle.heap_model.specs.Heaps.{Heap}
 use Rattle.heap_model.specs.Images.{image_heap}
 use Rattle.write_barrier.specs.MutatorState.{heap_of}
+use Rattle.live_cells.proofs.DeadWords.{no_run_fits_none}
 use Rattle.collector.proofs.ImagesShow.{images_show, images_are_blank}
 use Rattle.collector.proofs.ImageStores.{images_keep_stores, images_have_rooms}
 use Rattle.collector.proofs.ImagesTight.{images_are_tight}
 use Rattle.collector.proofs.ImagesFree.{images_keep_free}
 use Rattle.collector.proofs.ImagesStuck.{images_stay_stuck}
-use Rattle.collector.proofs.ImagesRooted.{images_keep_rooted, images_keep_runs}
+use Rattle.collector.proofs.ImagesExact.{images_are_exact, images_keep_dead}
+use Rattle.heap_run.specs.Texts.{sink_fault_status}
 use Rattle.heap_run.proofs.Concluding.{IsKeepable, Runs-finished}
 use Rattle.heap_run.proofs.Imaged.{Laws, finishes_imaged}
 use Rattle.heap_run.proofs.program.run_on_heap.Goals as goal
@@ -30,8 +32,9 @@ returns g c = λ bytes is.
       tight = images_are_tight;
       free = images_keep_free;
       stuck = images_stay_stuck;
-      rooted = images_keep_rooted;
-      runs = images_keep_runs;
+      exact = images_are_exact;
+      dead = images_keep_dead;
+      nowhere = no_run_fits_none;
     } in
     let finishes = finishes_imaged finished _ _ _ _ laws imaged ran.finishes in
     let keepable : IsKeepable space.sizes script image = record {
@@ -45,4 +48,4 @@ returns g c = λ bytes is.
     (λ cut. (concluded.cut cut).0)
     (λ cut. rw (concluded.cut cut).1 finishes)
     (λ other. record { written = concluded.written other; failed = concluded.failed other })
-    (cases_eq c.conclude-status.result 5))
+    (cases_eq c.conclude-status.result sink_fault_status))

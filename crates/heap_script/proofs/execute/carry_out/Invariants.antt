@@ -4,10 +4,10 @@ use Rattle.heap_script.proofs.execute.carry_out.Given as goal
 
 abbrev pub invariant-tries : goal.invariant-tries
 invariant-tries l = record {
-  ready : IsReady l.script.fields l.initial.heap l.heap l.initial.objects l.command l.again;
+  ready : IsReady l.script.fields l.initial.heap l.heap l.initial.objects l.command l.tried;
   objects : l.objects ≡ l.initial.objects;
   out : l.out ≡ l.initial.out;
 }
 
 abbrev pub decreases-tries : goal.decreases-tries
-decreases-tries l = tries_left l.again
+decreases-tries l = tries_left l.tried

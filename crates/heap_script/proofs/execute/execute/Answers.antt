@@ -1,6 +1,7 @@
-use Rattle.std.proofs.Common.{[], is_ok, true}
+use Rattle.std.proofs.Common.{[], is_ok, true, refl}
 use Rattle.heap_script.proofs.Counts.{written_nothing}
-use Rattle.heap_script.proofs.Trying.{shows_lent, made_lent, some_lent, tried, tried_scavenge}
+use Rattle.heap_script.proofs.Trying.{shows_lent, made_lent, some_lent, tried, tried_put, tried_scavenge}
+use Rattle.heap_script.proofs.Trying.{tried_gc, tried_census, census_line}
 use Rattle.heap_script.proofs.execute.execute.Goals as goal
 
 pub new_plain-requires-clause-shown : goal.new_plain-requires-clause-shown
@@ -71,7 +72,7 @@ returns-in-New-clause-carried c = λ graph shown made.
     let shows = shows_lent c.main_mut.ensures.main shown in
     let carries = c.new_plain.ensures.carried graph c.args.script.now.fields shows made in (
       [],
-      rw c.in-New.is (tried c.main_mut.ensures.main (λ e. cc) (rw c.counted.ensures.same carries)),
+      rw c.in-New.is (tried c.main_mut.ensures.main refl refl shown (rw c.counted.ensures.same carries)),
       written_nothing (is_ok c.counted.result) c.args.out.now,
     )
 
@@ -80,7 +81,8 @@ returns-in-List-clause-carried c = λ graph shown made.
     let shows = shows_lent c.main_mut-in-List.ensures.main shown in
     let carries = c.new_list.ensures.carried graph c.args.script.now.fields shows made in (
       [],
-      rw c.in-List.is (tried c.main_mut-in-List.ensures.main (λ e. cc) (rw c.counted-in-List.ensures.same carries)),
+      rw c.in-List.is
+          (tried c.main_mut-in-List.ensures.main refl refl shown (rw c.counted-in-List.ensures.same carries)),
       written_nothing (is_ok c.counted-in-List.result) c.args.out.now,
     )
 
@@ -89,7 +91,8 @@ returns-in-Weak-clause-carried c = λ graph shown made.
     let shows = shows_lent c.main_mut-in-Weak.ensures.main shown in
     let carries = c.new_weak.ensures.carried graph c.args.script.now.fields shows made in (
       [],
-      rw c.in-Weak.is (tried c.main_mut-in-Weak.ensures.main (λ e. cc) (rw c.counted-in-Weak.ensures.same carries)),
+      rw c.in-Weak.is
+          (tried c.main_mut-in-Weak.ensures.main refl refl shown (rw c.counted-in-Weak.ensures.same carries)),
       written_nothing (is_ok c.counted-in-Weak.result) c.args.out.now,
     )
 
@@ -99,7 +102,7 @@ returns-in-LetValue-clause-carried c = λ graph shown made.
     c.let_value.ensures.carried graph c.args.script.now.fields
     (shows_lent c.main_mut-in-LetValue.ensures.main shown) in (
       [],
-      rw c.in-LetValue.is (tried c.main_mut-in-LetValue.ensures.main (λ e. cc) carries),
+      rw c.in-LetValue.is (tried c.main_mut-in-LetValue.ensures.main refl refl shown carries),
       written_nothing (is_ok c.let_value.result) c.args.out.now,
     )
 
@@ -108,7 +111,7 @@ returns-in-DropVar-clause-carried c = λ graph shown made.
     let carries =
     c.drop_var.ensures.carried graph c.args.script.now.fields (shows_lent c.main_mut-in-DropVar.ensures.main shown) in (
       [],
-      rw c.in-DropVar.is (tried c.main_mut-in-DropVar.ensures.main (λ e. cc) carries),
+      rw c.in-DropVar.is (tried c.main_mut-in-DropVar.ensures.main refl refl shown carries),
       written_nothing (is_ok c.drop_var.result) c.args.out.now,
     )
 
@@ -117,7 +120,7 @@ returns-in-Add-clause-carried c = λ graph shown made.
     let carries = c.add.ensures.carried graph c.args.script.now.fields
     (shows_lent c.main_mut-in-Add.ensures.main shown) in (
       [],
-      rw c.in-Add.is (tried c.main_mut-in-Add.ensures.main (λ e. cc) carries),
+      rw c.in-Add.is (tried c.main_mut-in-Add.ensures.main refl refl shown carries),
       written_nothing (is_ok c.add.result) c.args.out.now,
     )
 
@@ -126,7 +129,7 @@ returns-in-Set-clause-carried c = λ graph shown made.
     let carries = c.set.ensures.carried graph c.args.script.now.fields
     (shows_lent c.main_mut-in-Set.ensures.main shown) in (
       [],
-      rw c.in-Set.is (tried c.main_mut-in-Set.ensures.main (λ e. cc) carries),
+      rw c.in-Set.is (tried c.main_mut-in-Set.ensures.main refl refl shown carries),
       written_nothing (is_ok c.set.result) c.args.out.now,
     )
 
@@ -135,7 +138,7 @@ returns-in-Get-clause-carried c = λ graph shown made.
     let carries = c.get.ensures.carried graph c.args.script.now.fields
     (shows_lent c.main_mut-in-Get.ensures.main shown) in (
       [],
-      rw c.in-Get.is (tried c.main_mut-in-Get.ensures.main (λ e. cc) carries),
+      rw c.in-Get.is (tried c.main_mut-in-Get.ensures.main refl refl shown carries),
       written_nothing (is_ok c.get.result) c.args.out.now,
     )
 
@@ -144,7 +147,7 @@ returns-in-Del-clause-carried c = λ graph shown made.
     let carries = c.del.ensures.carried graph c.args.script.now.fields
     (shows_lent c.main_mut-in-Del.ensures.main shown) in (
       [],
-      rw c.in-Del.is (tried c.main_mut-in-Del.ensures.main (λ e. cc) carries),
+      rw c.in-Del.is (tried c.main_mut-in-Del.ensures.main refl refl shown carries),
       written_nothing (is_ok c.del.result) c.args.out.now,
     )
 
@@ -153,7 +156,7 @@ returns-in-Push-clause-carried c = λ graph shown made.
     let carries = c.push.ensures.carried graph c.args.script.now.fields
     (shows_lent c.main_mut-in-Push.ensures.main shown) in (
       [],
-      rw c.in-Push.is (tried c.main_mut-in-Push.ensures.main (λ e. cc) carries),
+      rw c.in-Push.is (tried c.main_mut-in-Push.ensures.main refl refl shown carries),
       written_nothing (is_ok c.push.result) c.args.out.now,
     )
 
@@ -162,7 +165,7 @@ returns-in-Put-clause-carried c = λ graph shown made.
     let carries = c.put.ensures.carried graph c.args.script.now.fields
     (shows_lent c.main_mut-in-Put.ensures.main shown) in (
       [],
-      rw c.in-Put.is (tried c.main_mut-in-Put.ensures.main (λ e. cc) carries),
+      rw c.in-Put.is (tried c.main_mut-in-Put.ensures.main refl refl shown carries),
       written_nothing (is_ok c.put.result) c.args.out.now,
     )
 
@@ -171,7 +174,7 @@ returns-in-At-clause-carried c = λ graph shown made.
     let carries = c.at.ensures.carried graph c.args.script.now.fields
     (shows_lent c.main_mut-in-At.ensures.main shown) in (
       [],
-      rw c.in-At.is (tried c.main_mut-in-At.ensures.main (λ e. cc) carries),
+      rw c.in-At.is (tried c.main_mut-in-At.ensures.main refl refl shown carries),
       written_nothing (is_ok c.at.result) c.args.out.now,
     )
 
@@ -180,7 +183,7 @@ returns-in-Shift-clause-carried c = λ graph shown made.
     let carries = c.shift.ensures.carried graph c.args.script.now.fields
     (shows_lent c.main_mut-in-Shift.ensures.main shown) in (
       [],
-      rw c.in-Shift.is (tried c.main_mut-in-Shift.ensures.main (λ e. cc) carries),
+      rw c.in-Shift.is (tried c.main_mut-in-Shift.ensures.main refl refl shown carries),
       written_nothing (is_ok c.shift.result) c.args.out.now,
     )
 
@@ -189,16 +192,17 @@ returns-in-Trunc-clause-carried c = λ graph shown made.
     let carries = c.trunc.ensures.carried graph c.args.script.now.fields
     (shows_lent c.main_mut-in-Trunc.ensures.main shown) in (
       [],
-      rw c.in-Trunc.is (tried c.main_mut-in-Trunc.ensures.main (λ e. cc) carries),
+      rw c.in-Trunc.is (tried c.main_mut-in-Trunc.ensures.main refl refl shown carries),
       written_nothing (is_ok c.trunc.result) c.args.out.now,
     )
 
 pub returns-in-WPut-clause-carried : goal.returns-in-WPut-clause-carried
 returns-in-WPut-clause-carried c = λ graph shown made.
-    let carries = c.wput.ensures.carried graph c.args.script.now.fields
-    (shows_lent c.main_mut-in-WPut.ensures.main shown) in (
+    let shows = shows_lent c.main_mut-in-WPut.ensures.main shown in
+    let carries = c.wput.ensures.carried graph c.args.script.now.fields shows in (
       [],
-      rw c.in-WPut.is (tried c.main_mut-in-WPut.ensures.main (λ e. cc) carries),
+      rw c.in-WPut.is
+          (tried_put c.main_mut-in-WPut.ensures.main refl carries (c.wput.ensures.asks graph shows)),
       written_nothing (is_ok c.wput.result) c.args.out.now,
     )
 
@@ -207,7 +211,7 @@ returns-in-WGet-clause-carried c = λ graph shown made.
     let carries = c.wget.ensures.carried graph c.args.script.now.fields
     (shows_lent c.main_mut-in-WGet.ensures.main shown) in (
       [],
-      rw c.in-WGet.is (tried c.main_mut-in-WGet.ensures.main (λ e. cc) carries),
+      rw c.in-WGet.is (tried c.main_mut-in-WGet.ensures.main refl refl shown carries),
       written_nothing (is_ok c.wget.result) c.args.out.now,
     )
 
@@ -216,7 +220,7 @@ returns-in-WDel-clause-carried c = λ graph shown made.
     let carries = c.wdel.ensures.carried graph c.args.script.now.fields
     (shows_lent c.main_mut-in-WDel.ensures.main shown) in (
       [],
-      rw c.in-WDel.is (tried c.main_mut-in-WDel.ensures.main (λ e. cc) carries),
+      rw c.in-WDel.is (tried c.main_mut-in-WDel.ensures.main refl refl shown carries),
       written_nothing (is_ok c.wdel.result) c.args.out.now,
     )
 
@@ -224,24 +228,24 @@ pub returns-in-Print-clause-carried : goal.returns-in-Print-clause-carried
 returns-in-Print-clause-carried c = λ graph shown made.
     let (text, carries, out-is) =
     c.print.ensures.carried graph c.args.script.now.fields (shows_lent c.main_mut-in-Print.ensures.main shown) in
-    (text, rw c.in-Print.is (tried c.main_mut-in-Print.ensures.main (λ e. cc) carries), out-is)
+    (text, rw c.in-Print.is (tried c.main_mut-in-Print.ensures.main refl refl shown carries), out-is)
 
 pub returns-in-Same-clause-carried : goal.returns-in-Same-clause-carried
 returns-in-Same-clause-carried c = λ graph shown made.
     let (text, carries, out-is) =
     c.same.ensures.carried graph c.args.script.now.fields (shows_lent c.main_mut-in-Same.ensures.main shown) in
-    (text, rw c.in-Same.is (tried c.main_mut-in-Same.ensures.main (λ e. cc) carries), out-is)
+    (text, rw c.in-Same.is (tried c.main_mut-in-Same.ensures.main refl refl shown carries), out-is)
 
 pub returns-in-Alike-clause-carried : goal.returns-in-Alike-clause-carried
 returns-in-Alike-clause-carried c = λ graph shown made.
     let (text, carries, out-is) =
     c.alike.ensures.carried graph c.args.script.now.fields (shows_lent c.main_mut-in-Alike.ensures.main shown) in
-    (text, rw c.in-Alike.is (tried c.main_mut-in-Alike.ensures.main (λ e. cc) carries), out-is)
+    (text, rw c.in-Alike.is (tried c.main_mut-in-Alike.ensures.main refl refl shown carries), out-is)
 
 pub returns-in-Shape-clause-carried : goal.returns-in-Shape-clause-carried
 returns-in-Shape-clause-carried c = λ graph shown made.
     let (text, carries, out-is) = c.shape.ensures.carried graph (shows_lent c.main_mut-in-Shape.ensures.main shown) in
-    (text, rw c.in-Shape.is (tried c.main_mut-in-Shape.ensures.main (λ e. cc) carries), out-is)
+    (text, rw c.in-Shape.is (tried c.main_mut-in-Shape.ensures.main refl refl shown carries), out-is)
 
 pub returns-in-Scavenge-clause-carried : goal.returns-in-Scavenge-clause-carried
 returns-in-Scavenge-clause-carried c = λ graph shown made. (
@@ -249,4 +253,18 @@ returns-in-Scavenge-clause-carried c = λ graph shown made. (
   rw c.in-Scavenge.is
       (tried_scavenge c.args.script.now.fields c.scavenge.ensures.scavenged c.scavenge.ensures.rooms shown.main),
   written_nothing true c.args.out.now,
+)
+
+pub returns-in-Gc-clause-carried : goal.returns-in-Gc-clause-carried
+returns-in-Gc-clause-carried c = λ graph shown made. (
+  [],
+  rw c.in-Gc.is (tried_gc c.args.script.now.fields (c.collect_all.ensures.collected graph shown)),
+  written_nothing true c.args.out.now,
+)
+
+pub returns-in-Census-clause-carried : goal.returns-in-Census-clause-carried
+returns-in-Census-clause-carried c = λ graph shown made. (
+  census_line graph,
+  rw c.in-Census.is (tried_census c.args.script.now.fields (c.tell_census.ensures.collected graph shown)),
+  c.tell_census.ensures.told graph shown,
 )

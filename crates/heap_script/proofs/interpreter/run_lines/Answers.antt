@@ -10,8 +10,9 @@ use Rattle.heap_script.proofs.Ways.{goes_on, past_end}
 use Rattle.heap_script.specs.Runs.{OutputHolds, IsDue}
 use Rattle.heap_script.proofs.Handing.{CutsOff-handed}
 use Rattle.heap_script.proofs.Running.{next-drop, Running-start, Running-handed}
-use Rattle.heap_script.proofs.LineCarried.{same_space, Running-line, TellsAt-line}
-use Rattle.heap_script.proofs.Ending.{EndsRun-end, EndsRun-limit, Pauses-line, stopped-line}
+use Rattle.heap_script.proofs.LineCarried.{Running-line, TellsAt-line}
+use Rattle.heap_script.proofs.Ending.{EndsRun-end, EndsRun-limit, Stopped-line, Pauses-stopped}
+use Rattle.heap_script.proofs.Retrying.{same_regions}
 use Rattle.heap_script.proofs.interpreter.run_lines.Goals as goal
 
 pub loop-at-init : goal.loop-at-init
@@ -131,14 +132,14 @@ returns-in-Err g c =
     let graph = r.reached.so_far.graph in
     let after = c.execute_line.new.heap in
     let (text, carries, out-is) = c.in-Err.ensures.carried graph r.shown r.made in
-    let (shows, space) = stopped-line script.fields heap after graph _ text c.in-Err.stop r.shown c.in-Err.ensures.spare
-    carries in
+    let stopped = Stopped-line script heap after _ c.flush_if_full.new.out _ _ c.loop-at.at _ c.loop-at.turns _ n
+    line.number _ text c.in-Err.stop r below goes c.in-Err.ensures.spare carries in
+    let shows = stopped.running.shown in
     record {
       pauses = rw (out-is, c.stopped.ensures)
-          (Pauses-line script heap after _ c.flush_if_full.new.out _ _ c.loop-at.at _ c.loop-at.turns _ n line.number _
-          text c.in-Err.stop _ _ r below goes carries (c.in-Ok.ensures.steady ∙ c.loop-at.invariant.steady));
-      shows = (graph, shows);
-      space = space ∙ c.loop-at.invariant.space;
+          (Pauses-stopped c.in-Err.stop stopped (c.in-Ok.ensures.steady ∙ c.loop-at.invariant.steady));
+      shows = (stopped.running.reached.so_far.graph, shows);
+      space = same_regions heap after r.shown shows c.in-Err.ensures.spare ∙ c.loop-at.invariant.space;
     }
 
 pub loop-at-preserved : goal.loop-at-preserved
@@ -159,12 +160,12 @@ loop-at-preserved g c =
     let holds : OutputHolds script (n + 1) (c.flush_if_full.new.out ++ text) =
     subst (λ (waiting : List ℕ). OutputHolds script (n + 1) (waiting ++ text)) (sym c.in-Ok.ensures.waits)
     (OutputHolds.one_more n c.loop-at.out text c.loop-at.invariant.holds tells) in
+    let running = Running-line script heap c.execute_line.new.heap c.loop-at.objects c.flush_if_full.new.out _ _
+    c.loop-at.at _ c.loop-at.turns _ n line.number _ text r below goes ran.spare carries in
     record {
-      running = rw (ran.place, ran.turned, ran.counted, out-is)
-          (Running-line script heap c.execute_line.new.heap c.loop-at.objects c.flush_if_full.new.out _ _
-          c.loop-at.at _ c.loop-at.turns _ n line.number _ text r below goes ran.spare carries);
+      running = rw (ran.place, ran.turned, ran.counted, out-is) running;
       holds = rw out-is holds;
-      space = same_space heap c.execute_line.new.heap _ _ script.fields text r.shown.main carries
+      space = same_regions heap c.execute_line.new.heap r.shown running.shown ran.spare
           ∙ c.loop-at.invariant.space;
       steady = c.in-Ok.ensures.steady ∙ c.loop-at.invariant.steady;
     }

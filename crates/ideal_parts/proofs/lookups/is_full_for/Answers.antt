@@ -1,30 +1,24 @@
-use Rattle.std.proofs.Common.{◌≡◌, ◌∙◌, refl, sym, ap, ◌&&◌, Bool, true, false, not}
-use Rattle.std.proofs.Common.{[], nat_le, length, Option, Some, None, is_none, is_some}
+use Rattle.std.proofs.Common.{◌∙◌, sym, ap, ◌&&◌, not, nat_le, count_by}
 use Rattle.object_graph.specs.Meaning.{weak_most}
-use Rattle.object_graph.specs.declared.value.Value.{Value}
-use Rattle.object_graph.proofs.WeakMost.{no_entry_for-is}
+use Rattle.object_graph.specs.Reach.{is_marked}
+use Rattle.ideal_parts.proofs.MarkedEntries.{no_entry_for-by}
 use Rattle.ideal_parts.proofs.lookups.is_full_for.Goals as goal
 
--- a test for nothing, by the test for something
-is_none-is : (found : Option Value) (new : Bool) → is_some found ≡ not new → new ≡ is_none found
-is_none-is None true says = refl
-is_none-is None false says = cc
-is_none-is (Some value) true says = cc
-is_none-is (Some value) false says = refl
-
-pub returns-then-is_new : goal.returns-then-is_new
-returns-then-is_new c =
+pub returns-then-not-is_known : goal.returns-then-not-is_known
+returns-then-not-is_known c =
+    let marks = c.args.marks.now in
     let entries = c.args.entries.now in
-    let tested = is_none-is _ c.is_none-is_new.result c.is_none-is_new.ensures in
-    let new = tested ∙ ap (λ found. is_none found) c.value_under.ensures in
-    ap (λ b. b && nat_le weak_most (length entries)) (sym c.if-is_new.true ∙ new)
-    ∙ sym (no_entry_for-is [] entries c.args.key)
+    let many = nat_le weak_most (count_by (λ entry. is_marked marks entry.key) entries) in
+    ap (λ least. nat_le least c.count_keyed.result) c.from.ensures
+    ∙ ap (nat_le weak_most) c.count_keyed.ensures
+    ∙ ap (λ known. not known && many) (sym c.if-not-is_known.true ∙ c.is_known.ensures)
+    ∙ sym (no_entry_for-by marks entries c.args.key)
 
-pub returns-else-is_new : goal.returns-else-is_new
-returns-else-is_new c =
+pub returns-else-not-is_known : goal.returns-else-not-is_known
+returns-else-not-is_known c =
+    let marks = c.args.marks.now in
     let entries = c.args.entries.now in
-    let tested = is_none-is _ c.is_none-is_new.result c.is_none-is_new.ensures in
-    let new = tested ∙ ap (λ found. is_none found) c.value_under.ensures in
-    c.if-is_new.false
-    ∙ ap (λ b. b && nat_le weak_most (length entries)) (sym c.if-is_new.false ∙ new)
-    ∙ sym (no_entry_for-is [] entries c.args.key)
+    let many = nat_le weak_most (count_by (λ entry. is_marked marks entry.key) entries) in
+    ap not c.if-not-is_known.false
+    ∙ ap (λ known. not known && many) (sym c.if-not-is_known.false ∙ c.is_known.ensures)
+    ∙ sym (no_entry_for-by marks entries c.args.key)

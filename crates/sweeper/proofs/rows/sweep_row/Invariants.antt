@@ -1,7 +1,8 @@
 -- The sweep has gone along the row to the cell at hand.
 use Rattle.std.proofs.Common.{ℕ, ◌-◌}
 use Rattle.write_barrier.specs.MutatorState.{Mutator, heap_of}
-use Rattle.sweeper.specs.Sweeping.{InRow, IsLimit, MaySweep}
+use Rattle.cell_reading.specs.Limits.{IsLimit}
+use Rattle.sweeper.specs.Sweeping.{InRow, MaySweep}
 use Rattle.sweeper.proofs.rows.sweep_row.Given as goal
 
 abbrev pub invariant-cells : goal.invariant-cells

@@ -19,7 +19,7 @@ returns c =
       image = c.self.inside.spare;
       reserved = vec_capacity c.self.inside.memory;
       places = vec_capacity c.self.inside.list;
-      marks = c.self.inside.cells.bound;
+      marks = c.self.inside.marking.bound;
     } in
     let spare = ap (λ (places : ℕ). record old { places = places }) done.capacity in
     rw (← c.self.view_is)

@@ -2,8 +2,8 @@
 use Rattle.std.proofs.Common.{rules, ◌∙◌, length, ap, sym}
 use Rattle.std.proofs.lemmas.List.FromFn.{length-map-range_with_len}
 use Rattle.page_space.specs.Extents.{roots_start}
-use Rattle.cell_list.specs.Listing.{Listing}
 use Rattle.free_runs.specs.FreeRuns.{whole_row}
+use Rattle.ephemeron_mark.specs.Marked.{Marked}
 use Rattle.collector.proofs.script_heap.Heap.open_new.Goals as goal
 
 pub returns-clause-opened : goal.returns-clause-opened
@@ -16,7 +16,7 @@ returns-clause-opened c =
         regions = search rules;
         ready = search rules;
         listed = search rules;
-        marks = ap (λ (list : Listing). list.bound) c.in_ok-cells.ensures ∙ c.cells_end.ensures
+        marks = ap (λ (marked : Marked). marked.bound) c.in_ok-marking.ensures ∙ c.cells_end.ensures
             ∙ ap roots_start (sym c.in_ok-main.ensures.regions);
       },
       opened.1,

@@ -1,0 +1,10 @@
+//! Laws of full collections.
+ghost use Rattle.exact_heaps.specs.Laws.{SweptAndScavengedIsCollected};
+
+/// A heap that was marked, cleared and swept, and then scavenged so that all that lives is promoted,
+/// keeps exactly what can be reached, and each live cell of a page stands where it stood; each other
+/// word of a page is in a free run, and objects need no more room than before. Each page had a row of
+/// free runs.
+pub fn laws_of_collections()
+    ensures { SweptAndScavengedIsCollected }
+{}

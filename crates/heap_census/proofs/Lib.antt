@@ -1,0 +1,4 @@
+mod CellsBefore
+mod FewPairs
+mod CountSteps
+mod RowSteps

@@ -1,0 +1,118 @@
+//! Making way for a command that stopped for want of room, or since its weak map is full of pairs. `execute` tries the
+//! command again then.
+ghost use Rattle.std.specs.Prelude.{◌≡◌, ◌≤◌};
+ghost use Rattle.tagged_word.specs.Cells.{cell_words_most};
+ghost use Rattle.object_graph.specs.Graphs.{Graph};
+ghost use Rattle.collector.specs.States.{HeapShows};
+ghost use Rattle.heap_script.specs.MakingWay.{IsServable, MakesWay, FindsRoom, FindsFirst, FindsLast};
+ghost use Rattle.heap_script.specs.MakingWay.{ClearsPairs, CollectsNow};
+
+use collector::Heap;
+use mutator::Stop;
+
+/// What was done for a command since it stopped for the first time.
+#[derive(Clone, Copy)]
+pub(crate) enum Tried {
+    /// Nothing: it was tried once at most.
+    Once,
+    /// The heap was scavenged, and there is room for the words that the command needs.
+    Scavenged,
+    /// The heap was fully collected.
+    Collected,
+    /// Behind a full collection there is room for the words that the command needs.
+    Granted,
+}
+
+/// Makes way for a command that stopped, where that may help: answers what was done for it.
+#[cold]
+#[inline(never)]
+pub(crate) fn make_way(heap: &mut Heap, stop: Stop, tried: Tried) -> Option<Tried>
+    requires servable { IsServable stop }
+    requires shown { (graph : Graph) × HeapShows heap.old graph }
+    ensures way { MakesWay heap.old heap.new tried stop result }
+    ensures shows { (graph : Graph) → HeapShows heap.old graph → HeapShows heap.new graph }
+    ensures spare { heap.new.spare ≡ heap.old.spare }
+{
+    match stop {
+        Stop::Fault(_) => None,
+        Stop::NoRoom { need } => find_room(heap, need, tried),
+        Stop::NoClear { entries: _ } => clear_pairs(heap, tried),
+    }
+}
+
+/// Finds room for so many words: by collections, and behind a full one in a free run of a page.
+fn find_room(heap: &mut Heap, need: u32, tried: Tried) -> Option<Tried>
+    requires some { 1 ≤ need }
+    requires few { need ≤ cell_words_most }
+    requires shown { (graph : Graph) × HeapShows heap.old graph }
+    ensures way { FindsRoom heap.old heap.new need tried result }
+    ensures shows { (graph : Graph) → HeapShows heap.old graph → HeapShows heap.new graph }
+    ensures spare { heap.new.spare ≡ heap.old.spare }
+{
+    match tried {
+        Tried::Once => Some(collect_for(heap, need)),
+        Tried::Scavenged => None,
+        Tried::Collected => grant(heap, need),
+        Tried::Granted => None,
+    }
+}
+
+/// Scavenges the heap for so many words, and collects it fully where they have no room then.
+fn collect_for(heap: &mut Heap, need: u32) -> Tried
+    requires some { 1 ≤ need }
+    requires few { need ≤ cell_words_most }
+    requires shown { (graph : Graph) × HeapShows heap.old graph }
+    ensures way { FindsFirst heap.old heap.new need result }
+    ensures shows { (graph : Graph) → HeapShows heap.old graph → HeapShows heap.new graph }
+    ensures spare { heap.new.spare ≡ heap.old.spare }
+{
+    if heap.make_room(need) {
+        return Tried::Scavenged;
+    }
+    // The words are not granted here: clearing may have lessened what the command needs, and then
+    // granted words would be left over.
+    heap.collect_all();
+    Tried::Collected
+}
+
+/// Sees to it that there is room for so many words on a heap that was fully collected, where there may be.
+fn grant(heap: &mut Heap, need: u32) -> Option<Tried>
+    requires some { 1 ≤ need }
+    requires few { need ≤ cell_words_most }
+    requires shown { (graph : Graph) × HeapShows heap.old graph }
+    ensures way { FindsLast heap.old heap.new need result }
+    ensures shows { (graph : Graph) → HeapShows heap.old graph → HeapShows heap.new graph }
+    ensures spare { heap.new.spare ≡ heap.old.spare }
+{
+    if heap.serve(need) {
+        Some(Tried::Granted)
+    } else {
+        None
+    }
+}
+
+/// Clears weak maps by a full collection, unless one came.
+fn clear_pairs(heap: &mut Heap, tried: Tried) -> Option<Tried>
+    requires shown { (graph : Graph) × HeapShows heap.old graph }
+    ensures way { ClearsPairs heap.old heap.new tried result }
+    ensures shows { (graph : Graph) → HeapShows heap.old graph → HeapShows heap.new graph }
+    ensures spare { heap.new.spare ≡ heap.old.spare }
+{
+    match tried {
+        Tried::Once => Some(collect_all(heap)),
+        Tried::Scavenged => Some(collect_all(heap)),
+        Tried::Collected => None,
+        Tried::Granted => None,
+    }
+}
+
+/// Collects the heap fully.
+fn collect_all(heap: &mut Heap) -> Tried
+    requires shown { (graph : Graph) × HeapShows heap.old graph }
+    ensures way { CollectsNow heap.old heap.new result }
+    ensures shows { (graph : Graph) → HeapShows heap.old graph → HeapShows heap.new graph }
+    ensures spare { heap.new.spare ≡ heap.old.spare }
+{
+    heap.collect_all();
+    Tried::Collected
+}

@@ -1,5 +1,0 @@
-pub mod RootedStands
-mod GrownLists
-mod CellSlots
-mod VisitedCells
-mod EndMarks
