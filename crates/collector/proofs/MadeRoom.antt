@@ -21,11 +21,6 @@ pub some_shown : {old new : HeapState} → ((graph : Graph) → HeapShows old gr
     → (graph : Graph) × HeapShows old graph → (graph : Graph) × HeapShows new graph
 some_shown shows (graph, shown) = (graph, shows graph shown)
 
--- the regions stay where there is room for words, or some are granted
-pub served_space : {old new : Mutator} {n : ℕ} → Serves old new n → new.seat.space ≡ old.seat.space
-served_space (Serves.eden room same) = ap (λ (main : Mutator). main.seat.space) same
-served_space (Serves.granted lacks grants keeps) = grants.beside.space
-
 -- and so many pages have rows of free runs
 pub served_rows : {old new : Mutator} {n : ℕ} → Serves old new n → length new.free ≡ length old.free
 served_rows (Serves.eden room same) = ap (λ (main : Mutator). length main.free) same

@@ -20,7 +20,8 @@ use Rattle.object_graph.specs.Paths.{path_of, with_path}
 use Rattle.object_graph.specs.Graphs.{Graph, PlainObject, ListObject, WeakObject, start, bind, make, plain_at, list_at}
 use Rattle.object_graph.specs.Graphs.{weak_at}
 use Rattle.object_graph.specs.Meaning.{Limits, relist, reweave, reshape}
-use Rattle.object_graph.specs.Invariants.{cap_most, fields_most, IsValue, AreFields, AreElements, AreEntries, IsObject}
+use Rattle.heap_command.specs.Commands.{cap_most}
+use Rattle.object_graph.specs.Invariants.{fields_most, IsValue, AreFields, AreElements, AreEntries, IsObject}
 use Rattle.object_graph.specs.Invariants.{IsPath, ArePaths, HasItsPath, IsGraph}
 use Rattle.object_graph.proofs.Leads.{Leads, each}
 use Rattle.graph_laws.proofs.FoundObjects.{plain_at-is, list_at-is, weak_at-is}

@@ -12,7 +12,8 @@ use Rattle.object_graph.specs.Objects.{field_value, with_field, without_field, r
 use Rattle.object_graph.specs.Graphs.{Graph, PlainObject, plain_at}
 use Rattle.object_graph.specs.Meaning.{Limits, no_room_for}
 use Rattle.object_graph.specs.Paths.{path_of}
-use Rattle.object_graph.specs.Invariants.{cap_most, fields_most, IsPath, HasItsPath, IsGraph}
+use Rattle.heap_command.specs.Commands.{cap_most}
+use Rattle.object_graph.specs.Invariants.{fields_most, IsPath, HasItsPath, IsGraph}
 use Rattle.graph_laws.specs.GraphLaws.{HasFieldLimit, FieldsAreFew}
 use Rattle.graph_laws.proofs.FoundObjects.{plain_at-is}
 use Rattle.graph_laws.proofs.Held.{held_at}

@@ -11,7 +11,8 @@ use Rattle.object_graph.specs.declared.object.Object.TheVariants.{Plain}
 use Rattle.object_graph.specs.Graphs.{Graph}
 use Rattle.object_graph.specs.Meaning.{Limits, done, does}
 use Rattle.object_graph.specs.Run.{Told, told}
-use Rattle.object_graph.specs.Invariants.{cap_most, fields_most, IsGraph}
+use Rattle.heap_command.specs.Commands.{cap_most}
+use Rattle.object_graph.specs.Invariants.{fields_most, IsGraph}
 
 -- an operand that is an integer has 64 bits
 abbrev pub FitsOperand : Operand → Type 0

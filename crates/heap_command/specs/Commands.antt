@@ -19,9 +19,13 @@ NamesBelow variables (Int v) = Unit {0}
 NamesBelow variables Undefined = Unit {0}
 NamesBelow variables (Var x) = x < variables
 
--- the variables and the fields that the command names are below these counts, and a cap is at most 8
+-- the most slots of its own that a command gives an object, which is the most that an object may have
+abbrev pub cap_most : ℕ
+cap_most = 8
+
+-- the variables and the fields that the command names are below these counts, and a cap is within its limit
 abbrev pub IsWithin : ℕ → ℕ → Command → Type 0
-IsWithin variables fields (New x cap) = (x < variables) × (cap ≤ 8)
+IsWithin variables fields (New x cap) = (x < variables) × (cap ≤ cap_most)
 IsWithin variables fields (List x) = x < variables
 IsWithin variables fields (Weak x) = x < variables
 IsWithin variables fields (LetValue x v) = (x < variables) × NamesBelow variables v

@@ -2,6 +2,9 @@
 ghost use Rattle.std.specs.Prelude.{◌≡◌};
 ghost use Rattle.heap_command.specs.Commands.{fault_text};
 
+/// The most slots of its own that a command gives an object, which is the most that an object may have.
+pub const CAP_MOST: u32 = 8;
+
 /// What a command is given: an integer, `undefined`, or what a variable is bound to.
 #[derive(Clone, Copy, Debug, PartialEq, Eq)]
 pub enum Operand {

@@ -6,4 +6,4 @@
 
 mod command;
 
-pub use command::{Command, FaultWord, Operand};
+pub use command::{CAP_MOST, Command, FaultWord, Operand};

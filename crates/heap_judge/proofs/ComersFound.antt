@@ -26,10 +26,6 @@ pub one_comes : (heap : Heap) (to : ℕ → Option ℕ) (now from : ℕ) (found 
 one_comes heap to now from None there none none_too = absurd (false≢true there)
 one_comes heap to now from (Some cell) there comer none_too = none_too cell comer.stands comer.reached comer.comes
 
--- a cell that is free and has no number is from nothing
-pub from_nothing : {old : Heap} {to : ℕ → Option ℕ} {cell : Cell} → IsUnused cell → IsFrom old to cell
-from_nothing unused = IsFrom.free unused.free unused.no_number
-
 -- a cell that is not so, and to whose address none comes, is from none
 from_none : {old : Heap} {to : ℕ → Option ℕ} {cell : Cell} → (IsUnused cell → ⊥) → HasNoComerFrom old to cell.at 0
     → IsFrom old to cell → ⊥

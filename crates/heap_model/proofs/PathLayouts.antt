@@ -10,7 +10,8 @@ use Rattle.tagged_word.specs.Shapes.{first_path_shape, shapes_most}
 use Rattle.tagged_word.proofs.Layouts.{same_layout}
 use Rattle.heap_model.specs.Types.{Path, PathField, Rep, Cell}
 use Rattle.object_graph.specs.declared.value.Rep.TheVariants as rep
-use Rattle.object_graph.specs.Invariants.{IsPath, cap_most}
+use Rattle.heap_command.specs.Commands.{cap_most}
+use Rattle.object_graph.specs.Invariants.{IsPath}
 use Rattle.shape_tree.specs.Shapes.{AreShapes, IsPathShape, shape_path}
 use Rattle.shape_tree.specs.ShapeLayouts.{in_object_fields, raw_bit, raw_mask, layout_of}
 use Rattle.shape_tree.proofs.PathLayouts.{layout_word-path, IsLayout-path}

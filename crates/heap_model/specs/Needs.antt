@@ -1,7 +1,7 @@
 -- What is read of a heap by address, and how large the stores and tables are that commands make.
 use Rattle.std.specs.Prelude.{ℕ, suc, ◌+◌, ◌*◌, max, min, Bool, true, false, ◌==◌, Option, Some, None, option_map}
 use Rattle.std.specs.Prelude.{slice_get, unwrap_or, nat_lt, if◌then◌else◌}
-use Rattle.tagged_word.specs.Shapes.{list_shape, weak_shape, box_shape}
+use Rattle.tagged_word.specs.Shapes.{box_shape}
 use Rattle.tagged_word.specs.Cells.{store_head, store_slot, length_offset}
 use Rattle.tagged_word.specs.Readings.{reference_in, header_at}
 use Rattle.object_graph.specs.Meaning.{list_most}
@@ -58,14 +58,6 @@ store_need capacity used = if nat_lt used capacity then 0 else store_head + grow
 -- how many elements the list at an address has, or how many pairs the weak map has filled
 abbrev pub count_at : Heap → ℕ → ℕ
 count_at heap at = word_at heap (at + count_offset)
-
--- whether a list stands at an address
-abbrev pub is_list_at : Heap → ℕ → Bool
-is_list_at heap at = shape_at heap at == list_shape
-
--- whether a weak map stands at an address
-abbrev pub is_weak_at : Heap → ℕ → Bool
-is_weak_at heap at = shape_at heap at == weak_shape
 
 -- the capacity of the store that takes the place of a list's that is full of so many elements: twice as many slots, but
 -- no more than a list may have elements

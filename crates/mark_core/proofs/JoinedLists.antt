@@ -3,15 +3,8 @@ use Rattle.std.proofs.Common.{ℕ, ◌<◌, ◌+◌, ◌≡◌, List, length, ge
 use Rattle.std.proofs.Common.{subst, arith}
 use Rattle.std.proofs.lemmas.List.{length-map, get_or-map}
 use Rattle.mark_laws.specs.Types.{SnapSlot}
-use Rattle.seat_steps.specs.Lists.{joined}
 use Rattle.seat_steps.specs.Boards.{joined_by}
 use Rattle.mark_world.specs.Pages.{target, targets_joined}
-use Rattle.mark_world.specs.Steps.{all_joined}
-
--- the next address joins before those behind it
-pub next_joins : (list items : List ℕ) (i : ℕ) → i < length items
-    → all_joined (joined list (get_or items i 0)) (drop (i + 1) items) ≡ all_joined list (drop i items)
-next_joins list items i l = rw (add-one i) (ap (all_joined list) (sym (drop-cons items i 0 l)))
 
 -- and so does the target of the next word
 pub next_target_joins : (old : ℕ) (list items : List ℕ) (i : ℕ) → i < length items

@@ -11,7 +11,7 @@ use Rattle.tagged_word.specs.Headers.{IsHeader}
 use Rattle.tagged_word.specs.Layouts.{layout_bits}
 use Rattle.tagged_word.specs.Cells.{cell_size}
 use Rattle.shape_tree.specs.Shapes.{IsShapeOf}
-use Rattle.object_graph.specs.Invariants.{cap_most}
+use Rattle.heap_command.specs.Commands.{cap_most}
 use Rattle.shape_tree.specs.ShapeLayouts.{raw_mask, layout_of, layout_word}
 use Rattle.shape_tree.proofs.PathLayouts.{layout_word-path}
 use Rattle.heap_model.specs.Heaps.{Heap, words_of_cell}

@@ -5,7 +5,7 @@ use Rattle.tagged_word.specs.Headers.{IsHeader}
 use Rattle.object_graph.specs.declared.object.Object.TheVariants.{Plain, Weak, List as ListOf}
 use Rattle.object_graph.specs.Graphs.{Graph, make}
 use Rattle.object_graph.specs.Reach.{reach}
-use Rattle.object_graph.specs.Invariants.{cap_most}
+use Rattle.heap_command.specs.Commands.{cap_most}
 use Rattle.graph_laws.specs.GraphLaws.{FitsCommand}
 use Rattle.shape_tree.specs.Shapes.{IsShapeOf}
 use Rattle.heap_model.specs.Heaps.{Heap}

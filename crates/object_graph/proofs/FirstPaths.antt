@@ -8,7 +8,8 @@ use Rattle.std.proofs.lemmas.List.FromFn.{length-map-range_with_len, get_or-map-
 use Rattle.std.proofs.lemmas.Map.Keys.{IsDistinct-from_apart}
 use Rattle.object_graph.specs.declared.path.Path.{Path}
 use Rattle.object_graph.specs.Paths.{empty_paths, path_of, same_path, prefixes}
-use Rattle.object_graph.specs.Invariants.{cap_most, IsPath, BeginEmpty, ArePaths}
+use Rattle.heap_command.specs.Commands.{cap_most}
+use Rattle.object_graph.specs.Invariants.{IsPath, BeginEmpty, ArePaths}
 use Rattle.object_graph.proofs.DistinctLists.{nil-distinct}
 
 -- the path of no field and this cap

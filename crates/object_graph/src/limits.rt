@@ -1,11 +1,8 @@
 //! The most of what a script may have: limits that hold of every graph.
 ghost use Rattle.std.specs.Prelude.{◌≡◌};
 ghost use Rattle.object_graph.specs.Meaning.{list_most, weak_most};
-ghost use Rattle.object_graph.specs.Invariants.{cap_most, fields_most};
+ghost use Rattle.object_graph.specs.Invariants.{fields_most};
 ghost use Rattle.object_graph.specs.Limits.{paths_most};
-
-/// The most slots of its own that an object may have.
-pub const CAP_MOST: u32 = 8;
 
 /// The most fields of an object.
 pub const FIELDS_MOST: u32 = 64;
@@ -21,7 +18,6 @@ pub const ENTRIES_MOST: u32 = 256;
 
 /// The numbers are those of the definitions.
 pub fn limits_are_those_of_graphs()
-    ensures cap { CAP_MOST ≡ cap_most }
     ensures fields { FIELDS_MOST ≡ fields_most }
     ensures paths { PATHS_MOST ≡ paths_most }
     ensures elements { ELEMENTS_MOST ≡ list_most }

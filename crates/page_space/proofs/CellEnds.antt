@@ -3,7 +3,7 @@ use Rattle.std.proofs.Common.{◌≡◌, ℕ, ◌+◌, ◌<◌, ◌≤◌, IsTru
 use Rattle.std.proofs.lemmas.Bool.{false≢true}
 use Rattle.page_space.specs.declared.region.Region.{Region}
 use Rattle.page_space.specs.declared.region.Region.TheVariants.{Page, Eden, Segment, Root, Layout, Mark, Board, Outside}
-use Rattle.page_space.specs.Extents.{Space, Extent, IsIn, IsRegion, CellsEndAt, is_cell_region, roots_start}
+use Rattle.page_space.specs.Extents.{Space, Extent, IsRegion, CellsEndAt, is_cell_region, roots_start}
 use Rattle.page_space.proofs.Starts.{roots_start_is}
 use Rattle.page_space.proofs.Standing.{start_of, length_of}
 use Rattle.page_space.proofs.Covering.{disjoint}
@@ -55,16 +55,3 @@ same_end space a b end is from below = record {
   holds = record { from = omega (arith, is.holds.from); below = omega (arith, is.ends) };
   ends = is.ends;
 }
-
--- and they are in the same region
-pub same_region : (space : Space) (a b end : ℕ) (region : Region) → CellsEndAt space a end → IsIn space a region →
-    a ≤ b → b < end → IsIn space b region
-same_region space a b end region is is_in from below =
-    let same : is.extent ≡ is_in.extent =
-    disjoint space is.extent is_in.extent a is.stands is_in.stands is.holds is_in.holds in
-    record {
-      extent = is.extent;
-      stands = is.stands;
-      of_region = ap (λ (e : Extent). e.region) same ∙ is_in.of_region;
-      holds = record { from = omega (arith, is.holds.from); below = omega (arith, is.ends) };
-    }

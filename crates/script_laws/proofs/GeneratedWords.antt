@@ -13,7 +13,7 @@ use Rattle.script_text.specs.Lines.{is_blank, is_some_bytes}
 use Rattle.script_text.specs.Tokens.{is_digit, is_name, integer_of}
 use Rattle.script_text.specs.Statements.{RawOperand, variable, field, literal, integer, undefined, bound, written_at}
 use Rattle.script_text.specs.Statements.{integer_or_bound, literal_up_to}
-use Rattle.script_text.specs.Limits.{cap_most}
+use Rattle.heap_command.specs.Commands.{cap_most}
 use Rattle.script_text.specs.Names.{variable_in, field_in}
 use Rattle.script_text.proofs.Numbers.{bytes_tell, Contains-head, Contains-tail}
 use Rattle.script_text.proofs.Scanning.{is_hash}

@@ -3,7 +3,7 @@ use Rattle.std.proofs.Common.{◌≡◌, ℕ, zero, suc, ◌<◌, ◌≤◌, Lis
 use Rattle.std.proofs.Common.{slice_get, Some, false, refl, sym, subst, arith}
 use Rattle.std.specs.List.{All, Contains, flat_map, list_any}
 use Rattle.std.proofs.lemmas.List.Elements.{All-cons, Contains-append_left, Contains-append_right}
-use Rattle.heap_command.specs.Commands.{NamesBelow}
+use Rattle.heap_command.specs.Commands.{cap_most, NamesBelow}
 use Rattle.script_text.specs.declared.commands.Argument.{Argument}
 use Rattle.script_text.specs.declared.table.Keyword.{Keyword}
 use Rattle.script_text.specs.declared.table.Keyword.TheVariants as keyword
@@ -11,7 +11,7 @@ use Rattle.script_text.specs.declared.table.OperandKind.{OperandKind}
 use Rattle.script_text.specs.declared.table.OperandKind.TheVariants as place
 use Rattle.script_text.specs.declared.script.Line.{Line}
 use Rattle.script_text.specs.declared.script.What.{What}
-use Rattle.script_text.specs.Limits.{cap_most, turns_most}
+use Rattle.script_text.specs.Limits.{turns_most}
 use Rattle.script_text.specs.Table.{places_of, same_keyword}
 use Rattle.script_text.specs.Statements.{RawOperand, variable, field, literal, integer, undefined, bound}
 use Rattle.script_text.specs.Names.{number_of_name, variable_in, field_in, variables_of, fields_of, first_uses}

@@ -9,10 +9,6 @@ line_bytes_most = 4096
 abbrev pub name_bytes_most : ℕ
 name_bytes_most = 32
 
--- the most slots of its own that `new` gives an object
-abbrev pub cap_most : ℕ
-cap_most = 8
-
 -- the most turns of a `repeat`
 abbrev pub turns_most : ℕ
 turns_most = 20000000

@@ -1,6 +1,7 @@
 -- The table of the commands: the word of each, and what its operands are.
 use Rattle.std.specs.Prelude.{ℕ, Bool, Option, Some, None, codes, bytes_eq, if◌then◌else◌, List as Row, [], ◌∷◌}
-use Rattle.script_text.specs.Limits.{cap_most, turns_most}
+use Rattle.heap_command.specs.Commands.{cap_most}
+use Rattle.script_text.specs.Limits.{turns_most}
 use Rattle.script_text.specs.declared.table.Keyword.{Keyword}
 use Rattle.script_text.specs.declared.table.Keyword.TheVariants.{New, List, Weak, Let, Drop, Add, Set, Get, Del, Push}
 use Rattle.script_text.specs.declared.table.Keyword.TheVariants.{Put, At, Shift, Trunc, WPut, WGet, WDel, Print, Same}

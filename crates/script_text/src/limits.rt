@@ -6,9 +6,6 @@ pub(crate) const LINE_BYTES_MOST: usize = 4096;
 /// The most bytes of a name.
 pub(crate) const NAME_BYTES_MOST: usize = 32;
 
-/// The most slots of its own that `new` gives an object.
-pub(crate) const CAP_MOST: u32 = 8;
-
 /// The most turns of a `repeat`.
 pub(crate) const TURNS_MOST: u32 = 20_000_000;
 

@@ -3,7 +3,8 @@ ghost use Rattle.std.specs.Prelude.{◌≡◌, ◌≤◌, length};
 ghost use Rattle.std.specs.List.{list_any};
 ghost use Rattle.script_text.specs.Table.{keyword_text, keywords, keyword_among, same_keyword, places_of};
 
-use crate::limits::{CAP_MOST, TURNS_MOST};
+use crate::limits::TURNS_MOST;
+use heap_command::CAP_MOST;
 
 /// The first word of a line.
 #[derive(Clone, Copy, PartialEq, Eq)]

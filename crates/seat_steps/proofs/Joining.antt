@@ -53,10 +53,6 @@ joined_cases P list a stays ends =
       | inr f ↦ subst P (sym (ends_with list a f)) (ends (out_not_found list a f))
     ]
 
--- joining what is in the list changes nothing
-pub joined_again : (list : List ℕ) (a : ℕ) → Contains list a → joined list a ≡ list
-joined_again list a c = stays_found list a (found_in list a c)
-
 -- what was not in the list joins at its end
 pub joined_at_end : (list : List ℕ) (a : ℕ) → (Contains list a → ⊥) → joined list a ≡ list ++ a ∷ []
 joined_at_end list a out = ends_with list a (not_found list a out)

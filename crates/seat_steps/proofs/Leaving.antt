@@ -1,9 +1,8 @@
 -- What leaving a list comes to.
 use Rattle.std.proofs.Common.{ℕ, ◌≡◌, ◌≢◌, ◌==◌, inl, inr, Bool, true, false, not, cond, List, [], ◌∷◌}
-use Rattle.std.proofs.Common.{◌++◌, refl, sym, ap, subst, ◌∙◌, eq-eqb, eqb-true}
+use Rattle.std.proofs.Common.{refl, sym, ap, subst, ◌∙◌, eq-eqb, eqb-true}
 use Rattle.std.specs.List.{Contains}
 use Rattle.std.proofs.lemmas.Bool.{not-true, not_from_false}
-use Rattle.std.proofs.lemmas.List.Elements.{filter-append}
 use Rattle.std.proofs.lemmas.List.Kept.{AllPairs-filter}
 use Rattle.tagged_word.proofs.Members.{first_in, rest_in, filter_from, filter_true, in_filter}
 use Rattle.seat_steps.specs.Lists.{left, HasNoRepeats}
@@ -32,10 +31,6 @@ left_keeps list a x other c = in_filter (other_than a) list x (others_pass a x o
 -- what is in the list then was in it before
 pub left_from : (list : List ℕ) (a x : ℕ) → Contains (left list a) x → Contains list x
 left_from list a x c = filter_from (other_than a) list x c
-
--- each part of a list is left for itself
-pub left_parts : (xs ys : List ℕ) (a : ℕ) → left (xs ++ ys) a ≡ left xs a ++ left ys a
-left_parts xs ys a = filter-append (other_than a) xs ys
 
 -- leaving a list that it is not in changes nothing
 pub left_none : (list : List ℕ) (a : ℕ) → (Contains list a → ⊥) → left list a ≡ list

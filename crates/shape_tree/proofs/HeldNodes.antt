@@ -9,7 +9,8 @@ use Rattle.object_graph.specs.declared.path.Path.{Path}
 use Rattle.object_graph.specs.declared.path.PathField.{PathField}
 use Rattle.object_graph.specs.Paths.{prefix_of}
 use Rattle.object_graph.specs.Paths.{empty_paths}
-use Rattle.object_graph.specs.Invariants.{cap_most, IsPath}
+use Rattle.heap_command.specs.Commands.{cap_most}
+use Rattle.object_graph.specs.Invariants.{IsPath}
 use Rattle.object_graph.proofs.FirstPaths.{length-empty_paths, get_or-empty_paths}
 use Rattle.shape_tree.specs.declared.tree.ShapeTree.TheInside.{Inside}
 use Rattle.shape_tree.specs.Trees.{IsTree, paths_of}

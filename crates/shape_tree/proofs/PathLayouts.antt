@@ -14,7 +14,7 @@ use Rattle.object_graph.specs.declared.path.Path.{Path}
 use Rattle.object_graph.specs.declared.path.PathField.{PathField}
 use Rattle.object_graph.specs.declared.value.Rep.{Rep}
 use Rattle.object_graph.specs.declared.value.Rep.TheVariants.{Small, Wide, Tagged}
-use Rattle.object_graph.specs.Invariants.{cap_most}
+use Rattle.heap_command.specs.Commands.{cap_most}
 use Rattle.object_graph.specs.Paths.{missing}
 use Rattle.object_graph.specs.Limits.{paths_most}
 use Rattle.object_graph.proofs.AddedPaths.{with_path-is}

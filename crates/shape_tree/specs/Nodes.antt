@@ -5,7 +5,8 @@ use Rattle.object_graph.specs.declared.path.Path.{Path}
 use Rattle.object_graph.specs.declared.path.PathField.{PathField}
 use Rattle.object_graph.specs.declared.value.Rep.TheVariants.{Small}
 use Rattle.object_graph.specs.Paths.{prefix_of}
-use Rattle.object_graph.specs.Invariants.{cap_most, fields_most}
+use Rattle.heap_command.specs.Commands.{cap_most}
+use Rattle.object_graph.specs.Invariants.{fields_most}
 use Rattle.shape_tree.specs.declared.node.Node.{Node}
 use Rattle.shape_tree.specs.declared.cached.Cached.{Cached}
 use Rattle.shape_tree.specs.declared.transition.Transition.{Transition}

@@ -3,7 +3,8 @@ ghost use Rattle.std.specs.Prelude.{◌≡◌, ◌+◌, ◌-◌, ◌<◌, ◌≤
 ghost use Rattle.std.specs.Prelude.{option_map, Some, IsTrue, IfSome, IsNone};
 ghost use Rattle.tagged_word.specs.Layouts.{IsLayout, layout_bits};
 ghost use Rattle.object_graph.specs.Paths.{prefix_of};
-ghost use Rattle.object_graph.specs.Invariants.{IsPath, cap_most, fields_most};
+ghost use Rattle.heap_command.specs.Commands.{cap_most};
+ghost use Rattle.object_graph.specs.Invariants.{IsPath, fields_most};
 ghost use Rattle.shape_tree.specs.Shapes.{AreShapes, IsPathShape, IsShapeOf, shape_path, has_name};
 ghost use Rattle.shape_tree.specs.ShapeLayouts.{IsInUse, layout_of, layout_word};
 ghost use Rattle.shape_tree.specs.Nodes.{IsNodeOf};

@@ -1,5 +1,5 @@
 -- The lists of offsets ascend.
-use Rattle.std.proofs.Common.{ℕ, ◌<◌, ◌+◌, ◌*◌, Bool, not, List, [], ◌∷◌, map, filter, length, get_or, arith}
+use Rattle.std.proofs.Common.{ℕ, ◌<◌, ◌+◌, Bool, not, List, [], ◌∷◌, map, filter, length, get_or, arith}
 use Rattle.std.specs.List.{All, AllPairs, range_with_len}
 use Rattle.std.specs.List.Sorted.{IsStrictlyIncreasing}
 use Rattle.std.proofs.lemmas.List.{length-map, get_or-map}
@@ -10,8 +10,8 @@ use Rattle.tagged_word.specs.declared.layout.Kind.{Kind}
 use Rattle.tagged_word.specs.declared.layout.Kind.TheVariants as kind
 use Rattle.tagged_word.specs.declared.layout.LayoutWord.{LayoutWord}
 use Rattle.tagged_word.specs.Layouts.{is_raw}
-use Rattle.tagged_word.specs.Cells.{in_object_offsets, plain_head, store_head, store_slot, scavenge_offsets}
-use Rattle.tagged_word.specs.Cells.{scavenge_offsets_of, tagged_offsets, tagged_offsets_of}
+use Rattle.tagged_word.specs.Cells.{in_object_offsets, plain_head, store_head, store_slot}
+use Rattle.tagged_word.specs.Cells.{tagged_offsets, tagged_offsets_of}
 use Rattle.tagged_word.proofs.Offsets.{in_object_is}
 
 -- each number is below all that follow
@@ -67,17 +67,6 @@ rises_tagged kind.Boxed layout long = rises_none
 rises_tagged kind.Filler layout long = rises_none
 rises_tagged kind.Gap layout long = rises_none
 
--- the offsets that a scavenge visits, kind by kind
-rises_scavenged : (k : Kind) (layout : LayoutWord) (long : ℕ) → Rises (scavenge_offsets_of k layout long)
-rises_scavenged kind.Table layout long = rises_run store_head (2 * long)
-rises_scavenged kind.Plain layout long = rises_tagged kind.Plain layout long
-rises_scavenged kind.List layout long = rises_tagged kind.List layout long
-rises_scavenged kind.Weak layout long = rises_tagged kind.Weak layout long
-rises_scavenged kind.Store layout long = rises_tagged kind.Store layout long
-rises_scavenged kind.Boxed layout long = rises_tagged kind.Boxed layout long
-rises_scavenged kind.Filler layout long = rises_tagged kind.Filler layout long
-rises_scavenged kind.Gap layout long = rises_tagged kind.Gap layout long
-
 -- where each number is below all that follow, it is below the next
 increasing : (xs : List ℕ) → Rises xs → IsStrictlyIncreasing xs
 increasing xs h k within = h k (k + 1) 0 (omega arith) within
@@ -85,7 +74,3 @@ increasing xs h k within = h k (k + 1) 0 (omega arith) within
 -- the offsets that marking visits ascend
 pub tagged_ascend : (layout : LayoutWord) (long : ℕ) → IsStrictlyIncreasing (tagged_offsets layout long)
 tagged_ascend layout long = increasing (tagged_offsets layout long) (rises_tagged layout.kind layout long)
-
--- the offsets that a scavenge visits ascend
-pub scavenged_ascend : (layout : LayoutWord) (long : ℕ) → IsStrictlyIncreasing (scavenge_offsets layout long)
-scavenged_ascend layout long = increasing (scavenge_offsets layout long) (rises_scavenged layout.kind layout long)

@@ -1,7 +1,6 @@
 -- Layout words: a layout may be read from its bits.
 use Rattle.std.proofs.Common.{ℕ, ◌<◌, ◌+◌, ◌*◌, ◌/◌, ◌%◌, ◌≤◌, ◌≡◌, ◌∷◌, slice_get}
 use Rattle.std.proofs.Common.{unwrap_or, arith, refl, sym, ap, ◌∙◌}
-use Rattle.std.proofs.lemmas.Nat.{pow_pos}
 use Rattle.tagged_word.specs.declared.layout.Kind.{Kind}
 use Rattle.tagged_word.specs.declared.layout.Kind.TheVariants as kind
 use Rattle.tagged_word.specs.declared.layout.LayoutWord.{LayoutWord}
@@ -127,22 +126,3 @@ same_layout a b is-a is-b e =
     let q = parts (layout_bits a) b is-b e in
     same_made a.kind b.kind a.cap b.cap a.used b.used a.raw b.raw (same_kind a.kind b.kind (sym p.number ∙ q.number))
     (sym p.cap ∙ q.cap) (sym p.used ∙ q.used) (sym p.raw ∙ q.raw)
-
--- a layout with no in-object slots is one, kind by kind
-bare_of : (k : Kind) (layout : LayoutWord) → HasNoInObjectSlots layout → IsLayoutOfKind k layout
-bare_of kind.Plain layout none = record {
-  cap = omega (arith, none.cap);
-  used = omega (arith, none.used, none.cap);
-  raw = omega (arith, none.raw, pow_pos layout.used);
-}
-bare_of kind.List layout none = none
-bare_of kind.Weak layout none = none
-bare_of kind.Store layout none = none
-bare_of kind.Table layout none = none
-bare_of kind.Boxed layout none = none
-bare_of kind.Filler layout none = none
-bare_of kind.Gap layout none = none
-
--- a layout with no in-object slots is one, of whatever kind
-pub bare_is_layout : (layout : LayoutWord) → HasNoInObjectSlots layout → IsLayout layout
-bare_is_layout layout = bare_of layout.kind layout

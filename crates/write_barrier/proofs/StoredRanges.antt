@@ -1,17 +1,17 @@
 -- How records are touched where words of a range are judged one after another, and where holes are put.
-use Rattle.std.proofs.Common.{◌≡◌, ℕ, ◌+◌, ◌<◌, ◌≤◌, ◌⊎◌, inl, inr, false, List, Contains, Some, slice_get, refl}
+use Rattle.std.proofs.Common.{◌≡◌, ℕ, ◌+◌, ◌<◌, ◌≤◌, ◌⊎◌, inl, inr, List, Contains, Some, slice_get, refl}
 use Rattle.std.proofs.Common.{sym, ◌∙◌, ap, subst, arith}
-use Rattle.std.proofs.lemmas.Bool.{cases_lt, cases_eq, false≢true}
+use Rattle.std.proofs.lemmas.Bool.{cases_lt}
 use Rattle.std.proofs.lemmas.Option.{none-some, same_Some}
 use Rattle.tagged_word.specs.Readings.{reference_in}
 use Rattle.heap_table.specs.Seats.{heap_words}
 use Rattle.heap_model.specs.Slots.{hole_word}
 use Rattle.heap_model.specs.Remembered.{Touch, IsRecordedBy, RefersToYoung}
-use Rattle.write_barrier.specs.MutatorState.{Mutator, is_young, judged}
+use Rattle.write_barrier.specs.MutatorState.{Mutator, judged}
 use Rattle.write_barrier.specs.Recording.{Touches, touched, touched_one, touched_again, touched_then}
-use Rattle.write_barrier.proofs.Recording.{no_touch, behind_touch, judged_touch, refers_as_told, then_touch}
+use Rattle.write_barrier.proofs.Recording.{no_touch, judged_touch, then_touch}
 use Rattle.write_barrier.proofs.Recording.{touch_alike}
-use Rattle.write_barrier.proofs.TouchedRanges.{touched_inside, touched_outside, touched_here, touched_other}
+use Rattle.write_barrier.proofs.TouchedRanges.{touched_inside, touched_outside}
 
 -- no address is of a range that ends where it begins
 touched_nowhere : (how : Touch) (from at : ℕ) → touched how from from at ≡ Touch.Kept
@@ -72,38 +72,6 @@ judged_here old new at word of_page stands is =
     subst (λ (main : Mutator). Touches old main (touched_one Touch.Stored at)) (sym is)
     (judged_touch old later at word of_page refl refl stands (λ other apart. refl))
 
--- a word that refers to no young cell, and is not recorded, was stored as it stands
-pub judged_not : (main : Mutator) (at word : ℕ) → (at < main.recorded.bound → Contains main.recorded.slots at → ⊥)
-    → slice_get (heap_words main.seat) at ≡ Some word
-    → is_young main.recorded.bound (reference_in word) ≡ false → Touches main main (touched_one Touch.Stored at)
-judged_not main at word none stands alone =
-    let eden = main.recorded.bound in
-    let words = heap_words main.seat in
-    let slots = main.recorded.slots in
-    let told = refers_as_told eden at word words stands in
-    let By : ℕ → Touch → Type 0 = λ other touch. IsRecordedBy eden words words slots slots other touch in
-    record {
-      free = refl;
-      bound = refl;
-      records = record {
-        each = λ other below. elim (cases_eq other at) [
-          | inl same ↦ subst (λ (one : ℕ). By one (touched_one Touch.Stored at one)) (sym same)
-              (subst (By at) (sym (touched_here Touch.Stored at)) (
-                λ there. absurd (none (omega (arith, same, below)) there),
-                λ refers. absurd (false≢true (sym alone ∙ told.1 refers)),
-              ))
-          | inr apart ↦ subst (By other) (sym (touched_other Touch.Stored at other apart))
-              (refl, (λ there. there, λ there. there))
-        ];
-        beyond = λ other behind there. there;
-      };
-    }
-
--- behind the pages there is nothing to judge
-pub judged_past : (main : Mutator) (at : ℕ) → main.recorded.bound ≤ at
-    → Touches main main (touched_one Touch.Stored at)
-judged_past main at behind = behind_touch Touch.Stored at (at + 1) behind (no_touch main)
-
 -- one word more is judged
 pub stored_more : {first old new : Mutator} (from at : ℕ) → from ≤ at
     → Touches first old (touched Touch.Stored from at) → Touches old new (touched Touch.Stored at (at + 1))
@@ -131,40 +99,6 @@ wiped_clear {old} {new} from to touches at begins ends below =
     subst (IsRecordedBy old.recorded.bound (heap_words old.seat) (heap_words new.seat) old.recorded.slots
     new.recorded.slots at) (touched_inside Touch.Wiped from to at begins ends)
     (touches.records.each at (omega (arith, below, touches.bound)))
-
--- what was wiped, and then stored, was stored
-stored_over : (from to at : ℕ)
-    → touched_then (touched Touch.Wiped from to) (touched Touch.Stored from to) at ≡ touched Touch.Stored from to at
-stored_over from to at =
-    let first : Touch = touched Touch.Wiped from to at in
-    elim (cases_lt at from) [
-      | inl before ↦
-          ap (touched_again first) (touched_outside Touch.Stored from to at (inl before))
-          ∙ touched_outside Touch.Wiped from to at (inl before)
-          ∙ sym (touched_outside Touch.Stored from to at (inl before))
-      | inr begins ↦ elim (cases_lt at to) [
-        | inl ends ↦
-            ap (touched_again first) (touched_inside Touch.Stored from to at begins ends)
-            ∙ sym (touched_inside Touch.Stored from to at begins ends)
-        | inr behind ↦
-            ap (touched_again first) (touched_outside Touch.Stored from to at (inr behind))
-            ∙ touched_outside Touch.Wiped from to at (inr behind)
-            ∙ sym (touched_outside Touch.Stored from to at (inr behind))
-      ]
-    ]
-
--- so words that were copied and then judged were stored
-pub judged_copies : {old mid new : Mutator} (from to : ℕ) → Touches old mid (touched Touch.Wiped from to)
-    → Touches mid new (touched Touch.Stored from to) → Touches old new (touched Touch.Stored from to)
-judged_copies from to one next = touch_alike (λ at below. stored_over from to at) (then_touch one next)
-
--- behind the pages what was wiped was stored
-pub copies_behind : {old new : Mutator} (from to : ℕ) → old.recorded.bound ≤ from
-    → Touches old new (touched Touch.Wiped from to) → Touches old new (touched Touch.Stored from to)
-copies_behind from to behind touches =
-    touch_alike (λ at below.
-    touched_outside Touch.Wiped from to at (inl (omega (arith, below, behind)))
-    ∙ sym (touched_outside Touch.Stored from to at (inl (omega (arith, below, behind))))) touches
 
 -- a hole refers to nothing
 hole_alone : (eden at : ℕ) (words : List ℕ) → slice_get words at ≡ Some hole_word → RefersToYoung eden words at → ⊥

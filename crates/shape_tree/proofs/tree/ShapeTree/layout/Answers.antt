@@ -1,7 +1,7 @@
 -- The layout of a path's shape is that of its node.
 use Rattle.std.proofs.Common.{ap, sym, ◌∙◌, ◌≤◌, subst, arith, rules}
 use Rattle.tagged_word.specs.Layouts.{layout_bits, IsLayout}
-use Rattle.object_graph.specs.Invariants.{cap_most}
+use Rattle.heap_command.specs.Commands.{cap_most}
 use Rattle.shape_tree.specs.Shapes.{IsPathShape, shape_path}
 use Rattle.shape_tree.proofs.PathLayouts.{layout_word-path, IsLayout-path}
 use Rattle.shape_tree.proofs.tree.ShapeTree.layout.Goals as goal
