@@ -6,10 +6,10 @@ use Rattle.std.proofs.Common.{inl, inr, refl, sym, ◌∙◌, ap, subst, arith}
 use Rattle.std.proofs.lemmas.List.Elements.{Contains-append_cases}
 use Rattle.heap_model.specs.Types.{Kind, Value, Cell}
 use Rattle.tagged_word.specs.declared.layout.Kind.TheVariants as kind
-use Rattle.tagged_word.specs.Cells.{store_slot, store_head}
+use Rattle.tagged_word.specs.Cells.{store_slot, store_head, is_object_kind}
 use Rattle.tagged_word.proofs.Members.{one_in}
 use Rattle.heap_model.specs.Heaps.{Heap, words_of_cell}
-use Rattle.heap_model.specs.Slots.{is_object_kind, reference_word, HoldsStore}
+use Rattle.heap_model.specs.Slots.{reference_word, HoldsStore}
 use Rattle.heap_model.specs.Kinds.{HasWord}
 use Rattle.heap_model.specs.Wholeness.{NamesFrom}
 use Rattle.heap_model.specs.Slots.{RefersTo}

@@ -38,8 +38,7 @@ cell_word {cell = cell} {others} at copying has of_cell =
       cell = cell;
       words = others;
       has = has;
-      from = of_cell.from;
-      below = of_cell.below;
+      of_cell = record { from = of_cell.from; below = of_cell.below };
     }
 
 -- so the cell has the same words

@@ -112,7 +112,7 @@ words_filled heap old mid new rows room fills copies = record {
   count = copies.count ∙ fills.count ∙ room;
   cells = λ at of_some.
       let below : at < roots_start heap.space =
-      omega (arith, cell_below_roots (used_few rows) of_some.has, of_some.below) in
+      omega (arith, cell_below_roots (used_few rows) of_some.has, of_some.of_cell.below) in
       copies.others at (inl below) ∙ fills.filled.cells at (omega arith) below of_some;
   rest = λ at below none. copies.others at (inl below) ∙ fills.filled.rest at (omega arith) below none;
   roots = λ at from below. copies.there at from (omega (arith, marks_start_is heap.space, below));

@@ -1,7 +1,6 @@
 pub mod RowAddresses
 mod CopiedCells
 pub mod ImagesShow
-mod CellRegions
 mod RowWalks
 mod FilledWords
 pub mod ImageStores

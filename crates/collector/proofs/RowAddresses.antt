@@ -20,8 +20,7 @@ of_row heap row at among used from below =
       cell = one.cell;
       words = words_of_cell heap one.cell;
       has = record { row = row; in_region = among; used = used; in_row = one.among; words_are = refl };
-      from = one.of_cell.from;
-      below = one.of_cell.below;
+      of_cell = record { from = one.of_cell.from; below = one.of_cell.below };
     }
 
 -- no address of a region behind its used row is
@@ -30,7 +29,7 @@ pub not_behind : (heap : Heap) (row : Row) (at : ℕ) → HasRows heap → Conta
 not_behind heap row at rows among used past below of_some =
     let has = of_some.has in
     let own = has.row in
-    let of_cell : IsOfCell of_some.cell at = record { from = of_some.from; below = of_some.below } in
+    let of_cell : IsOfCell of_some.cell at = record { from = of_some.of_cell.from; below = of_some.of_cell.below } in
     let ascends = row_ascends heap.space heap.words row.extent.start row.end row.cells used.stands in
     let here : ContainsAddress row.extent at = record { from = omega (arith, ascends, past); below = below } in
     let same : own.extent ≡ row.extent =

@@ -1,16 +1,16 @@
 -- Images of a heap: the same cells, roots and layout words, and 0 where no cell stands.
-use Rattle.std.specs.Prelude.{◌≡◌, ℕ, ◌+◌, ◌<◌, ◌≤◌, List, length, Some, slice_get}
+use Rattle.std.specs.Prelude.{◌≡◌, ℕ, ◌<◌, ◌≤◌, List, length, Some, slice_get}
 use Rattle.page_space.specs.Extents.{roots_start, layouts_start, marks_start}
 use Rattle.heap_model.specs.Types.{Cell}
 use Rattle.heap_model.specs.Heaps.{Heap, HasCell}
+use Rattle.live_cells.specs.Exact.{IsWordOf}
 
 -- the address is that of a word of a cell of the heap
 pub record IsOfSomeCell (heap : Heap) (at : ℕ) : Type 0 where
   pub cell : Cell
   pub words : List ℕ
   pub has : HasCell heap cell words
-  pub from : cell.at ≤ at
-  pub below : at < cell.at + cell.size
+  pub of_cell : IsWordOf cell at
 
 -- The words of an image of the heap. There is one for each address before the marks. Each word of a cell, each root
 -- word and each layout word is the heap's. Each other word of pages, of eden and of the segments is 0.

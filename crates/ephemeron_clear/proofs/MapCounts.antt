@@ -17,7 +17,7 @@ use Rattle.heap_model.proofs.CellWords.{words_are_size, words_by_kind}
 use Rattle.object_cells.proofs.WordsTold.{cell_fits}
 use Rattle.tagged_word.specs.declared.layout.Kind.TheVariants as kind
 use Rattle.weak_pairs.specs.Pairs.{HasPairsAt}
-use Rattle.weak_pairs.proofs.PairLists.{length-pairs_in}
+use Rattle.heap_model.proofs.PairLists.{length-pairs_in}
 use Rattle.ephemeron_table.proofs.TablesRead.{pairs_counted}
 use Rattle.ephemeron_clear.specs.Clearing.{AreMaps}
 use Rattle.ephemeron_clear.proofs.FilledKeys.{some_pairs}

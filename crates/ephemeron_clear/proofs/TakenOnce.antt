@@ -1,5 +1,5 @@
 -- One pair whose key is not marked was taken out of the table of a weak map.
-use Rattle.std.proofs.Common.{◌≡◌, ℕ, ◌≤◌, inl, inr, List, [], ◌∷◌, Contains, Some, slice_get, sym, ◌∙◌}
+use Rattle.std.proofs.Common.{◌≡◌, ℕ, ◌≤◌, inl, inr, List, [], ◌∷◌, Contains, sym, ◌∙◌}
 use Rattle.std.proofs.Common.{ap, subst, arith}
 use Rattle.std.specs.Prelude.{IsFalse}
 use Rattle.std.proofs.lemmas.Bool.{cases_Bool, cases_eq}
@@ -7,7 +7,7 @@ use Rattle.tagged_word.proofs.Members.{first_in}
 use Rattle.object_graph.specs.Graphs.{Graph}
 use Rattle.object_graph.specs.Reach.{is_marked, reach}
 use Rattle.heap_model.specs.Slots.{IsPlace}
-use Rattle.heap_model.specs.Kinds.{Pair, free_pair}
+use Rattle.heap_model.specs.Kinds.{Pair}
 use Rattle.heap_model.specs.Needs.{capacity_at, count_at}
 use Rattle.heap_model.specs.Showing.{Shows}
 use Rattle.heap_model.specs.Wholeness.{Whole}
@@ -16,8 +16,8 @@ use Rattle.weak_pairs.specs.Pairs.{AreWithout, HasPairsAt, IsFilledAt}
 use Rattle.weak_pairs.proofs.FilledPairs.{same_filled}
 use Rattle.ephemeron_table.specs.Pairs.{RemovesPair}
 use Rattle.ephemeron_table.specs.Probes.{IsWeakCellAt}
-use Rattle.ephemeron_clear.specs.Marked.{AreLeft, AreMarkedBetween, HasLeft, IsKeyMarked}
-use Rattle.ephemeron_clear.specs.Clearing.{ReachedIsMarked, TakesUnmarked}
+use Rattle.ephemeron_clear.specs.Marked.{AreLeft, HasLeft, IsKeyMarked}
+use Rattle.ephemeron_clear.specs.Clearing.{MarksReached, TakesUnmarked}
 use Rattle.ephemeron_table.proofs.TablesRead.{one_map, pair_found, pairs_counted}
 use Rattle.ephemeron_clear.proofs.FilledKeys.{some_pairs}
 use Rattle.ephemeron_clear.proofs.Takings.{left_themselves}
@@ -35,14 +35,6 @@ left_without {marked} {before} {place = place} taken without filled unmarked = r
       without.kept at pair stood (λ same. unmarked (subst (IsKeyMarked marked)
       (same_filled before at place pair taken same stood filled) key));
 }
-
--- where all below a place had marked keys, and some pair was free, all below it have some
-pub marked_below : {marked : List ℕ} {before after : List Pair} {place : ℕ} (free : ℕ)
-    → AreWithout before after place → slice_get before free ≡ Some free_pair
-    → AreMarkedBetween marked before 0 place → AreMarkedBetween marked after 0 place
-marked_below free without none were at pair filled from below =
-    were (without.origin at) pair (without.from at pair filled).0 (omega arith)
-    (without.below free none at pair filled below)
 
 -- The pair at a place of the weak map at an address was removed. It held something, and its key is not marked.
 pub record TakesOne (old new : Mutator) (map place : ℕ) (marked : List ℕ) : Type 0 where
@@ -103,7 +95,7 @@ module _ {old new : Mutator} {map place : ℕ} {marked : List ℕ} (one : TakesO
   ]
 
   -- the key of the pair cannot be reached where all is marked that can be
-  unreached : (graph : Graph) → ReachedIsMarked (heap_of old) marked graph
+  unreached : (graph : Graph) → MarksReached (heap_of old) marked graph
       → (number at : ℕ) → IsPlace (heap_of old) number at → (Contains marked at → ⊥)
       → IsFalse (is_marked (reach graph) number)
   unreached graph reached number at is_place not_marked = elim (cases_Bool (is_marked (reach graph) number)) [
@@ -112,7 +104,7 @@ module _ {old new : Mutator} {map place : ℕ} {marked : List ℕ} (one : TakesO
   ]
 
   -- so the graph is shown
-  shown_still : (graph : Graph) → Shows (heap_of old) graph → ReachedIsMarked (heap_of old) marked graph
+  shown_still : (graph : Graph) → Shows (heap_of old) graph → MarksReached (heap_of old) marked graph
       → Shows (heap_of new) graph
   shown_still graph shows reached =
       let found = pair_found place one.pair one.whole one.has one.filled in

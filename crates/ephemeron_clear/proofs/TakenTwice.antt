@@ -1,10 +1,10 @@
 -- Pairs were taken out of the tables of weak maps, and then more.
 use Rattle.std.proofs.Common.{ℕ, ◌+◌, ◌*◌, ◌≤◌, ◌<◌, ◌⊎◌, List, refl, sym, ◌∙◌, ap, subst, arith}
 use Rattle.page_space.specs.Extents.{Space, eden_start}
-use Rattle.tagged_word.specs.Cells.{store_head}
+use Rattle.tagged_word.specs.Cells.{store_head, is_object_kind}
 use Rattle.heap_table.specs.Staying.{rest_stays_again}
 use Rattle.heap_model.specs.Heaps.{Heap, words_of_cell}
-use Rattle.heap_model.specs.Slots.{IsPlace, is_object_kind}
+use Rattle.heap_model.specs.Slots.{IsPlace}
 use Rattle.heap_model.specs.Kinds.{Pair}
 use Rattle.heap_model.specs.Wholeness.{Whole}
 use Rattle.write_barrier.specs.MutatorState.{Mutator, heap_of}

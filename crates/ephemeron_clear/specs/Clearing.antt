@@ -29,8 +29,8 @@ IsBesideMaps heap maps word =
     (map : ℕ) → Contains maps map → (word ≢ map + count_offset) × IsNoPairWord heap map word
 
 -- the place of each object of the graph that can be reached is marked
-abbrev pub ReachedIsMarked : Heap → List ℕ → Graph → Type 0
-ReachedIsMarked heap marked graph =
+abbrev pub MarksReached : Heap → List ℕ → Graph → Type 0
+MarksReached heap marked graph =
     (number at : ℕ) → IsTrue (is_marked (reach graph) number) → IsPlace heap number at → Contains marked at
 
 -- Pairs whose keys are not marked were taken out of the tables of these weak maps.
@@ -64,7 +64,7 @@ pub record TakesUnmarked (old new : Mutator) (maps marked : List ℕ) : Type 0 w
   pub others : (map : ℕ) (pairs : List Pair) → (Contains maps map → ⊥) → HasPairsAt (heap_of old) map pairs
       → HasPairsAt (heap_of new) map pairs
   -- Each graph that the heap showed is shown if all is marked in it that can be reached. It keeps its dead entries.
-  pub shows : (graph : Graph) → Shows (heap_of old) graph → ReachedIsMarked (heap_of old) marked graph
+  pub shows : (graph : Graph) → Shows (heap_of old) graph → MarksReached (heap_of old) marked graph
       → Shows (heap_of new) graph
 
 -- All of them were: each key of the maps is marked.

@@ -1,5 +1,5 @@
 -- Which pairs of weak maps have marked keys, and which are left where some without are taken out.
-use Rattle.std.specs.Prelude.{◌≡◌, ℕ, ◌≤◌, ◌<◌, List, Contains, length, Option, Some, None}
+use Rattle.std.specs.Prelude.{◌≡◌, ℕ, ◌+◌, ◌≤◌, ◌<◌, List, Contains, length, Option, Some, None}
 use Rattle.tagged_word.specs.Readings.{reference_in}
 use Rattle.heap_model.specs.Heaps.{Heap}
 use Rattle.heap_model.specs.Slots.{reference_word}
@@ -27,18 +27,22 @@ pub record IsUnmarkedWord (marked : List ℕ) (word : ℕ) : Type 0 where
   pub refers : reference_in word ≡ Some at
   pub unmarked : Contains marked at → ⊥
 
--- The pair at the place is the first from a place on that holds something and whose key is not marked.
-pub record IsFirstUnmarked (marked : List ℕ) (pairs : List Pair) (from place : ℕ) : Type 0 where
-  pub behind : from ≤ place
+-- The pair at the place holds something, and its key is not marked.
+pub record IsUnmarkedAt (marked : List ℕ) (pairs : List Pair) (place : ℕ) : Type 0 where
   pub pair : Pair
   pub filled : IsFilledAt pairs place pair
   pub unmarked : IsKeyMarked marked pair → ⊥
-  pub before : AreMarkedBetween marked pairs from place
 
--- The first such pair from a place on is at this one, or there is none.
+-- That at the place is the last such pair below another place.
+pub record IsLastUnmarked (marked : List ℕ) (pairs : List Pair) (below place : ℕ) : Type 0 where
+  pub before : place < below
+  pub is : IsUnmarkedAt marked pairs place
+  pub behind : AreMarkedBetween marked pairs (place + 1) below
+
+-- The last such pair below a place is at this one, or there is none.
 abbrev pub FindsUnmarked : List ℕ → List Pair → ℕ → Option ℕ → Type 0
-FindsUnmarked marked pairs from (Some place) = IsFirstUnmarked marked pairs from place
-FindsUnmarked marked pairs from None = AreMarkedBetween marked pairs from (length pairs)
+FindsUnmarked marked pairs below (Some place) = IsLastUnmarked marked pairs below place
+FindsUnmarked marked pairs below None = AreMarkedBetween marked pairs 0 below
 
 -- The pairs without some whose keys are not marked. Each that holds something stood before, no two at one place, and
 -- each before that has a marked key stands somewhere.

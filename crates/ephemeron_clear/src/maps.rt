@@ -1,21 +1,48 @@
 //! The pairs of weak maps whose keys are not marked are taken out, map by map.
-ghost use Rattle.std.specs.Prelude.{◌≡◌, ◌≢◌, ◌+◌, [], ◌∷◌, AllPairs, sum_by};
+ghost use Rattle.std.specs.Prelude.{◌≡◌, ◌≢◌, ◌<◌, ◌+◌, List, [], ◌∷◌, AllPairs, sum_by};
 ghost use Rattle.page_space.specs.Extents.{roots_start};
+ghost use Rattle.heap_model.specs.Kinds.{Pair};
 ghost use Rattle.heap_model.specs.Needs.{count_at};
 ghost use Rattle.write_barrier.specs.MutatorState.{heap_of, IsTied};
 ghost use Rattle.object_cells.specs.CellsAt.{IsQuietWhole};
+ghost use Rattle.weak_pairs.specs.Pairs.{HasPairsAt};
 ghost use Rattle.ephemeron_table.specs.Probes.{IsWeakCellAt};
-ghost use Rattle.ephemeron_clear.specs.Clearing.{AreMaps, Clears};
+ghost use Rattle.ephemeron_clear.specs.Marked.{IsUnmarkedAt};
+ghost use Rattle.ephemeron_clear.specs.Clearing.{AreMaps, Clears, TakesUnmarked};
 
-use crate::search::first_unmarked;
+use crate::search::last_unmarked;
 use cell_list::CellList;
-use ephemeron_table::remove_at;
+use ephemeron_table::{remove_at, table_of};
 use write_barrier::Main;
 
+/// Takes the pair at a place, whose key is not marked, out of a weak map's table, and then each such
+/// pair below it, going down, and answers how many went. What stands behind such a pair has no other
+/// one among it, so a removal moves few, however long the row of those that go is.
+fn take_down(main: &mut Main, map: u32, last: u32, marked: &CellList) -> u64
+    requires whole { IsQuietWhole main.old }
+    requires tied { IsTied main.old }
+    requires there { IsWeakCellAt (heap_of main.old) map }
+    requires bound { marked.now.bound ≡ roots_start main.old.seat.space }
+    requires last { (pairs : List Pair) → HasPairsAt (heap_of main.old) map pairs
+        → IsUnmarkedAt marked.now.addresses pairs last }
+    ensures takes { TakesUnmarked main.old main.new (map ∷ []) marked.now.addresses }
+    ensures counted { result + count_at (heap_of main.new) map ≡ count_at (heap_of main.old) map }
+    ensures some { 0 < result }
+{
+    remove_at(main, map, last);
+    let mut gone = 1;
+    let mut below = last;
+    while let Some(place) = last_unmarked(main, map, below, marked) {
+        remove_at(main, map, place);
+        gone += 1;
+        below = place;
+    }
+    gone
+}
+
 /// Takes each pair whose key is not marked out of the table of one weak map, and answers how many went.
-/// Where some pair is free, none of those that move back passes the place of the one that goes. So the
-/// pass begins at the first place once one pair is out, and looks again at each place where it took one
-/// out, since another may stand there then.
+/// A pair of the first places that moves back over the end, to the last ones, was not looked at; so it
+/// goes down the table again, until it finds none.
 fn clear_map(main: &mut Main, map: u32, marked: &CellList) -> u64
     requires whole { IsQuietWhole main.old }
     requires tied { IsTied main.old }
@@ -24,22 +51,16 @@ fn clear_map(main: &mut Main, map: u32, marked: &CellList) -> u64
     ensures cleared { Clears main.old main.new (map ∷ []) marked.now.addresses }
     ensures counted { result + count_at (heap_of main.new) map ≡ count_at (heap_of main.old) map }
 {
-    let Some(first) = first_unmarked(main, map, 0, marked) else {
-        return 0;
-    };
-    remove_at(main, map, first);
-    let mut gone = 1;
-    let mut from = 0;
-    while let Some(place) = first_unmarked(main, map, from, marked) {
-        remove_at(main, map, place);
-        gone += 1;
-        from = place;
+    let capacity = table_of(main, map).capacity;
+    let mut gone = 0;
+    while let Some(last) = last_unmarked(main, map, capacity, marked) {
+        gone += take_down(main, map, last, marked);
     }
     gone
 }
 
 /// Takes each pair whose key is not marked out of the tables of these weak maps, and answers how many
-/// went. Each table is passed once, but for what stands before its first such pair.
+/// went. The time goes by the places of the tables and by the pairs that move.
 pub fn clear(main: &mut Main, maps: &[u32], marked: &CellList) -> u64
     requires whole { IsQuietWhole main.old }
     requires tied { IsTied main.old }

@@ -1,4 +1,4 @@
-//! Which pair of a weak map's table is the first whose key is not marked.
+//! Which pair of a weak map's table is the last whose key is not marked.
 ghost use Rattle.std.specs.Prelude.{◌≡◌, ℕ, ◌<◌, List, Some, IsTrue, IsFalse, Contains};
 ghost use Rattle.tagged_word.specs.Readings.{reference_in};
 ghost use Rattle.page_space.specs.Extents.{roots_start};
@@ -35,17 +35,17 @@ fn has_unmarked_key(main: &Main, table: Table, place: u32, marked: &CellList) ->
     }
 }
 
-/// The first place of a map's table, from one on, where the key of a pair is not marked.
-pub(crate) fn first_unmarked(main: &Main, map: u32, from: u32, marked: &CellList) -> Option<u32>
+/// The last place of a map's table, below one, where the key of a pair is not marked.
+pub(crate) fn last_unmarked(main: &Main, map: u32, below: u32, marked: &CellList) -> Option<u32>
     requires whole { IsQuietWhole main.now }
     requires there { IsWeakCellAt (heap_of main.now) map }
     requires bound { marked.now.bound ≡ roots_start main.now.seat.space }
     ensures { (pairs : List Pair) → HasPairsAt (heap_of main.now) map pairs
-        → FindsUnmarked marked.now.addresses pairs from result }
+        → FindsUnmarked marked.now.addresses pairs below result }
 {
     main.addresses_fit();
     let table = table_of(main, map);
-    for place in from..table.capacity {
+    for place in (0..below.min(table.capacity)).rev() {
         if has_unmarked_key(main, table, place, marked) {
             return Some(place);
         }

@@ -11,15 +11,16 @@ use Rattle.tagged_word.proofs.Members.{first_in}
 use Rattle.heap_model.specs.Types.{Kind, Cell}
 use Rattle.heap_model.specs.Heaps.{Heap}
 use Rattle.heap_model.proofs.CellsApart.{one_at}
+use Rattle.heap_model.specs.Slots.{IsWeakCellAt}
 use Rattle.cell_list.specs.Listing.{Listing}
 use Rattle.write_barrier.specs.MutatorState.{Mutator, heap_of}
-use Rattle.ephemeron_mark.specs.Marked.{IsMapAt}
-use Rattle.ephemeron_mark.specs.Progress.{HasGrown, IsCellOf, IsAmong, AreMaps, noted}
+use Rattle.ephemeron_mark.specs.Progress.{HasGrown, IsCellOf, IsAmong, AreMapsAmong, noted}
 use Rattle.ephemeron_mark.proofs.VisitedCells.{WhichAmong, which_among, among_before, among_after}
 
 -- they are the same while more cells are marked
 pub maps_stay : {main : Mutator} {old new : Listing} (maps : List ℕ) (count : ℕ) → HasGrown main old new
-    → count ≤ length old.addresses → AreMaps (heap_of main) old maps count → AreMaps (heap_of main) new maps count
+    → count ≤ length old.addresses → AreMapsAmong (heap_of main) old maps count
+    → AreMapsAmong (heap_of main) new maps count
 maps_stay maps count grown few maps_are = record {
   are = λ at. (
     λ there. let both = (maps_are.are at).0 there in (among_after grown count at both.0, both.1),
@@ -30,14 +31,14 @@ maps_stay maps count grown few maps_are = record {
 }
 
 module _ {heap : Heap} {cells : Listing} {maps : List ℕ} {place : ℕ} {cell : Cell} (stands : IsCellOf heap cell)
-    (there : slice_get cells.addresses place ≡ Some cell.at) (maps_are : AreMaps heap cells maps place) where
+    (there : slice_get cells.addresses place ≡ Some cell.at) (maps_are : AreMapsAmong heap cells maps place) where
   -- one that is among the first so many is among one more
   among_more : (at : ℕ) → IsAmong cells place at → IsAmong cells (place + 1) at
   among_more at among =
       record { place = among.place; below = omega (arith, among.below); there = among.there }
 
   -- a map at the next address is the next cell, of the kind of weak maps
-  map_of_kind : (at : ℕ) → slice_get cells.addresses place ≡ Some at → IsMapAt heap at
+  map_of_kind : (at : ℕ) → slice_get cells.addresses place ≡ Some at → IsWeakCellAt heap at
       → cell.layout.kind ≡ kind.Weak
   map_of_kind at here map =
       let at_is : at ≡ cell.at = same_Some at cell.at (sym here ∙ there) in
@@ -45,7 +46,7 @@ module _ {heap : Heap} {cells : Listing} {maps : List ℕ} {place : ℕ} {cell :
       subst (λ (one : Cell). one.layout.kind ≡ kind.Weak) same map.of_kind
 
   -- where the next cell is of another kind, there is no map more
-  no_map_more : (cell.layout.kind ≡ kind.Weak → ⊥) → AreMaps heap cells maps (place + 1)
+  no_map_more : (cell.layout.kind ≡ kind.Weak → ⊥) → AreMapsAmong heap cells maps (place + 1)
   no_map_more other = record {
     are = λ at. (
       λ in_maps. let both = (maps_are.are at).0 in_maps in (among_more at both.0, both.1),
@@ -70,7 +71,7 @@ module _ {heap : Heap} {cells : Listing} {maps : List ℕ} {place : ℕ} {cell :
 
   -- and where it is a weak map's, there is one more
   one_map_more : cell.layout.kind ≡ kind.Weak → AllPairs (λ at other. at ≢ other) cells.addresses
-      → AreMaps heap cells (maps ++ cell.at ∷ []) (place + 1)
+      → AreMapsAmong heap cells (maps ++ cell.at ∷ []) (place + 1)
   one_map_more of_kind once = record {
     are = λ at. (
       λ in_maps. elim (Contains-push_cases maps cell.at at in_maps) [
@@ -99,11 +100,11 @@ module _ {heap : Heap} {cells : Listing} {maps : List ℕ} {place : ℕ} {cell :
 
   -- by the kind of the next cell
   by_kind : (k : Kind) → cell.layout.kind ≡ k → AllPairs (λ at other. at ≢ other) cells.addresses
-      → AreMaps heap cells (noted k maps cell.at) (place + 1)
+      → AreMapsAmong heap cells (noted k maps cell.at) (place + 1)
   by_kind kind.Weak of_kind once = one_map_more of_kind once
   by_kind other of_kind once = no_map_more (λ weak. let clash = sym of_kind ∙ weak in cc)
 
   -- so the maps among one more are those with the next cell, if it is a map's
   pub next_noted : AllPairs (λ at other. at ≢ other) cells.addresses
-      → AreMaps heap cells (noted cell.layout.kind maps cell.at) (place + 1)
+      → AreMapsAmong heap cells (noted cell.layout.kind maps cell.at) (place + 1)
   next_noted once = by_kind cell.layout.kind refl once

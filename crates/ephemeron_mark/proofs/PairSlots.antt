@@ -19,7 +19,7 @@ use Rattle.heap_model.proofs.PairLists.{length-pairs_in}
 use Rattle.live_cells.specs.Live.{HasEntry}
 use Rattle.scavenger.proofs.EndSlots.{word_found}
 use Rattle.cell_list.specs.Listing.{Listing}
-use Rattle.ephemeron_mark.specs.Progress.{HoldsReference, IsPairOf}
+use Rattle.ephemeron_mark.specs.Progress.{HoldsReference, IsMarkedPair}
 use Rattle.ephemeron_mark.proofs.CellSlots.{word_read}
 
 -- where the key of a pair stands, by the place of the pair
@@ -88,7 +88,7 @@ module _ {heap : Heap} {cell : Cell} {words : List ℕ} (has : HasCell heap cell
 
   -- so a pair of a marked table is one
   pub pair_of_table : (cells : Listing) (place of_key : ℕ) → Whole heap → Contains cells.addresses cell.at
-      → place < cell.length → of_key ≡ key_at cell place → IsPairOf heap cells of_key (of_key + 1)
+      → place < cell.length → of_key ≡ key_at cell place → IsMarkedPair heap cells of_key (of_key + 1)
   pair_of_table cells place of_key whole marked below is =
       let next : of_key + 1 ≡ value_at cell place = omega (arith, is) in
       record {

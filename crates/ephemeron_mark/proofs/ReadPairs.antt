@@ -5,7 +5,7 @@ use Rattle.page_space.specs.Extents.{roots_start, marks_start}
 use Rattle.cell_list.specs.Listing.{Listing}
 use Rattle.write_barrier.specs.MutatorState.{Mutator, heap_of}
 use Rattle.ephemeron_mark.specs.Marked.{IsLiveAt}
-use Rattle.ephemeron_mark.specs.Progress.{HoldsReference, IsMarking, IsPairOf}
+use Rattle.ephemeron_mark.specs.Progress.{HoldsReference, IsMarking, IsMarkedPair}
 use Rattle.ephemeron_mark.proofs.LiveStands.{refers_as_read, refers_to_none, key_below, value_below, before_marks}
 use Rattle.ephemeron_mark.proofs.WaitingKeys.{value_is_live}
 
@@ -18,7 +18,7 @@ pub record IsReadPair (main : Mutator) (cells : Listing) (of_key key value : ℕ
   pub live : Contains cells.addresses key → IsLiveAt (heap_of main) value
 
 module _ {main : Mutator} {cells : Listing} {of_key : ℕ} (marking : IsMarking main cells)
-    (pair : IsPairOf (heap_of main) cells of_key (of_key + 1)) where
+    (pair : IsMarkedPair (heap_of main) cells of_key (of_key + 1)) where
   -- where both words refer to cells, the pair is an entry
   pub known_pair : (key value : ℕ) → HoldsReference (heap_of main) of_key key
       → HoldsReference (heap_of main) (of_key + 1) value → IsReadPair main cells of_key key value

@@ -10,7 +10,7 @@ use Rattle.cell_list.specs.Listing.{Listing}
 use Rattle.write_barrier.specs.MutatorState.{Mutator, heap_of}
 use Rattle.ephemeron_mark.specs.Marked.{IsLiveAt}
 use Rattle.ephemeron_mark.specs.Pairs.{Waits, WaitsFor, IsLastOf}
-use Rattle.ephemeron_mark.specs.Progress.{HoldsReference, IsMarking, HasGrown, IsPairOf, AreWaiting, WaitsMore}
+use Rattle.ephemeron_mark.specs.Progress.{HoldsReference, IsMarking, HasGrown, IsMarkedPair, AreWaiting, WaitsMore}
 use Rattle.ephemeron_mark.specs.Progress.{IsMarkedOrWaits}
 use Rattle.ephemeron_mark.proofs.LiveStands.{refers_to_one}
 use Rattle.ephemeron_mark.proofs.GrownLists.{stays_marked}
@@ -18,8 +18,8 @@ use Rattle.ephemeron_mark.proofs.PairSlots.{IsPairAt}
 
 module _ {main : Mutator} {old new : Listing} (grown : HasGrown main old new) where
   -- a pair of a marked table is one still
-  pair_stays : (of_key of_value : ℕ) → IsPairOf (heap_of main) old of_key of_value
-      → IsPairOf (heap_of main) new of_key of_value
+  pair_stays : (of_key of_value : ℕ) → IsMarkedPair (heap_of main) old of_key of_value
+      → IsMarkedPair (heap_of main) new of_key of_value
   pair_stays of_key of_value pair = record {
     table = pair.table;
     marked = stays_marked pair.table grown pair.marked;
@@ -87,7 +87,7 @@ waits_for_one {heap} of_key key other waiting refers waits_for =
 
 -- the value of a pair of a marked table is live where its key is marked
 pub value_is_live : {main : Mutator} {cells : Listing} (of_key of_value key value : ℕ) → IsMarking main cells
-    → IsPairOf (heap_of main) cells of_key of_value → HoldsReference (heap_of main) of_key key
+    → IsMarkedPair (heap_of main) cells of_key of_value → HoldsReference (heap_of main) of_key key
     → HoldsReference (heap_of main) of_value value → Contains cells.addresses key → IsLiveAt (heap_of main) value
 value_is_live of_key of_value key value marking pair refers value_refers marked =
     IsLive.entry pair.table key value (marking.live pair.table pair.marked) (marking.live key marked)

@@ -7,12 +7,12 @@ use Rattle.tagged_word.specs.declared.layout.Kind.TheVariants as kind
 use Rattle.heap_model.specs.Types.{Kind, Cell}
 use Rattle.heap_table.specs.declared.phase.Phase.TheVariants.{Quiet}
 use Rattle.heap_model.specs.Heaps.{Heap, HasCell}
-use Rattle.heap_model.specs.Slots.{reference_word}
+use Rattle.heap_model.specs.Slots.{reference_word, IsWeakCellAt}
 use Rattle.heap_model.specs.Wholeness.{Whole}
-use Rattle.live_cells.specs.Live.{HasSlotTo, HasEntry, IsRootTarget}
+use Rattle.live_cells.specs.Live.{HasSlotTo, HasEntry}
 use Rattle.cell_list.specs.Listing.{Listing}
 use Rattle.write_barrier.specs.MutatorState.{Mutator, heap_of}
-use Rattle.ephemeron_mark.specs.Marked.{IsLiveAt, IsMapAt}
+use Rattle.ephemeron_mark.specs.Marked.{IsLiveAt}
 use Rattle.ephemeron_mark.specs.Pairs.{Waits, WaitsFor}
 
 -- the word at an address is a reference to the other one
@@ -36,7 +36,7 @@ abbrev pub IsCellOf : Heap → Cell → Type 0
 IsCellOf heap cell = (words : List ℕ) × HasCell heap cell words
 
 -- A pair of a marked table has its key and its value at these addresses.
-pub record IsPairOf (heap : Heap) (cells : Listing) (of_key of_value : ℕ) : Type 0 where
+pub record IsMarkedPair (heap : Heap) (cells : Listing) (of_key of_value : ℕ) : Type 0 where
   pub table : ℕ
   pub marked : Contains cells.addresses table
   pub within : of_value < roots_start heap.space
@@ -48,7 +48,7 @@ pub record IsPairOf (heap : Heap) (cells : Listing) (of_key of_value : ℕ) : Ty
 pub record IsPairFor (heap : Heap) (cells : Listing) (key of_value : ℕ) : Type 0 where
   pub of_key : ℕ
   pub refers : HoldsReference heap of_key key
-  pub pair : IsPairOf heap cells of_key of_value
+  pub pair : IsMarkedPair heap cells of_key of_value
 
 -- each pair that waits is one of a marked table
 pub record AreWaiting (heap : Heap) (cells : Listing) (waits : Waits) : Type 0 where
@@ -87,17 +87,13 @@ pub record IsAmong (cells : Listing) (count at : ℕ) : Type 0 where
 abbrev pub AreVisited : Heap → Listing → Waits → ℕ → Type 0
 AreVisited heap cells waits count = (at : ℕ) → IsAmong cells count at → IsVisited heap cells waits at
 
--- what root words refer to is marked
-abbrev pub HasTargets : Heap → Listing → Type 0
-HasTargets heap cells = (at : ℕ) → IsRootTarget heap at → Contains cells.addresses at
-
 -- the addresses with that of a cell of this kind, if it is a weak map's
 abbrev pub noted : Kind → List ℕ → ℕ → List ℕ
 noted kind.Weak maps at = maps ++ at ∷ []
 noted _ maps at = maps
 
 -- these are the weak maps among the first so many cells, each once
-pub record AreMaps (heap : Heap) (cells : Listing) (maps : List ℕ) (count : ℕ) : Type 0 where
-  pub are : (at : ℕ) → Contains maps at ↔ (IsAmong cells count at × IsMapAt heap at)
+pub record AreMapsAmong (heap : Heap) (cells : Listing) (maps : List ℕ) (count : ℕ) : Type 0 where
+  pub are : (at : ℕ) → Contains maps at ↔ (IsAmong cells count at × IsWeakCellAt heap at)
   pub once : AllPairs (λ at other. at ≢ other) maps
   pub few : length maps ≤ count

@@ -2,7 +2,8 @@
 ghost use Rattle.std.specs.Prelude.{◌≡◌, ℕ, ◌+◌, Contains};
 ghost use Rattle.live_cells.specs.Live.{HasEntry};
 ghost use Rattle.write_barrier.specs.MutatorState.{heap_of};
-ghost use Rattle.ephemeron_mark.specs.Progress.{HoldsReference, IsMarking, HasGrown, IsCellOf, IsPairOf, AreWaiting};
+ghost use Rattle.ephemeron_mark.specs.Progress.{HoldsReference, IsMarking, HasGrown, IsCellOf, IsMarkedPair};
+ghost use Rattle.ephemeron_mark.specs.Progress.{AreWaiting};
 ghost use Rattle.ephemeron_mark.specs.Progress.{WaitsMore, WaitsWith, IsMarkedOrWaits};
 
 use crate::targets::mark_target;
@@ -18,7 +19,7 @@ use write_barrier::Main;
 fn mark_pair(main: &Main, cells: &mut CellList, waiting: &mut Waiting, at: u32)
     requires marking { IsMarking main.now cells.old }
     requires waits { AreWaiting (heap_of main.now) cells.old waiting.old }
-    requires pair { IsPairOf (heap_of main.now) cells.old at (at + 1) }
+    requires pair { IsMarkedPair (heap_of main.now) cells.old at (at + 1) }
     ensures grown { HasGrown main.now cells.old cells.new }
     ensures waits { AreWaiting (heap_of main.now) cells.new waiting.new }
     ensures more { WaitsMore cells.old waiting.old waiting.new }

@@ -2,9 +2,10 @@
 ghost use Rattle.std.specs.Prelude.{◌≡◌, ℕ, ◌<◌, Contains};
 ghost use Rattle.page_space.specs.Extents.{marks_start};
 ghost use Rattle.live_cells.specs.Live.{HasSlotTo};
+ghost use Rattle.live_cells.specs.Marked.{HasRootTargets};
 ghost use Rattle.write_barrier.specs.MutatorState.{heap_of};
 ghost use Rattle.ephemeron_mark.specs.Marked.{IsLiveAt};
-ghost use Rattle.ephemeron_mark.specs.Progress.{HoldsReference, IsMarking, HasGrown, HasTargets, IsCellOf};
+ghost use Rattle.ephemeron_mark.specs.Progress.{HoldsReference, IsMarking, HasGrown, IsCellOf};
 
 use cell_layout::{Cell, next_tagged};
 use cell_list::CellList;
@@ -30,7 +31,7 @@ pub(crate) fn mark_target(main: &Main, cells: &mut CellList, slot: u32)
 pub(crate) fn mark_roots(main: &Main, cells: &mut CellList)
     requires marking { IsMarking main.now cells.old }
     ensures grown { HasGrown main.now cells.old cells.new }
-    ensures targets { HasTargets (heap_of main.now) cells.new }
+    ensures targets { HasRootTargets (heap_of main.now) (Contains cells.new.addresses) }
 {
     let regions = main.regions();
     for variable in 0..regions.variables() {

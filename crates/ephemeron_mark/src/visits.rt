@@ -4,11 +4,13 @@ ghost use Rattle.std.specs.List.{AllPairs};
 ghost use Rattle.std.specs.Vec.{vec_capacity};
 ghost use Rattle.page_space.specs.Extents.{roots_start};
 ghost use Rattle.heap_table.specs.declared.phase.Phase.TheVariants.{Quiet};
+ghost use Rattle.heap_model.specs.Slots.{IsWeakCellAt};
 ghost use Rattle.heap_model.specs.Wholeness.{Whole};
+ghost use Rattle.live_cells.specs.Marked.{HasRootTargets};
 ghost use Rattle.write_barrier.specs.MutatorState.{heap_of};
-ghost use Rattle.ephemeron_mark.specs.Marked.{IsLiveAt, IsMapAt};
+ghost use Rattle.ephemeron_mark.specs.Marked.{IsLiveAt};
 ghost use Rattle.ephemeron_mark.specs.Progress.{IsMarking, HasGrown, IsCellOf, AreWaiting, WaitsMore, IsVisited};
-ghost use Rattle.ephemeron_mark.specs.Progress.{AreVisited, HasTargets, AreMaps, noted};
+ghost use Rattle.ephemeron_mark.specs.Progress.{AreVisited, AreMapsAmong, noted};
 
 use crate::ephemerons::{mark_pairs, wake};
 use crate::marking::Marking;
@@ -53,14 +55,14 @@ fn visit(main: &Main, cells: &mut CellList, waiting: &mut Waiting, cell: &Cell)
 /// Visits all marked cells, also those that are marked on the way.
 fn visit_all(main: &Main, cells: &mut CellList, maps: &mut Vec<u32>, waiting: &mut Waiting)
     requires marking { IsMarking main.now cells.old }
-    requires targets { HasTargets (heap_of main.now) cells.old }
+    requires targets { HasRootTargets (heap_of main.now) (Contains cells.old.addresses) }
     requires waits { AreWaiting (heap_of main.now) cells.old waiting.old }
     requires none { maps.old.items ≡ [] }
     requires room { cells.old.bound ≤ vec_capacity maps.old }
     ensures grown { HasGrown main.now cells.old cells.new }
     ensures once { AllPairs (λ at other. at ≢ other) cells.new.addresses }
     ensures visited { AreVisited (heap_of main.now) cells.new waiting.new (length cells.new.addresses) }
-    ensures maps { AreMaps (heap_of main.now) cells.new maps.new.items (length cells.new.addresses) }
+    ensures maps { AreMapsAmong (heap_of main.now) cells.new maps.new.items (length cells.new.addresses) }
     ensures room { vec_capacity maps.old ≤ vec_capacity maps.new }
     ensures bound { waiting.new.bound ≡ waiting.old.bound }
 {
@@ -82,7 +84,7 @@ pub fn mark_live(main: &Main, marking: &mut Marking)
     ensures marked { (at : ℕ) → Contains marking.new.cells at ↔ IsLiveAt (heap_of main.now) at }
     ensures once { AllPairs (λ at other. at ≢ other) marking.new.cells }
     ensures maps { (at : ℕ) → Contains marking.new.maps at ↔
-        (IsLiveAt (heap_of main.now) at × IsMapAt (heap_of main.now) at) }
+        (IsLiveAt (heap_of main.now) at × IsWeakCellAt (heap_of main.now) at) }
     ensures maps_once { AllPairs (λ at other. at ≢ other) marking.new.maps }
     ensures bound { marking.new.bound ≡ marking.old.bound }
 {

@@ -13,7 +13,8 @@ use Rattle.object_graph.specs.Invariants.{IsValue}
 use Rattle.heap_table.specs.Seats.{heap_words}
 use Rattle.heap_model.specs.Types.{Value, Cell, Held}
 use Rattle.heap_model.specs.Heaps.{words_of_cell}
-use Rattle.heap_model.specs.Slots.{is_object_kind, reference_word, raw_word, RefersTo}
+use Rattle.tagged_word.specs.Cells.{is_object_kind}
+use Rattle.heap_model.specs.Slots.{reference_word, raw_word, RefersTo}
 use Rattle.heap_model.specs.Kinds.{HasWord, Pair, IsFilledPair, HasTable, count_offset}
 use Rattle.heap_model.specs.Showing.{ShowsValue}
 use Rattle.heap_model.specs.Wholeness.{NamesFrom, IsOwnedKind}

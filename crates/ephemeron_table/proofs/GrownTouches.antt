@@ -5,11 +5,10 @@ use Rattle.std.proofs.Common.{◌≡◌, ℕ, ◌+◌, ◌*◌, ◌<◌, inl, in
 use Rattle.std.proofs.Common.{arith}
 use Rattle.std.specs.Prelude.{IsTrue}
 use Rattle.std.proofs.lemmas.Bool.{cases_lt}
-use Rattle.tagged_word.specs.Cells.{store_head, store_slot}
+use Rattle.tagged_word.specs.Cells.{store_head, store_slot, is_object_kind}
 use Rattle.tagged_word.proofs.Members.{first_in, rest_in}
 use Rattle.heap_model.specs.Types.{Cell, Held}
 use Rattle.heap_model.specs.Heaps.{HasCell, words_of_cell}
-use Rattle.heap_model.specs.Slots.{is_object_kind}
 use Rattle.heap_model.specs.Kinds.{count_offset}
 use Rattle.heap_model.specs.Changes.{CellsChange}
 use Rattle.heap_model.specs.Remembered.{IsSlotOf, Touch, TouchesMade}

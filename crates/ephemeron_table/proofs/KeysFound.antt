@@ -14,7 +14,7 @@ use Rattle.object_graph.specs.Objects.{entry_value}
 use Rattle.object_graph.specs.Graphs.{Graph, WeakObject}
 use Rattle.object_graph.specs.Reach.{is_marked, reach}
 use Rattle.heap_model.specs.Heaps.{Heap, HasCell, words_of_cell}
-use Rattle.heap_model.specs.Slots.{reference_word, IsPlace, RefersToPlace}
+use Rattle.heap_model.specs.Slots.{reference_word, IsPlace, RefersToPlace, IsWeakCellAt}
 use Rattle.heap_model.specs.Kinds.{Pair, free_pair, HasTable, IsFoundPair, IsProbed}
 use Rattle.heap_model.specs.Wholeness.{Whole}
 use Rattle.heap_model.specs.Showing.{ShowsWeak, ShowsValue, IsKnownKey}
@@ -24,7 +24,7 @@ use Rattle.heap_model.proofs.WordClasses.{hole_refers_not}
 use Rattle.write_barrier.specs.MutatorState.{Mutator, heap_of, MainShows}
 use Rattle.ephemeron_table.specs.WeakObjects.{IsKeyAt, IsWeakAt}
 use Rattle.weak_pairs.specs.Pairs.{HasPairsAt}
-use Rattle.ephemeron_table.specs.Probes.{IsWeakCellAt, IsTableAt}
+use Rattle.ephemeron_table.specs.Probes.{IsTableAt}
 use Rattle.weak_pairs.specs.Tables.{number_at, key_in, value_offset}
 use Rattle.weak_pairs.specs.declared.table.Table.{Table}
 use Rattle.ephemeron_table.proofs.TablesRead.{weak_sound}

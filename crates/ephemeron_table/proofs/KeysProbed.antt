@@ -14,7 +14,7 @@ use Rattle.heap_model.specs.Kinds.{Pair, free_pair, IsFoundPair}
 use Rattle.heap_model.proofs.WordClasses.{hole_refers_not}
 use Rattle.write_barrier.specs.MutatorState.{Mutator, heap_of, MainShows}
 use Rattle.ephemeron_table.specs.WeakObjects.{IsKeyAt, IsWeakAt}
-use Rattle.ephemeron_table.specs.Probes.{IsTableAt, EndsBy}
+use Rattle.ephemeron_table.specs.Probes.{IsTableAt, ProbingEnds}
 use Rattle.weak_pairs.specs.Tables.{ArePairsIn, key_in, number_at}
 use Rattle.weak_pairs.specs.Probes.{PassesBefore, ProbesTo}
 use Rattle.ephemeron_table.specs.declared.probing.End.TheVariants as probe_end
@@ -97,7 +97,7 @@ none_where_free {weak = weak} {number} table place shows shown is_key is comes f
 pub none_at_free : {main : Mutator} {graph : Graph} {map key : ℕ} {weak : WeakObject} {number : ℕ} {table : Table}
     {place : ℕ} (read key_read : ℕ) → MainShows main graph → WeakShown main graph map weak
     → IsKeyAt main graph key number → IsTableAt (heap_of main) map table → read ≡ number_at (heap_of main) key
-    → key_read ≡ reference_word key → EndsBy (heap_of main) table read key_read (probe_end.Free place)
+    → key_read ≡ reference_word key → ProbingEnds (heap_of main) table read key_read (probe_end.Free place)
     → entry_value weak.entries number ≡ None
 none_at_free {main} {key = key} {number = number} {table}
     {place} read key_read shows shown is_key is reads key_reads ends =
@@ -112,7 +112,7 @@ none_at_free {main} {key = key} {number = number} {table}
 pub none_passed : {main : Mutator} {graph : Graph} {map key : ℕ} {weak : WeakObject} {number : ℕ} {table : Table}
     (read key_read : ℕ) → MainShows main graph → WeakShown main graph map weak → IsKeyAt main graph key number
     → IsTableAt (heap_of main) map table → read ≡ number_at (heap_of main) key → key_read ≡ reference_word key
-    → EndsBy (heap_of main) table read key_read probe_end.Nowhere → entry_value weak.entries number ≡ None
+    → ProbingEnds (heap_of main) table read key_read probe_end.Nowhere → entry_value weak.entries number ≡ None
 none_passed {main} {key = key} {number = number} {table} read key_read shows shown is_key is reads key_reads ends =
     let heap = heap_of main in
     let same : read ≡ number = reads ∙ number_is is_key.place in

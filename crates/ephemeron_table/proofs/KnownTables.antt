@@ -5,7 +5,7 @@ use Rattle.std.proofs.Common.{sym, ◌∙◌, ap, subst, arith, length-drop}
 use Rattle.std.proofs.lemmas.Bool.{false≢true, cases_lt}
 use Rattle.std.proofs.lemmas.Option.{same_Some, none-some, slice_get-map}
 use Rattle.tagged_word.specs.declared.layout.Kind.TheVariants as kind
-use Rattle.tagged_word.specs.Cells.{store_head, store_slot}
+use Rattle.tagged_word.specs.Cells.{store_head, store_slot, is_object_kind}
 use Rattle.tagged_word.proofs.Readings.{reference_to, reference_from}
 use Rattle.page_space.specs.Sizes.{AreWithin}
 use Rattle.linear_probing.specs.Tables.{FindsAll}
@@ -16,7 +16,7 @@ use Rattle.object_graph.specs.Graphs.{Graph, WeakObject}
 use Rattle.heap_table.specs.Seats.{heap_words}
 use Rattle.heap_model.specs.Types.{Kind, Cell}
 use Rattle.heap_model.specs.Heaps.{HasCell, words_of_cell}
-use Rattle.heap_model.specs.Slots.{is_object_kind, RefersToPlace}
+use Rattle.heap_model.specs.Slots.{RefersToPlace, IsWeakCellAt}
 use Rattle.heap_model.specs.Kinds.{HasWord, Pair, free_pair, HasTable, IsWeakCell, IsFoundPair, IsProbed, HasNoNumber}
 use Rattle.heap_model.specs.Kinds.{IsSoundOf, count_offset}
 use Rattle.heap_model.specs.Wholeness.{Whole, IsOwnedKind}
@@ -43,9 +43,10 @@ use Rattle.weak_pairs.specs.declared.table.Table.{Table}
 use Rattle.weak_pairs.proofs.KeyedPairs.{free_or_filled}
 use Rattle.weak_pairs.proofs.PairNumbers.{keyed_filled, length-numbers, number_place}
 use Rattle.weak_pairs.proofs.CountedPairs.{count_filled}
-use Rattle.weak_pairs.proofs.PairLists.{pairs_are, length-pairs_in}
+use Rattle.heap_model.proofs.PairLists.{length-pairs_in}
+use Rattle.weak_pairs.proofs.PairLists.{pairs_are}
 use Rattle.ephemeron_table.specs.WeakObjects.{IsWeakAt}
-use Rattle.ephemeron_table.specs.Probes.{IsWeakCellAt, IsTableAt}
+use Rattle.ephemeron_table.specs.Probes.{IsTableAt}
 use Rattle.ephemeron_table.proofs.KeysFound.{number_is, weak_shown, shown_there}
 use Rattle.ephemeron_table.proofs.TablesRead.{IsFoundTable, found_table, pair_found, pairs_counted, weak_sound}
 use Rattle.ephemeron_table.proofs.TablesRead.{weak_pairs}

@@ -30,7 +30,7 @@ use Rattle.weak_pairs.specs.Pairs.{HasPairsAt}
 use Rattle.ephemeron_table.specs.PairChanges.{PutsPair}
 use Rattle.ephemeron_table.specs.PairLaws.{PutsOne, WrittenEntriesShow}
 use Rattle.ephemeron_table.specs.WeakObjects.{IsKeyAt, IsWeakAt}
-use Rattle.ephemeron_table.specs.Probes.{EndsBy, IsTableAt}
+use Rattle.ephemeron_table.specs.Probes.{ProbingEnds, IsTableAt}
 use Rattle.ephemeron_table.specs.declared.probing.End.TheVariants as probe_end
 use Rattle.ephemeron_table.specs.Puttings.{PutsInTable}
 use Rattle.weak_pairs.specs.Tables.{pairs_of}
@@ -103,7 +103,7 @@ pub ends_free : {old : Mutator} {graph : Graph} {map key : ℕ} {weak : WeakObje
     → MainShows old graph → IsWeakAt old graph map weak → IsKeyAt old graph key number
     → IsValueHeld old graph value what → IsValue (length graph.objects) what
     → AreWithin old.seat.space.sizes old.seat.space.variables → IsTableAt (heap_of old) map table
-    → EndsBy (heap_of old) table number (reference_word key) (probe_end.Free place)
+    → ProbingEnds (heap_of old) table number (reference_word key) (probe_end.Free place)
     → count_at (heap_of old) map ≡ count → count < weak_most → 2 * (count + 1) ≤ table.capacity
     → EndsFree old graph map key weak number count place table value what
 ends_free shows is is_key held is_value sizes is_table ends counted few fits = record {

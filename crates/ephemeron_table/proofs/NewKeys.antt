@@ -13,7 +13,7 @@ use Rattle.write_barrier.specs.MutatorState.{Mutator, heap_of, MainShows}
 use Rattle.ephemeron_table.specs.EntryChanges.{map_room}
 use Rattle.ephemeron_table.specs.WeakObjects.{IsKeyAt, IsWeakAt}
 use Rattle.weak_pairs.specs.Pairs.{IsFilledAt}
-use Rattle.ephemeron_table.specs.Probes.{IsTableAt, EndsBy, EndsNew}
+use Rattle.ephemeron_table.specs.Probes.{IsTableAt, ProbingEnds, EndsNew}
 use Rattle.weak_pairs.specs.Tables.{ArePairsIn, pairs_of}
 use Rattle.weak_pairs.specs.Probes.{PassesBefore}
 use Rattle.ephemeron_table.specs.declared.probing.End.TheVariants as probe_end
@@ -53,7 +53,7 @@ lacks_nowhere {table = table} shows is is_key sizes is_table passes = record {
 pub lacks_where_free : {old : Mutator} {graph : Graph} {map key : ℕ} {weak : WeakObject} {number place : ℕ}
     {table : Table} → MainShows old graph → IsWeakAt old graph map weak → IsKeyAt old graph key number
     → AreWithin old.seat.space.sizes old.seat.space.variables → IsTableAt (heap_of old) map table
-    → EndsBy (heap_of old) table number (reference_word key) (probe_end.Free place)
+    → ProbingEnds (heap_of old) table number (reference_word key) (probe_end.Free place)
     → LacksKey old graph map key weak number table
 lacks_where_free {place = place} {table} shows is is_key sizes is_table ends = record {
   shows = shows;

@@ -8,7 +8,7 @@ use Rattle.write_barrier.specs.MutatorState.{Mutator, heap_of}
 use Rattle.object_cells.specs.Contents.{FillsSlot}
 use Rattle.object_cells.specs.Made.{store_content}
 use Rattle.ephemeron_table.specs.Rehashing.{PutsInNewTable}
-use Rattle.ephemeron_table.specs.Probes.{EndsBy}
+use Rattle.ephemeron_table.specs.Probes.{ProbingEnds}
 use Rattle.weak_pairs.specs.Tables.{key_in, value_offset}
 use Rattle.ephemeron_table.specs.Puttings.{PutsInTable}
 use Rattle.ephemeron_table.specs.PutWords.{PutsAt}
@@ -36,10 +36,10 @@ module _ {old new : Mutator} {graph : Graph} {map key : ℕ} {weak : WeakObject}
       → count_at (heap_of old) map ≡ count → 2 * (count + 1) ≤ table.capacity
       → PutsInTable old new map table place key (count + 1) value → PutsAt old new map key value
   puts_to_table {place} ends counted fits puts =
-      let by_number : EndsBy (heap_of old) table number (reference_word key) (probe_end.Free place) =
+      let by_number : ProbingEnds (heap_of old) table number (reference_word key) (probe_end.Free place) =
       (ends.comes, ends.free) in
       PutsAt.to_table table place ends.lacks.is_table
-      (subst (λ n. EndsBy (heap_of old) table n (reference_word key) (probe_end.Free place))
+      (subst (λ n. ProbingEnds (heap_of old) table n (reference_word key) (probe_end.Free place))
       (sym (number_is ends.lacks.is_key.place)) by_number)
       (omega (arith, counted, fits))
       (subst (λ n. PutsInTable old new map table place key (n + 1) value) (sym counted) puts)

@@ -12,7 +12,7 @@ use Rattle.page_space.proofs.Starts.{marks_start_is}
 use Rattle.heap_model.specs.Types.{Cell}
 use Rattle.cell_layout.proofs.OneCell.{cells_have_words}
 use Rattle.heap_model.specs.Heaps.{Heap, HasCell}
-use Rattle.heap_model.specs.Slots.{reference_word, undefined_word, RefersTo}
+use Rattle.heap_model.specs.Slots.{reference_word, undefined_word, RefersTo, IsWeakCellAt}
 use Rattle.heap_model.specs.Kinds.{HasWord, Pair, pairs_in, HasTable, IsFoundPair, IsPowerOfTwo, IsSoundOf, IsWeakCell}
 use Rattle.heap_model.specs.Kinds.{count_offset}
 use Rattle.heap_model.specs.Wholeness.{Whole}
@@ -27,9 +27,9 @@ use Rattle.object_cells.proofs.KeptCapacities.{capacity_read, length_stands}
 use Rattle.weak_pairs.specs.Pairs.{HasPairs, HasPairsAt, IsFilledAt}
 use Rattle.weak_pairs.proofs.CountedPairs.{count_filled}
 use Rattle.weak_pairs.proofs.PairWords.{one_pairs}
-use Rattle.ephemeron_table.specs.Probes.{IsWeakCellAt, IsTableAt}
+use Rattle.ephemeron_table.specs.Probes.{IsTableAt}
 use Rattle.weak_pairs.specs.Tables.{ArePairsIn, key_offset, value_offset}
-use Rattle.weak_pairs.proofs.PairLists.{length-pairs_in}
+use Rattle.heap_model.proofs.PairLists.{length-pairs_in}
 
 -- a table stands at the address, to which the word refers, and these are its pairs
 pub record IsFoundTable (heap : Heap) (word : ℕ) (pairs : List Pair) (at : ℕ) : Type 0 where

@@ -8,7 +8,7 @@ use Rattle.write_barrier.specs.MutatorState.{Mutator, heap_of}
 use Rattle.object_cells.specs.Contents.{FillsSlot}
 use Rattle.object_cells.specs.Made.{store_content}
 use Rattle.ephemeron_table.specs.Rehashing.{CanGrow, PutsInNewTable}
-use Rattle.ephemeron_table.specs.Probes.{EndsBy, IsTableAt}
+use Rattle.ephemeron_table.specs.Probes.{ProbingEnds, IsTableAt}
 use Rattle.weak_pairs.specs.Tables.{key_in, number_at, value_offset}
 use Rattle.ephemeron_table.specs.Puttings.{PutsInTable}
 use Rattle.ephemeron_table.specs.declared.probing.End.TheVariants as probe_end
@@ -27,7 +27,7 @@ pub data PutsAt (old new : Mutator) (map key : ℕ) (value : Held) : Type 0 wher
       → key_in (heap_of old) table.at place ≡ reference_word key
       → FillsSlot old new (table.at + value_offset place) (store_content value) → PutsAt old new map key value
   to_table : (table : Table) (place : ℕ) → IsTableAt (heap_of old) map table
-      → EndsBy (heap_of old) table (number_at (heap_of old) key) (reference_word key) (probe_end.Free place)
+      → ProbingEnds (heap_of old) table (number_at (heap_of old) key) (reference_word key) (probe_end.Free place)
       → 2 * (count_at (heap_of old) map + 1) ≤ table.capacity
       → PutsInTable old new map table place key (count_at (heap_of old) map + 1) value → PutsAt old new map key value
   to_new_table : (table : Table) → IsTableAt (heap_of old) map table → LacksKeyWord (heap_of old) table key

@@ -17,6 +17,7 @@ use tagged_word::cell::STORE_HEAD;
 use write_barrier::{Main, laws_of_values};
 
 /// The value of the key's entry in a weak map; undefined where there is none.
+#[inline(always)]
 pub fn get(main: &Main, map: u32, key: u32) -> Held
     requires shown { IsShownKey main.now map key }
     ensures entry { (graph : Graph) (weak : WeakObject) (number : ℕ) → MainShows main.now graph

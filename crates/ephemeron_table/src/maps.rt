@@ -69,6 +69,7 @@ fn put_new(
 /// The key is new and 256 pairs of the map's table are filled, or more, also such whose keys can no
 /// longer be reached; there is no room for a table or a box that the entry needs. In this order;
 /// nothing has changed.
+#[inline(always)]
 pub fn put(main: &mut Main, map: u32, key: u32, value: Held) -> Result<(), TableStop>
     requires shown { IsShownPutting main.old map key value }
     ensures entry { (graph : Graph) (weak : WeakObject) (number : ℕ) (what : GraphValue)

@@ -3,7 +3,7 @@ ghost use Rattle.std.specs.Prelude.{◌≡◌, ◌+◌, ◌<◌};
 ghost use Rattle.heap_table.specs.declared.phase.Phase.TheVariants.{Quiet};
 ghost use Rattle.linear_probing.specs.Tables.{place_after};
 ghost use Rattle.write_barrier.specs.MutatorState.{heap_of};
-ghost use Rattle.ephemeron_table.specs.Probes.{EndsBy};
+ghost use Rattle.ephemeron_table.specs.Probes.{ProbingEnds};
 ghost use Rattle.weak_pairs.specs.Tables.{TableIsWithin, key_in};
 
 use tagged_word::cell::STORE_HEAD;
@@ -45,7 +45,7 @@ pub fn key_of(main: &Main, table: Table, place: u32) -> Word
 pub(crate) fn probe(main: &Main, table: Table, number: u32, key: Word) -> End
     requires quiet { main.now.seat.phase ≡ Quiet }
     requires within { TableIsWithin (heap_of main.now) table }
-    ensures { EndsBy (heap_of main.now) table number key.0 result }
+    ensures { ProbingEnds (heap_of main.now) table number key.0 result }
 {
     for steps in 0..table.capacity {
         let at = place(table.capacity, number, steps);

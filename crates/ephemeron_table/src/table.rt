@@ -5,7 +5,8 @@ ghost use Rattle.heap_table.specs.declared.phase.Phase.TheVariants.{Quiet};
 ghost use Rattle.write_barrier.specs.MutatorState.{heap_of};
 ghost use Rattle.object_cells.specs.CellsAt.{IsQuietWhole};
 ghost use Rattle.weak_pairs.specs.Tables as tables;
-ghost use Rattle.ephemeron_table.specs.Probes.{IsTableAt, IsWeakCellAt};
+ghost use Rattle.heap_model.specs.Slots.{IsWeakCellAt};
+ghost use Rattle.ephemeron_table.specs.Probes.{IsTableAt};
 
 use tagged_word::cell::{LENGTH, STORE_SLOT};
 use tagged_word::{Header, Word};

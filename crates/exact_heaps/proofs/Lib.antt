@@ -1,1 +1,2 @@
 pub mod CollectedHeaps
+mod FilledHeaps

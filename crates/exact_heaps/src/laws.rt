@@ -1,4 +1,5 @@
-//! Laws of full collections.
+//! Laws of full collections, and of full heaps.
+ghost use Rattle.exact_heaps.specs.Filled.{FullIsFilled};
 ghost use Rattle.exact_heaps.specs.Laws.{SweptAndScavengedIsCollected};
 
 /// A heap that was marked, cleared and swept, and then scavenged so that all that lives is promoted,
@@ -7,4 +8,11 @@ ghost use Rattle.exact_heaps.specs.Laws.{SweptAndScavengedIsCollected};
 /// free runs.
 pub fn laws_of_collections()
     ensures { SweptAndScavengedIsCollected }
+{}
+
+/// In a heap that keeps exactly what can be reached, and into which so many words don't fit, survivors,
+/// used words and these are over the young generation; and each page has a cell of an object that can
+/// be reached, if these are not more than a page has.
+pub fn laws_of_full_heaps()
+    ensures { FullIsFilled }
 {}

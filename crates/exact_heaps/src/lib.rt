@@ -6,4 +6,4 @@
 
 mod laws;
 
-pub use laws::laws_of_collections;
+pub use laws::{laws_of_collections, laws_of_full_heaps};

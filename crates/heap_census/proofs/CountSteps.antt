@@ -11,7 +11,7 @@ use Rattle.page_space.specs.Extents.{roots_start}
 use Rattle.cell_layout.proofs.OneCell.{cells_have_words}
 use Rattle.heap_model.specs.Types.{Kind, Cell}
 use Rattle.heap_model.specs.Heaps.{Heap, Row, AreRows, HasCell, words_of_cell}
-use Rattle.heap_model.specs.Slots.{is_object_kind}
+use Rattle.tagged_word.specs.Cells.{is_object_kind}
 use Rattle.heap_model.specs.Wholeness.{HasRows}
 use Rattle.heap_model.proofs.CellsApart.{IsOfCell, has_is_cell, first_of_cell, cells_apart, used_few}
 use Rattle.heap_model.proofs.WordsAlike.{cell_below_roots}

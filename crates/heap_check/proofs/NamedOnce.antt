@@ -14,7 +14,7 @@ use Rattle.heap_check.specs.Naming.{IsOtherOf, IsSomeSlot, IsNamedOnce, HasOneOw
 use Rattle.heap_check.proofs.CellsOnward.{passed_or_next}
 
 -- a slot that names a cell is some object's, and refers to its address
-some_slot : {heap : Heap} {owner : Cell} {slot named : ℕ} → NamesFrom heap owner slot named
+pub some_slot : {heap : Heap} {owner : Cell} {slot named : ℕ} → NamesFrom heap owner slot named
     → IsSomeSlot heap named slot
 some_slot {heap} {owner} {slot} {named} names =
     let refers : names.word ≡ reference_word named = names.refers.refers ∙ ap reference_word names.at in
@@ -30,7 +30,7 @@ some_slot {heap} {owner} {slot} {named} names =
     }
 
 -- and the other way round, where a store, a weak table or a box stands there
-names_from : {heap : Heap} {slot : ℕ} (cell : Cell) → StandsIn heap cell → IsOwnedKind cell.layout.kind
+pub names_from : {heap : Heap} {slot : ℕ} (cell : Cell) → StandsIn heap cell → IsOwnedKind cell.layout.kind
     → (some : IsSomeSlot heap cell.at slot) → NamesFrom heap some.owner slot cell.at
 names_from {heap} cell stands owned some = record {
   words = words_of_cell heap some.owner;

@@ -2,7 +2,7 @@
 use Rattle.std.proofs.Common.{◌≡◌, ℕ, ◌+◌, ◌^◌, ◌<◌, ◌⊎◌, inl, inr, List, Contains, Option, Some, None}
 use Rattle.std.proofs.Common.{slice_get, IsTrue, refl, sym, ◌∙◌, ap, subst}
 use Rattle.std.proofs.lemmas.Option.{same_Some}
-use Rattle.tagged_word.specs.Cells.{store_slot, scavenge_offsets}
+use Rattle.tagged_word.specs.Cells.{store_slot, scavenge_offsets, is_object_kind}
 use Rattle.tagged_word.specs.Readings.{reference_in}
 use Rattle.tagged_word.proofs.Readings.{reference_from, reference_to}
 use Rattle.page_space.specs.Extents.{words_count}
@@ -10,7 +10,7 @@ use Rattle.heap_model.specs.Types.{Cell}
 use Rattle.cell_layout.specs.Cells.{IsCell}
 use Rattle.cell_layout.proofs.OneCell.{one_cell, slots_lie_within}
 use Rattle.heap_model.specs.Heaps.{Heap, HasCell, words_of_cell}
-use Rattle.heap_model.specs.Slots.{is_object_kind, reference_word}
+use Rattle.heap_model.specs.Slots.{reference_word}
 use Rattle.heap_model.specs.Kinds.{HasWord}
 use Rattle.heap_model.specs.Wholeness.{HasSlotAt}
 use Rattle.heap_model.proofs.CellsApart.{has_is_cell}

@@ -3,9 +3,9 @@ use Rattle.std.proofs.Common.{◌≡◌, ℕ, ◌≤◌, inl, inr, List, [], dro
 use Rattle.std.proofs.lemmas.Option.{same_Some}
 use Rattle.heap_model.specs.Types.{Kind, Cell}
 use Rattle.tagged_word.specs.declared.layout.Kind.TheVariants as kind
-use Rattle.tagged_word.specs.Cells.{store_head}
+use Rattle.tagged_word.specs.Cells.{store_head, is_object_kind}
 use Rattle.heap_model.specs.Heaps.{Heap, words_of_cell}
-use Rattle.heap_model.specs.Slots.{undefined_word, is_object_kind, RefersTo, HoldsStore}
+use Rattle.heap_model.specs.Slots.{undefined_word, RefersTo, HoldsStore}
 use Rattle.heap_model.specs.Kinds.{HasWord}
 use Rattle.heap_model.proofs.CellWords.{words_are_size, words_by_kind}
 use Rattle.heap_model.proofs.SlotWords.{same_target}

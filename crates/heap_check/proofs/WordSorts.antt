@@ -9,7 +9,8 @@ use Rattle.heap_model.specs.Types.{Kind, Cell}
 use Rattle.tagged_word.specs.declared.layout.Kind.TheVariants as kind
 use Rattle.tagged_word.specs.Words.{small}
 use Rattle.heap_model.specs.Heaps.{Heap, words_of_cell}
-use Rattle.heap_model.specs.Slots.{small_word, undefined_word, hole_word, reference_word, raw_word, is_object_kind}
+use Rattle.tagged_word.specs.Cells.{is_object_kind}
+use Rattle.heap_model.specs.Slots.{small_word, undefined_word, hole_word, reference_word, raw_word}
 use Rattle.heap_model.specs.Slots.{RefersTo, RefersToPlace, RefersToBox}
 use Rattle.heap_model.proofs.WordClasses.{small_refers_not, undefined_refers_not, hole_refers_not}
 use Rattle.heap_model.proofs.SlotWords.{same_target}

@@ -1,9 +1,9 @@
 -- The slots that name a cell, and whether there is another than one that is known.
 use Rattle.std.specs.Prelude.{◌≡◌, ℕ, ◌+◌, Contains, Option, Some, None, slice_get, IsTrue}
-use Rattle.tagged_word.specs.Cells.{store_slot, scavenge_offsets}
+use Rattle.tagged_word.specs.Cells.{store_slot, scavenge_offsets, is_object_kind}
 use Rattle.heap_model.specs.Types.{Cell}
 use Rattle.heap_model.specs.Heaps.{Heap, words_of_cell}
-use Rattle.heap_model.specs.Slots.{is_object_kind, reference_word}
+use Rattle.heap_model.specs.Slots.{reference_word}
 use Rattle.heap_model.specs.Kinds.{HasWord}
 use Rattle.heap_model.specs.Wholeness.{HasSlotAt, IsOwnedKind, NamesFrom}
 use Rattle.heap_check.specs.Spans.{StandsIn}

@@ -6,7 +6,8 @@ use Rattle.tagged_word.specs.declared.layout.Kind.TheVariants as kind
 use Rattle.tagged_word.specs.Words.{small}
 use Rattle.object_graph.specs.declared.value.Rep.TheVariants as rep
 use Rattle.heap_model.specs.Heaps.{Heap, words_of_cell}
-use Rattle.heap_model.specs.Slots.{small_word, undefined_word, hole_word, is_object_kind, RefersTo, RefersToPlace}
+use Rattle.tagged_word.specs.Cells.{is_object_kind}
+use Rattle.heap_model.specs.Slots.{small_word, undefined_word, hole_word, RefersTo, RefersToPlace}
 use Rattle.heap_model.specs.Slots.{RefersToBox}
 use Rattle.heap_check.specs.declared.slots.Referent.{Referent}
 use Rattle.heap_check.specs.declared.slots.Referent.TheVariants as sort

@@ -21,7 +21,7 @@ use tagged_word::Word;
 use tagged_word::cell::STORE_SLOT;
 
 /// A slot of some object that refers to an address.
-pub(crate) fn naming_slot(image: &HeapImage, named: u32, known: Option<u32>) -> Option<u32>
+pub fn naming_slot(image: &HeapImage, named: u32, known: Option<u32>) -> Option<u32>
     requires sized { HasWords (image_heap image.now) }
     requires rows { HasRows (image_heap image.now) }
     ensures { IsOtherOf (IsSomeSlot (image_heap image.now) named) known result }

@@ -44,7 +44,7 @@ fn has_one_owner(image: &HeapImage, cell: Cell) -> bool
 }
 
 /// Whether a cell of the kind belongs to one other: a store, a weak table or a box.
-fn is_owned(kind: Kind) -> bool
+pub fn is_owned(kind: Kind) -> bool
     ensures { IsTrue result ↔ IsOwnedKind kind }
 {
     match kind {

@@ -14,3 +14,6 @@ pub mod WordsMoved
 pub mod ComersFound
 pub mod CellsMoved
 pub mod HeapsMoved
+pub mod ExactCells
+pub mod NamedCells
+pub mod DeadStretches

@@ -8,3 +8,5 @@ pub mod Recorded
 pub mod FreeCells
 pub mod Moves
 pub mod MovedCells
+pub mod NeededCells
+pub mod DeadCells

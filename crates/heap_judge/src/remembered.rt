@@ -74,7 +74,7 @@ fn must_be_recorded(image: &HeapImage, at: u32) -> bool
 }
 
 /// The cell of which the word at an address is one.
-fn cell_over(image: &HeapImage, address: u32) -> Option<Cell>
+pub(crate) fn cell_over(image: &HeapImage, address: u32) -> Option<Cell>
     requires sized { HasWords (image_heap image.now) }
     requires rows { HasRows (image_heap image.now) }
     ensures { MatchOption result (HasNoCellOver (image_heap image.now) address)

@@ -30,7 +30,7 @@ pub fn shows(image: &HeapImage, ideal: &Ideal) -> Result<bool, IdealStop>
 }
 
 /// Whether an image shows the graph, the objects of which that can be reached are marked.
-fn shows_by(image: &HeapImage, ideal: &Ideal, marks: &[bool]) -> bool
+pub(crate) fn shows_by(image: &HeapImage, ideal: &Ideal, marks: &[bool]) -> bool
     requires marked { marks.now ≡ reach ideal.now.graph }
     ensures { IsTrue result ↔ Shows (image_heap image.now) ideal.now.graph }
 {

@@ -11,7 +11,8 @@ use Rattle.object_graph.specs.Graphs.{Graph}
 use Rattle.object_graph.specs.Reach.{is_marked, reach}
 use Rattle.handle_roots.specs.Roots.{FitsHeld}
 use Rattle.heap_model.specs.Heaps.{Heap}
-use Rattle.heap_model.specs.Slots.{is_object_kind, IsPlace, RefersToPlace}
+use Rattle.tagged_word.specs.Cells.{is_object_kind}
+use Rattle.heap_model.specs.Slots.{IsPlace, RefersToPlace}
 use Rattle.heap_model.specs.Wholeness.{Whole}
 use Rattle.heap_model.specs.Showing.{ShowsReached, ShowsHeld, ShowsBinding, Shows}
 use Rattle.heap_model.specs.Laws.{BindsAnew, bound, BindingsShow, IsNoKey, IsNoEntryKey, NewBindingsShow}

@@ -12,7 +12,7 @@ use Rattle.tagged_word.proofs.Layouts.{same_layout}
 use Rattle.shape_tree.specs.ShapeLayouts.{layout_of, layout_word}
 use Rattle.cell_layout.proofs.CellsThere.{slice_get-layouts_in}
 use Rattle.heap_model.specs.Heaps.{Heap, HasCell}
-use Rattle.heap_model.specs.Slots.{is_object_kind}
+use Rattle.tagged_word.specs.Cells.{is_object_kind}
 use Rattle.heap_model.specs.Wholeness.{HasSizes}
 use Rattle.heap_model.specs.Needs.{shape_at, is_box_at}
 use Rattle.heap_model.proofs.CellsApart.{has_is_cell}

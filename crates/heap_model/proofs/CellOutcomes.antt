@@ -9,7 +9,8 @@ use Rattle.tagged_word.specs.declared.layout.Kind.TheVariants as kind
 use Rattle.tagged_word.proofs.Members.{first_in, rest_in, in_cases}
 use Rattle.heap_model.specs.Types.{Kind, Path, Cell}
 use Rattle.heap_model.specs.Heaps.{Heap, HasCell, words_of_cell}
-use Rattle.heap_model.specs.Slots.{is_object_kind, RefersToBox}
+use Rattle.tagged_word.specs.Cells.{is_object_kind}
+use Rattle.heap_model.specs.Slots.{RefersToBox}
 use Rattle.heap_model.specs.Wholeness.{IsOwnedKind}
 use Rattle.heap_model.specs.Changes.{CellsChange, IsFilledIn, IsStill}
 use Rattle.heap_model.proofs.CellsApart.{one_at}

@@ -3,7 +3,8 @@ use Rattle.std.proofs.Common.{◌≡◌, ℕ, ◌<◌, List, IsTrue, refl, sym, 
 use Rattle.tagged_word.specs.declared.layout.Kind.TheVariants as kind
 use Rattle.heap_model.specs.Types.{Cell}
 use Rattle.heap_model.specs.Heaps.{Heap, HasCell}
-use Rattle.heap_model.specs.Slots.{is_object_kind, IsPlace}
+use Rattle.tagged_word.specs.Cells.{is_object_kind}
+use Rattle.heap_model.specs.Slots.{IsPlace}
 use Rattle.heap_model.specs.Kinds.{count_offset}
 use Rattle.heap_model.specs.Needs.{count_at}
 use Rattle.heap_model.proofs.CellWords.{words_are_size, word_there, words_by_kind}

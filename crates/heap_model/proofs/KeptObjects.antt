@@ -4,12 +4,12 @@ use Rattle.std.proofs.Common.{◌∙◌, ap, subst, arith, inl, inr, length-appe
 use Rattle.std.proofs.lemmas.List.{get_or_append_left}
 use Rattle.tagged_word.specs.declared.layout.Kind.TheVariants as kind
 use Rattle.tagged_word.specs.Shapes.{first_path_shape}
-use Rattle.tagged_word.specs.Cells.{store_slot}
+use Rattle.tagged_word.specs.Cells.{store_slot, is_object_kind}
 use Rattle.heap_model.specs.Types.{Path, PathField, Cell}
 use Rattle.object_graph.specs.declared.value.Rep.TheVariants as rep
 use Rattle.shape_tree.specs.Shapes.{IsPathShape, shape_path}
 use Rattle.heap_model.specs.Heaps.{Heap, HasCell}
-use Rattle.heap_model.specs.Slots.{is_object_kind, RefersTo, HoldsStore}
+use Rattle.heap_model.specs.Slots.{RefersTo, HoldsStore}
 use Rattle.heap_model.specs.Kinds.{HasWord, HasSlots, Pair, HasTable}
 use Rattle.heap_model.specs.Wholeness.{IsOwnedKind, HasSlotAt, NamesFrom}
 use Rattle.heap_model.proofs.ObjectSlots.{HasSlotOf, FieldSlot, store_slot_at}

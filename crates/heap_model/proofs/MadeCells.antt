@@ -1,10 +1,10 @@
 -- A cell that was made and refers to nothing.
 use Rattle.std.proofs.Common.{◌≡◌, ℕ, List, [], ◌∷◌, Contains, IsTrue, sym, subst}
-use Rattle.tagged_word.specs.Cells.{store_slot}
+use Rattle.tagged_word.specs.Cells.{store_slot, is_object_kind}
 use Rattle.tagged_word.proofs.Members.{one_in}
 use Rattle.heap_model.specs.Types.{Cell}
 use Rattle.heap_model.specs.Heaps.{Heap, HasCell, words_of_cell}
-use Rattle.heap_model.specs.Slots.{is_object_kind, reference_word}
+use Rattle.heap_model.specs.Slots.{reference_word}
 use Rattle.heap_model.specs.Kinds.{IsSoundCell}
 use Rattle.heap_model.specs.Wholeness.{HasSlotAt, NamesFrom}
 use Rattle.heap_model.specs.Laws.{RefersToNothing, MadeCellsAreOwn}

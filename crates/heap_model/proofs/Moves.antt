@@ -5,7 +5,8 @@ use Rattle.std.proofs.Common.{sym, ◌∙◌, ap, subst}
 use Rattle.std.proofs.lemmas.List.Elements.{Contains-append_left}
 use Rattle.heap_model.specs.Types.{Cell}
 use Rattle.heap_model.specs.Heaps.{Heap, HasCell, words_of_cell}
-use Rattle.heap_model.specs.Slots.{is_object_kind, reference_word, RefersToBox}
+use Rattle.tagged_word.specs.Cells.{is_object_kind}
+use Rattle.heap_model.specs.Slots.{reference_word, RefersToBox}
 use Rattle.heap_model.specs.Slots.{IsSlotWord}
 use Rattle.heap_model.specs.Kinds.{IsSoundOf, IsBoxCell}
 use Rattle.heap_model.specs.Wholeness.{IsOwnedKind, NamesFrom, Whole}

@@ -2,7 +2,8 @@
 use Rattle.std.proofs.Common.{◌≡◌, ℕ, List, IsTrue, sym, ◌∙◌, subst}
 use Rattle.heap_model.specs.Types.{Cell}
 use Rattle.heap_model.specs.Heaps.{Heap, HasCell}
-use Rattle.heap_model.specs.Slots.{is_object_kind, RefersTo, RefersToObject, IsSlotWord}
+use Rattle.tagged_word.specs.Cells.{is_object_kind}
+use Rattle.heap_model.specs.Slots.{RefersTo, RefersToObject, IsSlotWord}
 use Rattle.heap_model.specs.Wholeness.{IsOwnedKind, HasSlotAt, NamesFrom, Whole}
 use Rattle.heap_model.proofs.WordClasses.{same_reference, undefined_refers_not, hole_refers_not, small_refers_not}
 use Rattle.heap_model.proofs.CellsApart.{one_at}

@@ -2,12 +2,12 @@
 use Rattle.std.proofs.Common.{◌≡◌, ℕ, ◌≤◌, ◌⊎◌, inl, inr, List, [], Some, length, drop, slice_get, refl}
 use Rattle.std.proofs.Common.{sym, ◌∙◌, ap, subst, arith}
 use Rattle.tagged_word.specs.declared.layout.Kind.TheVariants as kind
-use Rattle.tagged_word.specs.Cells.{store_head}
+use Rattle.tagged_word.specs.Cells.{store_head, is_object_kind}
 use Rattle.std.proofs.lemmas.Option.{same_Some}
 use Rattle.object_graph.specs.Graphs.{Graph}
 use Rattle.heap_model.specs.Types.{Cell}
 use Rattle.heap_model.specs.Heaps.{Heap, HasCell}
-use Rattle.heap_model.specs.Slots.{undefined_word, is_object_kind, RefersTo, RefersToPlace}
+use Rattle.heap_model.specs.Slots.{undefined_word, RefersTo, RefersToPlace}
 use Rattle.heap_model.specs.Kinds.{Pair, pairs_in, HasTable, IsWeakCell, IsSoundOf}
 use Rattle.heap_model.specs.Showing.{HasPair, Shows}
 use Rattle.heap_model.specs.Laws.{NewObjectsAreNoKeys}

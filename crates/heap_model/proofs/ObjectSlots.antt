@@ -11,14 +11,14 @@ use Rattle.heap_model.specs.Types.{Kind, LayoutWord, Path, PathField, Rep, Cell}
 use Rattle.tagged_word.specs.declared.layout.Kind.TheVariants as kind
 use Rattle.tagged_word.specs.Layouts.{is_raw}
 use Rattle.tagged_word.specs.Cells.{words_of, scavenge_offsets, scavenge_offsets_of, in_object_offsets, store_head}
-use Rattle.tagged_word.specs.Cells.{store_slot, plain_head}
+use Rattle.tagged_word.specs.Cells.{store_slot, plain_head, is_object_kind}
 use Rattle.tagged_word.proofs.Members.{first_in, rest_in, in_range}
 use Rattle.tagged_word.proofs.Offsets.{IsInObject, in_object_in}
 use Rattle.object_graph.specs.declared.value.Rep.TheVariants as rep
 use Rattle.shape_tree.specs.Shapes.{IsPathShape, shape_path}
 use Rattle.shape_tree.specs.ShapeLayouts.{layout_of, raw_bit}
 use Rattle.heap_model.specs.Heaps.{Heap, HasCell}
-use Rattle.heap_model.specs.Slots.{is_object_kind, RefersTo, HoldsStore}
+use Rattle.heap_model.specs.Slots.{RefersTo, HoldsStore}
 use Rattle.heap_model.specs.Kinds.{HasWord, HasSlots, Pair, pairs_in, HasTable}
 use Rattle.heap_model.specs.Wholeness.{HasSizes, HasSlotAt}
 use Rattle.heap_model.proofs.CellWords.{slice_get-drop, slice_get-append_left, slice_get-append_right, words_by_kind}

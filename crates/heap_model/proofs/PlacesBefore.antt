@@ -4,7 +4,8 @@ use Rattle.std.proofs.Common.{IsTrue, inl, inr}
 use Rattle.std.proofs.lemmas.List.Elements.{Contains-append_cases}
 use Rattle.heap_model.specs.Types.{Cell}
 use Rattle.heap_model.specs.Heaps.{Heap, words_of_cell}
-use Rattle.heap_model.specs.Slots.{is_object_kind, IsPlace, RefersToPlace}
+use Rattle.tagged_word.specs.Cells.{is_object_kind}
+use Rattle.heap_model.specs.Slots.{IsPlace, RefersToPlace}
 use Rattle.heap_model.proofs.Moves.{Moves}
 
 -- the objects that were made have numbers from this one on

@@ -8,7 +8,8 @@ use Rattle.object_graph.specs.Graphs.{Graph}
 use Rattle.object_graph.specs.Reach.{is_marked, reach}
 use Rattle.object_graph.proofs.Rounds.{marked_within, length-rounds}
 use Rattle.heap_model.specs.Heaps.{Heap, words_of_cell}
-use Rattle.heap_model.specs.Slots.{is_object_kind, IsPlace}
+use Rattle.tagged_word.specs.Cells.{is_object_kind}
+use Rattle.heap_model.specs.Slots.{IsPlace}
 use Rattle.heap_model.specs.Showing.{ShowsReached}
 use Rattle.heap_model.specs.Changes.{IsShown}
 use Rattle.heap_model.proofs.CellOutcomes.{object_is_no_filler, stays_standing}

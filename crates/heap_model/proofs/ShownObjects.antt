@@ -8,7 +8,8 @@ use Rattle.object_graph.specs.declared.object.Object.TheVariants as graph_object
 use Rattle.object_graph.specs.Reach.{is_marked}
 use Rattle.shape_tree.specs.Shapes.{shape_path}
 use Rattle.heap_model.specs.Heaps.{Heap}
-use Rattle.heap_model.specs.Slots.{is_object_kind, RefersToPlace}
+use Rattle.tagged_word.specs.Cells.{is_object_kind}
+use Rattle.heap_model.specs.Slots.{RefersToPlace}
 use Rattle.heap_model.specs.Kinds.{Pair, IsPlainCell, IsSoundOf}
 use Rattle.heap_model.specs.Showing.{ShowsPlain, ShowsList, ShowsOnce, IsKnownKey, ShowsWeak, HasPair, ShowsObject}
 use Rattle.heap_model.proofs.ObjectSlots.{FieldSlot, field_slot, slot_beside, value_slot}

@@ -6,11 +6,11 @@ use Rattle.std.proofs.lemmas.Option.{same_Some, slice_get_within, get_or_from_sl
 use Rattle.heap_model.specs.Types.{Kind, Path, PathField, Rep, Cell}
 use Rattle.tagged_word.specs.declared.layout.Kind.TheVariants as kind
 use Rattle.tagged_word.specs.Layouts.{is_raw}
-use Rattle.tagged_word.specs.Cells.{store_slot}
+use Rattle.tagged_word.specs.Cells.{store_slot, is_object_kind}
 use Rattle.object_graph.specs.declared.value.Rep.TheVariants as rep
 use Rattle.shape_tree.specs.ShapeLayouts.{layout_of, raw_bit}
 use Rattle.heap_model.specs.Heaps.{Heap, HasCell}
-use Rattle.heap_model.specs.Slots.{undefined_word, is_object_kind, RefersTo, IsSlotWord, IsValueWord, IsWideWord}
+use Rattle.heap_model.specs.Slots.{undefined_word, RefersTo, IsSlotWord, IsValueWord, IsWideWord}
 use Rattle.heap_model.specs.Slots.{IsFieldWord, HoldsStore}
 use Rattle.heap_model.specs.Kinds.{HasWord, Pair, HasTable, IsSoundOf}
 use Rattle.heap_model.specs.Wholeness.{IsOwnedKind, Whole}

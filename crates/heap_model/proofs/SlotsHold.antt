@@ -7,7 +7,7 @@ use Rattle.heap_model.specs.Types.{Kind, LayoutWord, Path, PathField, Cell}
 use Rattle.tagged_word.specs.declared.layout.Kind.TheVariants as kind
 use Rattle.tagged_word.specs.Layouts.{is_raw}
 use Rattle.tagged_word.specs.Cells.{scavenge_offsets, scavenge_offsets_of, in_object_offsets, store_head, store_slot}
-use Rattle.tagged_word.specs.Cells.{plain_head}
+use Rattle.tagged_word.specs.Cells.{plain_head, is_object_kind}
 use Rattle.tagged_word.proofs.Members.{in_cases, one_in, range_bounds}
 use Rattle.tagged_word.proofs.Offsets.{in_object_is}
 use Rattle.object_graph.specs.declared.value.Rep.TheVariants as rep
@@ -15,7 +15,7 @@ use Rattle.shape_tree.specs.Shapes.{shape_path}
 use Rattle.shape_tree.specs.ShapeLayouts.{layout_of, in_object_fields}
 use Rattle.cell_layout.proofs.OneCell.{slots_lie_within}
 use Rattle.heap_model.specs.Heaps.{Heap, HasCell}
-use Rattle.heap_model.specs.Slots.{is_object_kind, RefersTo, IsSlotWord}
+use Rattle.heap_model.specs.Slots.{RefersTo, IsSlotWord}
 use Rattle.heap_model.specs.Kinds.{HasWord, IsPlainCell, IsStoreCell, IsSoundOf, IsSoundCell}
 use Rattle.heap_model.specs.Wholeness.{HasSizes, HasSlotAt, Whole}
 use Rattle.heap_model.proofs.CellsApart.{IsOfCell, has_is_cell}

@@ -4,10 +4,10 @@ use Rattle.std.proofs.Common.{◌∙◌, ap, subst}
 use Rattle.std.proofs.lemmas.List.Elements.{All-weaker}
 use Rattle.heap_model.specs.Types.{Kind, Path, Cell}
 use Rattle.tagged_word.specs.declared.layout.Kind.TheVariants as kind
-use Rattle.tagged_word.specs.Cells.{store_head}
+use Rattle.tagged_word.specs.Cells.{store_head, is_object_kind}
 use Rattle.shape_tree.specs.Shapes.{shape_path}
 use Rattle.heap_model.specs.Heaps.{Heap, HasCell}
-use Rattle.heap_model.specs.Slots.{is_object_kind, IsSlotWord}
+use Rattle.heap_model.specs.Slots.{IsSlotWord}
 use Rattle.heap_model.specs.Kinds.{HoldFields, IsPlainCell, IsListCell, Pair, free_pair, IsFoundPair, IsWeakCell}
 use Rattle.heap_model.specs.Kinds.{IsStoreCell, IsSoundOf, IsSoundCell}
 use Rattle.heap_model.proofs.ObjectSlots.{field_slot, slot_beside, value_slot}

@@ -4,7 +4,7 @@ use Rattle.std.proofs.Common.{◌∙◌, ap, subst, arith}
 use Rattle.std.proofs.lemmas.Bool.{false≢true}
 use Rattle.std.proofs.lemmas.List.Elements.{Contains-append_cases}
 use Rattle.tagged_word.specs.declared.layout.Kind.TheVariants as kind
-use Rattle.tagged_word.specs.Cells.{is_free_kind}
+use Rattle.tagged_word.specs.Cells.{is_free_kind, is_object_kind}
 use Rattle.page_space.specs.declared.region.Region.TheVariants.{Segment}
 use Rattle.page_space.specs.Extents.{Space, Extent, segments_start}
 use Rattle.page_space.proofs.Covering.{disjoint}
@@ -12,7 +12,6 @@ use Rattle.page_space.proofs.Standing.{start_of}
 use Rattle.page_space.proofs.Placed.{placed}
 use Rattle.heap_model.specs.Types.{Kind, Cell, Held}
 use Rattle.heap_model.specs.Heaps.{Heap, HasCell, words_of_cell}
-use Rattle.heap_model.specs.Slots.{is_object_kind}
 use Rattle.heap_model.specs.Wholeness.{HasRows, Whole, IsOwnedKind}
 use Rattle.heap_model.specs.Changes.{IsNewlyUsed, CellsChange, IsOwnOf}
 use Rattle.heap_model.specs.Laws.{bound}

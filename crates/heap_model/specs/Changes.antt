@@ -9,7 +9,7 @@ use Rattle.page_space.specs.Extents.{Extent, eden_start, roots_start, layouts_st
 use Rattle.cell_layout.specs.Cells.{IsRow}
 use Rattle.cell_layout.specs.CellLaws.{IsOfSlot}
 use Rattle.heap_model.specs.Heaps.{Heap, Row, IsUsedRow, HasCell, cell_extents, words_of_cell}
-use Rattle.heap_model.specs.Slots.{is_object_kind}
+use Rattle.tagged_word.specs.Cells.{is_object_kind}
 use Rattle.heap_model.specs.Kinds.{IsSoundCell}
 use Rattle.heap_model.specs.Wholeness.{HasSizes, NamesFrom}
 use Rattle.heap_model.specs.Showing.{ShowsObject}

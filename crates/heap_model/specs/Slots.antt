@@ -7,6 +7,7 @@ use Rattle.tagged_word.specs.declared.layout.Kind.TheVariants as kind
 use Rattle.tagged_word.specs.Words.{small, bits_of}
 use Rattle.tagged_word.specs.Odds.{undefined_code, hole_code}
 use Rattle.tagged_word.specs.Cells.{store_head}
+pub use Rattle.tagged_word.specs.Cells.{is_object_kind}
 use Rattle.object_graph.specs.declared.value.Rep.TheVariants as rep
 use Rattle.heap_model.specs.Heaps.{Heap, HasCell}
 
@@ -35,13 +36,6 @@ pub record RefersTo (heap : Heap) (word : ℕ) (cell : Cell) (words : List ℕ) 
   pub refers : word ≡ reference_word cell.at
   pub has : HasCell heap cell words
 
--- an object's own cell
-abbrev pub is_object_kind : Kind → Bool
-is_object_kind kind.Plain = true
-is_object_kind kind.List = true
-is_object_kind kind.Weak = true
-is_object_kind _ = false
-
 -- an object's cell stands at the address and carries the number
 pub record IsPlace (heap : Heap) (number at : ℕ) : Type 0 where
   pub cell : Cell
@@ -50,6 +44,14 @@ pub record IsPlace (heap : Heap) (number at : ℕ) : Type 0 where
   pub stands : cell.at ≡ at
   pub object : IsTrue (is_object_kind cell.layout.kind)
   pub carries : cell.header.object ≡ number
+
+-- a weak map's cell stands at the address
+pub record IsWeakCellAt (heap : Heap) (at : ℕ) : Type 0 where
+  pub cell : Cell
+  pub words : List ℕ
+  pub has : HasCell heap cell words
+  pub stands : cell.at ≡ at
+  pub of_kind : cell.layout.kind ≡ kind.Weak
 
 -- the word refers to the place of an object
 pub record RefersToPlace (heap : Heap) (word number : ℕ) : Type 0 where

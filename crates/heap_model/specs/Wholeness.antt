@@ -3,14 +3,14 @@ use Rattle.std.specs.Prelude.{◌≡◌, ℕ, ◌+◌, ◌<◌, ◌≤◌, List,
 use Rattle.heap_model.specs.Types.{Kind, Cell, Held}
 use Rattle.tagged_word.specs.declared.layout.Kind.TheVariants as kind
 use Rattle.tagged_word.specs.Shapes.{shapes_most}
-use Rattle.tagged_word.specs.Cells.{store_slot, scavenge_offsets}
+use Rattle.tagged_word.specs.Cells.{store_slot, scavenge_offsets, is_object_kind}
 use Rattle.page_space.specs.Extents.{layouts_start, marks_start}
 use Rattle.shape_tree.specs.Shapes.{AreShapes}
 use Rattle.shape_tree.specs.ShapeLayouts.{layout_word}
 use Rattle.handle_roots.specs.declared.held.Held.TheVariants as held
 use Rattle.handle_roots.specs.Roots.{Holds}
 use Rattle.heap_model.specs.Heaps.{Heap, Row, AreRows, HasCell, survivors_of}
-use Rattle.heap_model.specs.Slots.{is_object_kind, RefersTo, IsPlace}
+use Rattle.heap_model.specs.Slots.{RefersTo, IsPlace}
 use Rattle.heap_model.specs.Kinds.{HasWord, IsSoundCell}
 
 -- As many words as the regions before the marks have. The paths are those of a tree of shapes, and the layout words are

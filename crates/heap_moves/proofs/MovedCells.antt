@@ -1,9 +1,9 @@
 -- The cells of a moved heap: where those that stay stand, and where those that stand there are from.
 use Rattle.std.proofs.Common.{◌≡◌, ℕ, List, Option, Some, IsTrue, refl, sym, ◌∙◌, ap, subst}
 use Rattle.heap_model.specs.Types.{Cell}
-use Rattle.tagged_word.specs.Cells.{is_free_kind}
+use Rattle.tagged_word.specs.Cells.{is_free_kind, is_object_kind}
 use Rattle.heap_model.specs.Heaps.{Heap, HasCell}
-use Rattle.heap_model.specs.Slots.{is_object_kind, IsPlace, RefersToPlace}
+use Rattle.heap_model.specs.Slots.{IsPlace, RefersToPlace}
 use Rattle.heap_model.proofs.CellsApart.{one_at, one_words}
 use Rattle.heap_model.proofs.StaysCollectable.{object_not_free}
 use Rattle.heap_moves.specs.Moved.{IsMovedWord, AreMoved, moved_to, IsFrom, IsMoved}

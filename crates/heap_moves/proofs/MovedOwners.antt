@@ -1,11 +1,11 @@
 -- No two slots of a moved heap name one store, table or box.
 use Rattle.std.proofs.Common.{◌≡◌, ℕ, ◌+◌, ◌<◌, List, Option, Some, Contains, IsTrue, refl, sym, ◌∙◌, ap, subst, arith}
 use Rattle.std.proofs.lemmas.Option.{same_Some}
-use Rattle.tagged_word.specs.Cells.{scavenge_offsets, store_slot}
+use Rattle.tagged_word.specs.Cells.{scavenge_offsets, store_slot, is_object_kind}
 use Rattle.heap_model.specs.Types.{Cell}
 use Rattle.cell_layout.proofs.OneCell.{slots_lie_within}
 use Rattle.heap_model.specs.Heaps.{Heap, HasCell}
-use Rattle.heap_model.specs.Slots.{reference_word, is_object_kind, RefersTo, IsSlotWord}
+use Rattle.heap_model.specs.Slots.{reference_word, RefersTo, IsSlotWord}
 use Rattle.heap_model.specs.Kinds.{HasWord}
 use Rattle.heap_model.specs.Wholeness.{IsOwnedKind, HasSlotAt, NamesFrom, IsOwned}
 use Rattle.heap_model.proofs.WordClasses.{same_reference, undefined_refers_not, hole_refers_not, small_refers_not}

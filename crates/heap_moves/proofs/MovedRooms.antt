@@ -5,12 +5,12 @@ use Rattle.std.proofs.lemmas.Bool.{cases_lt, false≢true}
 use Rattle.std.proofs.lemmas.Option.{slice_get-get_or}
 use Rattle.heap_model.specs.Types.{Kind, Cell}
 use Rattle.tagged_word.specs.declared.layout.Kind.TheVariants as kind
-use Rattle.tagged_word.specs.Cells.{words_of, scavenge_offsets, store_slot, length_offset, store_head}
+use Rattle.tagged_word.specs.Cells.{words_of, scavenge_offsets, store_slot, length_offset, store_head, is_object_kind}
 use Rattle.tagged_word.specs.Readings.{reference_in}
 use Rattle.tagged_word.proofs.Readings.{reference_from, reference_to}
 use Rattle.tagged_word.proofs.Members.{one_in, range_bounds}
 use Rattle.heap_model.specs.Heaps.{Heap, HasCell}
-use Rattle.heap_model.specs.Slots.{reference_word, is_object_kind, RefersTo}
+use Rattle.heap_model.specs.Slots.{reference_word, RefersTo}
 use Rattle.heap_model.specs.Kinds.{HasWord, count_offset}
 use Rattle.heap_model.specs.Needs.{word_at, capacity_by}
 use Rattle.heap_model.proofs.CellsApart.{one_at}

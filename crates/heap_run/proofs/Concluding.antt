@@ -13,7 +13,9 @@ use Rattle.byte_ends.proofs.Appending.{Appends-append}
 use Rattle.heap_script.specs.declared.finished.How.{How}
 use Rattle.heap_script.specs.declared.finished.How.TheVariants.{End, Fault, HeapFull, SinkFault, LineLimit}
 use Rattle.heap_script.specs.declared.finished.Finished.{Finished}
-use Rattle.heap_script.specs.Runs.{RanTo, HasSpent, EndsRun, Finishes, need_at, IsCut}
+use Rattle.heap_script.specs.Reached.{RanTo}
+use Rattle.heap_script.specs.Spending.{HasSpent}
+use Rattle.heap_script.specs.Runs.{EndsRun, Finishes, need_at, IsCut}
 use Rattle.heap_script.proofs.Handing.{front-behind, front-longer}
 use Rattle.heap_script.specs.TheConstants.{OUTPUT_BYTES}
 use Rattle.heap_run.specs.declared.ended.Kept.{Kept}

@@ -22,9 +22,10 @@ use Rattle.collector.specs.ImageLaws.{ImagesStayStuck, ImagesAreExact, ImagesKee
 use Rattle.heap_script.specs.declared.finished.How.{How}
 use Rattle.heap_script.specs.declared.finished.How.TheVariants as how
 use Rattle.heap_script.specs.declared.finished.Finished.{Finished}
-use Rattle.heap_script.specs.Stages.{Stage}
-use Rattle.heap_script.specs.Runs.{left_after, RanTo, Spends, HasSpent, IsFull, LacksRoomFor, IsFullAt, EndsRun}
-use Rattle.heap_script.specs.Runs.{FailedAt, Writes, Finishes}
+use Rattle.heap_script.specs.Stages.{Stage, Collections, fully_collected}
+use Rattle.heap_script.specs.Reached.{left_after, RanTo}
+use Rattle.heap_script.specs.Spending.{Spends, HasSpent}
+use Rattle.heap_script.specs.Runs.{IsFull, LacksRoomFor, IsFullAt, EndsRun, FailedAt, Writes, Finishes}
 
 -- the laws of images, and that words fit nowhere which no run has
 pub record Laws : Type 0 where
@@ -82,11 +83,11 @@ spent_imaged {heap = heap} {image = image} laws r is spent = record {
 }
 
 -- behind a full collection free runs neither overlap nor touch
-rows_apart : {script : ScriptText} {stage : Stage} {n collections : ℕ} → Spends script stage n collections
-    → collections ≡ 2 → AreFree stage.rows
-rows_apart (Spends.none stage unused none rows reached) is = absurd (omega (arith, is))
-rows_apart (Spends.one_more old new n before line spends next reached after allocates) is = absurd (omega (arith, is))
-rows_apart (Spends.once old new n spends reached wants after collected) is = absurd (omega (arith, is))
+rows_apart : {script : ScriptText} {stage : Stage} {n : ℕ} {collections : Collections}
+    → Spends script stage n collections → collections ≡ fully_collected → AreFree stage.rows
+rows_apart (Spends.none stage unused none rows reached) is = absurd (cc)
+rows_apart (Spends.one_more old new n before line spends next reached after allocates) is = absurd (cc)
+rows_apart (Spends.once old new n spends reached wants after collected) is = absurd (cc)
 rows_apart (Spends.twice old new n spends reached lacks after collected) is = collected.apart
 rows_apart (Spends.cleared old new n spends reached wants after collected) is = collected.apart
 
@@ -146,8 +147,8 @@ full_at {heap = heap} {image = image} rows graph line need (next ∷ more) laws 
     (number-is, full_for {heap = heap} {image = image} rows graph need next.command laws shows apart is full)
 
 -- a run comes to the same on the image
-comes_imaged : {script : ScriptText} {heap image : Heap} {n : ℕ} (rows : List (List Run)) (collections : ℕ)
-    (came : How) (line : ℕ) → Laws → IsImageOf heap image → (collections ≡ 2 → AreFree rows)
+comes_imaged : {script : ScriptText} {heap image : Heap} {n : ℕ} (rows : List (List Run)) (collections : Collections)
+    (came : How) (line : ℕ) → Laws → IsImageOf heap image → (collections ≡ fully_collected → AreFree rows)
     → (r : RanTo script heap n) → EndsRun script heap rows collections n r.so_far came line
     → EndsRun script image rows collections n r.so_far came line
 comes_imaged rows collections how.End line laws is apart r comes = comes
@@ -164,8 +165,9 @@ comes_imaged rows collections (how.SinkFault need) line laws is apart r comes = 
 comes_imaged rows collections how.LineLimit line laws is apart r comes = comes
 
 -- the sink failed where it failed
-failed_imaged : {script : ScriptText} {heap image : Heap} {n : ℕ} (rows : List (List Run)) (collections line need : ℕ)
-    → Laws → IsImageOf heap image → (collections ≡ 2 → AreFree rows) → (r : RanTo script heap n)
+failed_imaged : {script : ScriptText} {heap image : Heap} {n : ℕ} (rows : List (List Run)) (collections : Collections)
+    (line need : ℕ)
+    → Laws → IsImageOf heap image → (collections ≡ fully_collected → AreFree rows) → (r : RanTo script heap n)
     → FailedAt script heap rows collections n r.so_far line need
     → FailedAt script image rows collections n r.so_far line need
 failed_imaged rows collections line need laws is apart r (inl between) = inl between
@@ -173,9 +175,10 @@ failed_imaged rows collections line need laws is apart r (inr (came, comes, same
     inr (came, comes_imaged rows collections came line laws is apart r comes, same)
 
 -- what was written was written
-writes_imaged : {script : ScriptText} {heap image : Heap} (rows : List (List Run)) (collections : ℕ) (came : How)
-    (finished : Finished) (old new : List ℕ → Type 0) (faults_old faults_new : ℕ) → Laws → IsImageOf heap image
-    → (collections ≡ 2 → AreFree rows) → (r : RanTo script heap finished.executed)
+writes_imaged : {script : ScriptText} {heap image : Heap} (rows : List (List Run)) (collections : Collections)
+    (came : How) (finished : Finished) (old new : List ℕ → Type 0) (faults_old faults_new : ℕ) → Laws
+    → IsImageOf heap image
+    → (collections ≡ fully_collected → AreFree rows) → (r : RanTo script heap finished.executed)
     → Writes script heap rows collections finished r.so_far old new faults_old faults_new came
     → Writes script image rows collections finished r.so_far old new faults_old faults_new came
 writes_imaged rows collections how.End finished old new fo fn laws is apart r (comes, appends, steady) =

@@ -15,7 +15,10 @@ use Rattle.byte_ends.specs.Sink.{Appends, AppendsSome}
 use Rattle.heap_script.specs.declared.finished.How.{How}
 use Rattle.heap_script.specs.declared.finished.How.TheVariants as how
 use Rattle.heap_script.specs.TheConstants.{OUTPUT_BYTES}
-use Rattle.heap_script.specs.Runs.{RanTo, HasSpent, EndsRun, need_at, IsDue}
+use Rattle.heap_script.specs.Stages.{uncollected}
+use Rattle.heap_script.specs.Reached.{RanTo}
+use Rattle.heap_script.specs.Spending.{HasSpent}
+use Rattle.heap_script.specs.Runs.{EndsRun, need_at, IsDue}
 use Rattle.heap_model.specs.Images.{image_heap}
 use Rattle.heap_model.specs.Wholeness.{Blank}
 use Rattle.heap_run.specs.declared.ended.Kept.{Kept}
@@ -141,7 +144,7 @@ pub data Comes (words : List (List ℕ)) (input : Input) : Answer → Type 0 whe
   -- heap was collected for the next line
   cut_short : (sizes : Sizes) (bytes : List ℕ) (script : ScriptText) (kept : Kept)
       → AsksToRun words sizes → ReadsAll input bytes → reading bytes ≡ Ok script
-      → (keeps : IsKeptHeapOf sizes script kept) → kept.line ≡ 0 → kept.need ≡ 0 → keeps.spent.collections ≡ 0
+      → (keeps : IsKeptHeapOf sizes script kept) → kept.line ≡ 0 → kept.need ≡ 0 → keeps.spent.collections ≡ uncollected
       → IsDue script kept.executed
       → Comes words input (record { told = keeps.reached.so_far.bytes; last = None; kept = Some kept })
   -- the words ask for a generated script, which is told; nothing is read, and no heap is opened

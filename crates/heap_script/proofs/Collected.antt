@@ -23,13 +23,14 @@ use Rattle.collector.specs.Making.{IsOutOfRoom}
 use Rattle.collector.specs.States.{HeapState}
 use Rattle.collector.proofs.Keeping.{still_shows}
 use Rattle.heap_script.specs.Collecting.{IsSound, LacksWords, FindsPairs, CollectsFully}
-use Rattle.heap_script.specs.Stages.{stage_of}
-use Rattle.heap_script.specs.Runs.{left_after, RanTo, Spends, IsCollected, WantsRoom}
-use Rattle.heap_script.specs.Runs.{LacksAllRoom, WantsClearing}
+use Rattle.heap_script.specs.Stages.{Collections, uncollected, scavenged, fully_collected, stage_of}
+use Rattle.heap_script.specs.Reached.{left_after, RanTo}
+use Rattle.heap_script.specs.Spending.{Spends, IsCollected, WantsRoom, LacksAllRoom, WantsClearing}
 use Rattle.heap_script.proofs.Lacking.{full_for}
 use Rattle.heap_script.proofs.Carrying.{unfull_behind}
 use Rattle.heap_script.proofs.GoingOn.{goes-on}
-use Rattle.heap_script.proofs.Running.{Running, next_at}
+use Rattle.heap_script.specs.Between.{Running}
+use Rattle.heap_script.proofs.Running.{next_at}
 
 -- what a scavenge leaves of a heap that shows a graph, whose objects have the rooms that they had
 pub collected_by : {old new : Mutator} {graph : Graph} → Scavenges old new false → KeepsGraphs old new
@@ -149,7 +150,7 @@ fully_between collects space rows = record {
 
 -- between two lines, on that heap, by what was spent
 abbrev Running-collected : {script : ScriptText} {heap : HeapState} {mid : Mutator} {objects : ℕ} {waiting : List ℕ}
-    {old new : List ℕ → Type 0} {at : ℕ} {ts : List ℕ} {n before behind : ℕ}
+    {old new : List ℕ → Type 0} {at : ℕ} {ts : List ℕ} {n : ℕ} {before behind : Collections}
     → (r : Running script heap objects waiting old new at ts n before)
     → IsBetween heap.main mid r.reached.so_far.graph
     → (RanTo script (heap_of mid) n → Spends script (stage_of mid) n behind)
@@ -171,10 +172,10 @@ Running-collected {heap = heap} {mid} r between spends =
 -- behind the scavenge for the words that the next command needs, which promotes survivors
 abbrev pub Running-once : {script : ScriptText} {heap : HeapState} {mid : Mutator} {objects : ℕ} {waiting : List ℕ}
     {old new : List ℕ → Type 0} {at : ℕ} {ts : List ℕ} {n : ℕ} {command : Command} {need : ℕ}
-    → (r : Running script heap objects waiting old new at ts n 0) → Wants script n r.reached.so_far command
+    → (r : Running script heap objects waiting old new at ts n uncollected) → Wants script n r.reached.so_far command
     → IsSound script.fields r.reached.so_far.graph command
     → LacksWords heap.main r.reached.so_far.graph command need → Scavenges heap.main mid false
-    → KeepsGraphs heap.main mid → Running script (heap_with heap mid) objects waiting old new at ts n 1
+    → KeepsGraphs heap.main mid → Running script (heap_with heap mid) objects waiting old new at ts n scavenged
 Running-once {heap = heap} {mid} {n = n} {need = need} r wanted sound lacks scavenges keeps =
     Running-collected r
     (record {
@@ -199,9 +200,9 @@ between_fully (CollectsFully.for_pairs entries finds collects) = fully_between c
 -- eden, or its map is full of pairs
 pub spends_fully : {script : ScriptText} {heap : HeapState} {last : Mutator} {objects : ℕ} {waiting : List ℕ}
     {old new : List ℕ → Type 0} {at : ℕ} {ts : List ℕ} {n : ℕ} {command : Command}
-    → (r : Running script heap objects waiting old new at ts n 0) → Wants script n r.reached.so_far command
+    → (r : Running script heap objects waiting old new at ts n uncollected) → Wants script n r.reached.so_far command
     → CollectsFully script.fields heap.main last r.reached.so_far.graph command → RanTo script (heap_of last) n
-    → Spends script (stage_of last) n 2
+    → Spends script (stage_of last) n fully_collected
 spends_fully {last = last} {n = n} r wanted
     (CollectsFully.for_room mid need sound lacks scavenges keeps out collects) reached =
     let once = Running-once r wanted sound lacks scavenges keeps in
@@ -215,7 +216,7 @@ spends_fully {heap = heap} {last} {n = n} r wanted (CollectsFully.for_pairs entr
 -- so a run goes on behind it
 abbrev pub Running-fully : {script : ScriptText} {heap : HeapState} {last : Mutator} {objects : ℕ} {waiting : List ℕ}
     {old new : List ℕ → Type 0} {at : ℕ} {ts : List ℕ} {n : ℕ} {command : Command}
-    → (r : Running script heap objects waiting old new at ts n 0) → Wants script n r.reached.so_far command
+    → (r : Running script heap objects waiting old new at ts n uncollected) → Wants script n r.reached.so_far command
     → CollectsFully script.fields heap.main last r.reached.so_far.graph command
-    → Running script (heap_with heap last) objects waiting old new at ts n 2
+    → Running script (heap_with heap last) objects waiting old new at ts n fully_collected
 Running-fully r wanted fully = Running-collected r (between_fully fully) (spends_fully r wanted fully)

@@ -23,12 +23,13 @@ use Rattle.collector.proofs.Keeping.{same_heap}
 use Rattle.heap_script.specs.declared.finished.How.{How}
 use Rattle.heap_script.specs.declared.finished.How.TheVariants as how
 use Rattle.heap_script.specs.Collecting.{IsSound, CollectsFully, HasNoPlace, FaultsOn, StopsAt}
-use Rattle.heap_script.specs.Stages.{Stage, stage_of}
-use Rattle.heap_script.specs.Runs.{left_after, RanTo, EndsAs, EndsRun, FaultsBehind, IsFull, IsFullAt}
+use Rattle.heap_script.specs.Stages.{Stage, Collections, uncollected, fully_collected, stage_of}
+use Rattle.heap_script.specs.Reached.{left_after, RanTo}
+use Rattle.heap_script.specs.Runs.{EndsAs, EndsRun, FaultsBehind, IsFull, IsFullAt}
 use Rattle.heap_script.specs.Progress.{how_of, CarriesLine, Pauses}
 use Rattle.heap_script.proofs.Lacking.{full_for}
 use Rattle.heap_script.proofs.Retrying.{fully_collects}
-use Rattle.heap_script.proofs.Running.{Running}
+use Rattle.heap_script.specs.Between.{Running}
 use Rattle.heap_script.proofs.GoingOn.{ending-within, ending-below, goes-on}
 use Rattle.heap_script.proofs.Collected.{wants, heap_with, Running-fully}
 
@@ -45,7 +46,7 @@ EndsAs-reached script heap n how r ends = record { within = r.within; said = r.s
 -- no line is left
 pub EndsRun-end : (script : ScriptText) (stage : Stage) (at n : ℕ) (ts : List ℕ)
     → (r : RanTo script stage.heap n) → IsLeft script.lines at ts (left_after script n)
-    → slice_get script.lines at ≡ None → EndsRun script stage.heap stage.rows 0 n r.so_far how.End 0
+    → slice_get script.lines at ≡ None → EndsRun script stage.heap stage.rows uncollected n r.so_far how.End 0
 EndsRun-end script stage at n ts r left none =
     let ended = at_end script.lines at ts (left_after script n) left none in
     let ends : ending ideal_limits script.fields r.so_far.graph n (left_after script n) ≡ Some end =
@@ -57,7 +58,7 @@ EndsRun-end script stage at n ts r left none =
 pub EndsRun-limit : (script : ScriptText) (stage : Stage) (at' n number : ℕ) (ts' : List ℕ)
     (command : Option Command) → (r : RanTo script stage.heap n)
     → Goes script.lines at' ts' (left_after script n) (executed number command) → n ≡ lines_most
-    → EndsRun script stage.heap stage.rows 0 n r.so_far how.LineLimit number
+    → EndsRun script stage.heap stage.rows uncollected n r.so_far how.LineLimit number
 EndsRun-limit script stage at' n number ts' command r goes most =
     let ends : ending ideal_limits script.fields r.so_far.graph n (left_after script n) ≡ Some (limit_at number) =
     ap (ending ideal_limits script.fields r.so_far.graph n) goes.is
@@ -65,9 +66,9 @@ EndsRun-limit script stage at' n number ts' command r goes most =
     ∙ ending-limit script.fields r.so_far.graph (executed number command) goes.rest in
     (refl, EndsAs-reached script stage.heap n (limit_at number) r ends)
 
--- a command faults, behind so many collections
+-- a command faults, behind these collections
 EndsRun-faulted : (script : ScriptText) (stage : Stage) (at' n number : ℕ) (ts' : List ℕ)
-    (command : Command) (word : FaultWord) (collections : ℕ) → FaultsBehind word collections
+    (command : Command) (word : FaultWord) (collections : Collections) → FaultsBehind word collections
     → (r : RanTo script stage.heap n) → n < lines_most
     → Goes script.lines at' ts' (left_after script n) (executed number (Some command))
     → does ideal_limits script.fields r.so_far.graph command ≡ fault word
@@ -85,7 +86,7 @@ EndsRun-full : (script : ScriptText) (old main : Mutator) (at' n number : ℕ) (
     (need : ℕ) (r : RanTo script (heap_of main) n) → CollectsAll old main r.so_far.graph → n < lines_most
     → Goes script.lines at' ts' (left_after script n) (executed number (Some command))
     → IsSound script.fields r.so_far.graph command → HasNoPlace main r.so_far.graph command need
-    → EndsRun script (heap_of main) main.free 2 n r.so_far (how.HeapFull need) number
+    → EndsRun script (heap_of main) main.free fully_collected n r.so_far (how.HeapFull need) number
 EndsRun-full script old main at' n number ts' command need r collects below goes sound place =
     let graph = r.so_far.graph in
     let leaves = collects.leaves in
@@ -109,7 +110,7 @@ EndsRun-full script old main at' n number ts' command need r collects below goes
 -- A run that goes no further at a line which was not executed: it stands between two lines still, and comes to this.
 pub record Stopped (script : ScriptText) (heap : HeapState) (objects : ℕ) (waiting : List ℕ)
     (old new : List ℕ → Type 0) (at : ℕ) (ts : List ℕ) (n : ℕ) (came : How) (line : ℕ) : Type 0 where
-  pub collections : ℕ
+  pub collections : Collections
   pub running : Running script heap objects waiting old new at ts n collections
   pub comes : EndsRun script (heap_of heap.main) heap.main.free collections n running.reached.so_far came line
 
@@ -143,7 +144,7 @@ Pauses-stopped (NoClear entries) s steady = record {
 
 module _ {script : ScriptText} {heap : HeapState} {objects : ℕ} {waiting : List ℕ} {old new : List ℕ → Type 0}
     {at at' : ℕ} {ts ts' : List ℕ} {n : ℕ} (number : ℕ) (command : Command) (main : Mutator)
-    (r : Running script heap objects waiting old new at ts n 0) (below : n < lines_most)
+    (r : Running script heap objects waiting old new at ts n uncollected) (below : n < lines_most)
     (goes : Goes script.lines at' ts' (left_after script n) (executed number (Some command))) where
   -- a command that faults behind a full collection
   Stopped-full_map : (word : FaultWord) → word ≡ WeakFull
@@ -153,10 +154,10 @@ module _ {script : ScriptText} {heap : HeapState} {objects : ℕ} {waiting : Lis
   Stopped-full_map word full faults fully =
       let behind = Running-fully r (wants r.reached.so_far below goes) fully in
       record {
-        collections = 2;
+        collections = fully_collected;
         running = behind;
-        comes = EndsRun-faulted script (stage_of main) at' n number ts' command word 2 (inr (full, refl)) behind.reached
-            below goes faults;
+        comes = EndsRun-faulted script (stage_of main) at' n number ts' command word fully_collected
+            (inr (full, refl)) behind.reached below goes faults;
       }
 
   -- one that faults
@@ -167,10 +168,10 @@ module _ {script : ScriptText} {heap : HeapState} {objects : ℕ} {waiting : Lis
       subst (λ one. Stopped script (heap_with heap one) objects waiting old new at ts n (how.Fault word) number)
       (sym same)
       (record {
-        collections = 0;
+        collections = uncollected;
         running = r;
-        comes = EndsRun-faulted script (stage_of heap.main) at' n number ts' command word 0 (inl refl) r.reached below
-            goes faults;
+        comes = EndsRun-faulted script (stage_of heap.main) at' n number ts' command word uncollected (inl refl)
+            r.reached below goes faults;
       })
   Stopped-faulted word faults (FaultsOn.collected full fully) = Stopped-full_map word full faults fully
 
@@ -183,7 +184,7 @@ module _ {script : ScriptText} {heap : HeapState} {objects : ℕ} {waiting : Lis
       let behind = Running-fully r (wants r.reached.so_far below goes) fully in
       let (mid, collects) = fully_collects fully in
       record {
-        collections = 2;
+        collections = fully_collected;
         running = behind;
         comes = EndsRun-full script mid main at' n number ts' command need behind.reached collects below goes sound
             place;
@@ -199,7 +200,8 @@ module _ {script : ScriptText} {heap : HeapState} {objects : ℕ} {waiting : Lis
 -- a line was not executed
 pub Stopped-line : (script : ScriptText) (heap after : HeapState) (objects : ℕ) (waiting : List ℕ)
     (old new : List ℕ → Type 0) (at at' : ℕ) (ts ts' : List ℕ) (n number : ℕ) (command : Option Command)
-    (text : List ℕ) (stop : Stop) → (r : Running script heap objects waiting old new at ts n 0) → n < lines_most
+    (text : List ℕ) (stop : Stop) → (r : Running script heap objects waiting old new at ts n uncollected)
+    → n < lines_most
     → Goes script.lines at' ts' (left_after script n) (executed number command) → after.spare ≡ heap.spare
     → CarriesLine script.fields heap.main after.main r.reached.so_far.graph command text (Err stop)
     → Stopped script after objects waiting old new at ts n (how_of stop) number

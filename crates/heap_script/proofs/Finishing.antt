@@ -7,8 +7,10 @@ use Rattle.byte_ends.specs.Sink.{Appends}
 use Rattle.heap_script.specs.declared.finished.How.{How}
 use Rattle.heap_script.specs.declared.finished.How.TheVariants.{End, Fault, HeapFull, SinkFault, LineLimit}
 use Rattle.heap_script.specs.declared.finished.Finished.{Finished}
-use Rattle.heap_script.specs.Stages.{Stage}
-use Rattle.heap_script.specs.Runs.{Finishes, RanTo, Spends, HasSpent, need_at, EndsRun, CutsOff}
+use Rattle.heap_script.specs.Stages.{Stage, Collections}
+use Rattle.heap_script.specs.Reached.{RanTo}
+use Rattle.heap_script.specs.Spending.{Spends, HasSpent}
+use Rattle.heap_script.specs.Runs.{Finishes, need_at, EndsRun, CutsOff}
 use Rattle.heap_script.specs.Progress.{Pauses, Handed}
 use Rattle.heap_script.proofs.Handing.{Appends-handed, CutsOff-handed}
 
@@ -17,7 +19,7 @@ abbrev finished_by : How → ℕ → ℕ → Finished
 finished_by how line executed = record { how = how; line = line; executed = executed }
 
 -- the heap to which the lines led has spent what they need
-abbrev spent_all : {script : ScriptText} {stage : Stage} {n collections : ℕ} → RanTo script stage.heap n
+abbrev spent_all : {script : ScriptText} {stage : Stage} {n : ℕ} {collections : Collections} → RanTo script stage.heap n
     → Spends script stage n collections → AreFreeRuns stage.heap stage.rows → HasSpent script stage.heap n
 spent_all {stage = stage} {collections = collections} reached spends free = record {
   last = stage;

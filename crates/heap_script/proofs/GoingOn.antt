@@ -11,7 +11,7 @@ use Rattle.object_graph.specs.Run.{lines_most, limit_at, fault_in, fault_of, end
 use Rattle.script_text.specs.Scripts.{ScriptText}
 use Rattle.script_text.specs.Unrolled.{executed}
 use Rattle.script_text.specs.Left.{Goes}
-use Rattle.heap_script.specs.Runs.{left_after}
+use Rattle.heap_script.specs.Reached.{left_after}
 
 -- within the limit, a run ends by what stands at the lines that are left
 pub ending-within : (names : List (List ℕ)) (graph : Graph) (n : ℕ) (lines : List Executed) → n ≤ lines_most

@@ -12,5 +12,6 @@ mod Running
 mod GoingOn
 mod Collected
 mod LineCarried
+mod Passing
 mod Ending
 mod Finishing

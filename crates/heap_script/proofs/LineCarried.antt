@@ -18,25 +18,28 @@ use Rattle.collector.proofs.Keeping.{same_heap}
 use Rattle.mutator.specs.CarriesOut.{Carries, FindsMapNotFull}
 use Rattle.heap_script.specs.Collecting.{AsksForNone, IsSound, LacksWords, CollectsFully, Collects, CarriesAsked}
 use Rattle.heap_script.specs.Collecting.{IsCarriedOut}
-use Rattle.heap_script.specs.Stages.{stage_of}
-use Rattle.heap_script.specs.Runs.{left_after, RanTo, LineAllocates, TellsAt}
+use Rattle.heap_script.specs.Stages.{Collections, uncollected, scavenged, fully_collected, stage_of}
+use Rattle.heap_script.specs.Reached.{left_after, RanTo}
+use Rattle.heap_script.specs.Spending.{LineAllocates}
+use Rattle.heap_script.specs.Runs.{TellsAt}
 use Rattle.heap_script.specs.Progress.{objects_made, made_by, CarriesLine}
 use Rattle.heap_script.proofs.Carrying.{unfull_behind}
 use Rattle.heap_script.proofs.Retrying.{fully_collects}
 use Rattle.heap_script.proofs.Serving.{Served, served, allocated}
-use Rattle.heap_script.proofs.Running.{Running, Running-passed, Running-carried, next-drop, said-next}
+use Rattle.heap_script.specs.Between.{Running}
+use Rattle.heap_script.proofs.Running.{Running-passed, Running-carried, next-drop, said-next}
 use Rattle.heap_script.proofs.Collected.{collected_by, Wants, wants, ungranted_by, heap_with}
 use Rattle.heap_script.proofs.Collected.{Running-once, Running-fully}
 
 -- a command was carried out that asks for no collection, on what it found of the heap
 Running-served : (script : ScriptText) (heap after : HeapState) (found : Mutator) (objects : ℕ) (waiting : List ℕ)
     (old new : List ℕ → Type 0) (at at' : ℕ) (ts ts' : List ℕ) (n number : ℕ) (command : Command) (text : List ℕ)
-    {collections : ℕ} → (r : Running script heap objects waiting old new at ts n collections) → n < lines_most
+    {collections : Collections} → (r : Running script heap objects waiting old new at ts n collections) → n < lines_most
     → Goes script.lines at' ts' (left_after script n) (executed number (Some command))
     → after.spare ≡ heap.spare → AsksForNone command → Served heap.main found r.reached.so_far.graph collections command
     → FindsMapNotFull found r.reached.so_far.graph command
     → Carries script.fields found after.main r.reached.so_far.graph command text (Ok tt)
-    → Running script after (objects + objects_made command) (waiting ++ text) old new at' ts' (n + 1) 0
+    → Running script after (objects + objects_made command) (waiting ++ text) old new at' ts' (n + 1) uncollected
 Running-served script heap after found objects waiting old new at at' ts ts' n number command text r below goes spare
     apart served_so unfull (graph, does-is, shown, takes) =
     let done = allocated command r.shown.main r.ungranted served_so unfull takes in
@@ -47,21 +50,21 @@ Running-served script heap after found objects waiting old new at at' ts ts' n n
 -- it was carried out once a scavenge had made room for the words that it lacked
 Running-scavenged : (script : ScriptText) (heap after : HeapState) (found : Mutator) (objects : ℕ) (waiting : List ℕ)
     (old new : List ℕ → Type 0) (at at' : ℕ) (ts ts' : List ℕ) (n number : ℕ) (command : Command) (text : List ℕ)
-    (need : ℕ) → (r : Running script heap objects waiting old new at ts n 0) → n < lines_most
+    (need : ℕ) → (r : Running script heap objects waiting old new at ts n uncollected) → n < lines_most
     → Goes script.lines at' ts' (left_after script n) (executed number (Some command))
     → after.spare ≡ heap.spare → AsksForNone command → Wants script n r.reached.so_far command
     → IsSound script.fields r.reached.so_far.graph command
     → LacksWords heap.main r.reached.so_far.graph command need → MakesRoom heap.main found false need
     → FindsMapNotFull found r.reached.so_far.graph command
     → Carries script.fields found after.main r.reached.so_far.graph command text (Ok tt)
-    → Running script after (objects + objects_made command) (waiting ++ text) old new at' ts' (n + 1) 0
+    → Running script after (objects + objects_made command) (waiting ++ text) old new at' ts' (n + 1) uncollected
 Running-scavenged script heap after found objects waiting old new at at' ts ts' n number command text need r below goes
     spare apart wanted sound lacks makes unfull carries =
     let behind = Running-once r wanted sound lacks makes.scavenges makes.keeps in
     let empty = ap (λ (young : Young). young.used) makes.scavenges.young in
     Running-served script (heap_with heap makes.mid) after found objects waiting old new at at' ts ts' n number command
     text behind below goes spare apart
-    (served makes.serves (omega arith)
+    (served makes.serves (λ (is : scavenged ≡ uncollected). cc)
     (λ rooms has. lacks.needs rooms ((makes.keeps.rooms r.reached.so_far.graph rooms r.shown.main).1 has))
     (unfull_behind makes.keeps r.shown.main lacks.unfull) empty)
     unfull carries
@@ -69,31 +72,32 @@ Running-scavenged script heap after found objects waiting old new at at' ts ts' 
 -- it was carried out with room for the words that it lacked behind a full collection
 Running-granted : (script : ScriptText) (heap after : HeapState) (last found : Mutator) (objects : ℕ)
     (waiting : List ℕ) (old new : List ℕ → Type 0) (at at' : ℕ) (ts ts' : List ℕ) (n number : ℕ) (command : Command)
-    (text : List ℕ) (need : ℕ) → (r : Running script heap objects waiting old new at ts n 0) → n < lines_most
+    (text : List ℕ) (need : ℕ) → (r : Running script heap objects waiting old new at ts n uncollected) → n < lines_most
     → Goes script.lines at' ts' (left_after script n) (executed number (Some command))
     → after.spare ≡ heap.spare → AsksForNone command → Wants script n r.reached.so_far command
     → CollectsFully script.fields heap.main last r.reached.so_far.graph command
     → LacksWords last r.reached.so_far.graph command need → Serves last found need
     → FindsMapNotFull found r.reached.so_far.graph command
     → Carries script.fields found after.main r.reached.so_far.graph command text (Ok tt)
-    → Running script after (objects + objects_made command) (waiting ++ text) old new at' ts' (n + 1) 0
+    → Running script after (objects + objects_made command) (waiting ++ text) old new at' ts' (n + 1) uncollected
 Running-granted script heap after last found objects waiting old new at at' ts ts' n number command text need r below
     goes spare apart wanted fully lacks serves unfull carries =
     let (mid, collects) = fully_collects fully in
     Running-served script (heap_with heap last) after found objects waiting old new at at' ts ts' n number command text
     (Running-fully r wanted fully) below goes spare apart
-    (served serves (omega arith) lacks.needs lacks.unfull collects.leaves.emptied) unfull carries
+    (served serves (λ (is : fully_collected ≡ uncollected). cc) lacks.needs lacks.unfull collects.leaves.emptied) unfull
+    carries
 
 -- whichever a command finds that asks for no collection
 Running-found : (script : ScriptText) (heap after : HeapState) (found : Mutator) (objects : ℕ) (waiting : List ℕ)
     (old new : List ℕ → Type 0) (at at' : ℕ) (ts ts' : List ℕ) (n number : ℕ) (command : Command) (text : List ℕ)
-    → (r : Running script heap objects waiting old new at ts n 0) → n < lines_most
+    → (r : Running script heap objects waiting old new at ts n uncollected) → n < lines_most
     → Goes script.lines at' ts' (left_after script n) (executed number (Some command))
     → after.spare ≡ heap.spare → AsksForNone command
     → Collects script.fields heap.main found r.reached.so_far.graph command
     → FindsMapNotFull found r.reached.so_far.graph command
     → Carries script.fields found after.main r.reached.so_far.graph command text (Ok tt)
-    → Running script after (objects + objects_made command) (waiting ++ text) old new at' ts' (n + 1) 0
+    → Running script after (objects + objects_made command) (waiting ++ text) old new at' ts' (n + 1) uncollected
 Running-found script heap after found objects waiting old new at at' ts ts' n number command text r below goes spare
     apart (Collects.unchanged same) unfull carries =
     Running-served script heap after found objects waiting old new at at' ts ts' n number command text r below goes
@@ -115,16 +119,16 @@ Running-found script heap after found objects waiting old new at at' ts ts' n nu
 -- a command was carried out that asks for a collection
 Running-asked : (script : ScriptText) (heap after : HeapState) (objects : ℕ) (waiting : List ℕ)
     (old new : List ℕ → Type 0) (at at' : ℕ) (ts ts' : List ℕ) (n number : ℕ) (command : Command) (text : List ℕ)
-    → (r : Running script heap objects waiting old new at ts n 0) → n < lines_most
+    → (r : Running script heap objects waiting old new at ts n uncollected) → n < lines_most
     → Goes script.lines at' ts' (left_after script n) (executed number (Some command))
     → after.spare ≡ heap.spare
     → CarriesAsked script.fields heap.main after.main r.reached.so_far.graph command text
-    → Running script after (objects + objects_made command) (waiting ++ text) old new at' ts' (n + 1) 0
+    → Running script after (objects + objects_made command) (waiting ++ text) old new at' ts' (n + 1) uncollected
 Running-asked script heap after objects waiting old new at at' ts ts' n number command text r below goes spare
     (CarriesAsked.scavenges is scavenges keeps (graph, does-is, shown, takes)) =
     let before = r.reached.so_far.graph in
     let Uses : Command → Type 0 =
-    λ one. LineAllocates (stage_of heap.main) (stage_of after.main) before graph 0 (Some one) in
+    λ one. LineAllocates (stage_of heap.main) (stage_of after.main) before graph uncollected (Some one) in
     let uses : Uses command =
     subst Uses (sym is) (LineAllocates.collects (collected_by scavenges keeps r.shown.main)) in
     Running-carried script heap after objects waiting old new at at' ts ts' n number command text graph r below goes
@@ -138,11 +142,11 @@ Running-asked script heap after objects waiting old new at at' ts ts' n number c
 -- whichever the command asks for
 Running-by : (script : ScriptText) (heap after : HeapState) (objects : ℕ) (waiting : List ℕ)
     (old new : List ℕ → Type 0) (at at' : ℕ) (ts ts' : List ℕ) (n number : ℕ) (command : Command) (text : List ℕ)
-    → (r : Running script heap objects waiting old new at ts n 0) → n < lines_most
+    → (r : Running script heap objects waiting old new at ts n uncollected) → n < lines_most
     → Goes script.lines at' ts' (left_after script n) (executed number (Some command))
     → after.spare ≡ heap.spare
     → IsCarriedOut script.fields heap.main after.main r.reached.so_far.graph command text
-    → Running script after (objects + objects_made command) (waiting ++ text) old new at' ts' (n + 1) 0
+    → Running script after (objects + objects_made command) (waiting ++ text) old new at' ts' (n + 1) uncollected
 Running-by script heap after objects waiting old new at at' ts ts' n number command text r below goes spare
     (IsCarriedOut.asked asked) =
     Running-asked script heap after objects waiting old new at at' ts ts' n number command text r below goes spare asked
@@ -155,11 +159,11 @@ Running-by script heap after objects waiting old new at at' ts ts' n number comm
 pub Running-line : (script : ScriptText) (heap after : HeapState) (objects : ℕ) (waiting : List ℕ)
     (old new : List ℕ → Type 0) (at at' : ℕ) (ts ts' : List ℕ) (n number : ℕ) (command : Option Command)
     (text : List ℕ)
-    → (r : Running script heap objects waiting old new at ts n 0) → n < lines_most
+    → (r : Running script heap objects waiting old new at ts n uncollected) → n < lines_most
     → Goes script.lines at' ts' (left_after script n) (executed number command)
     → after.spare ≡ heap.spare
     → CarriesLine script.fields heap.main after.main r.reached.so_far.graph command text (Ok tt)
-    → Running script after (objects + made_by command) (waiting ++ text) old new at' ts' (n + 1) 0
+    → Running script after (objects + made_by command) (waiting ++ text) old new at' ts' (n + 1) uncollected
 Running-line script heap after objects waiting old new at at' ts ts' n number None text r below goes spare
     (same, nothing, is) =
     let passed = Running-passed script heap objects waiting old new at at' ts ts' n number r below goes in

@@ -1,6 +1,6 @@
 -- What holds of a run between two of its lines, and how a line carries it on.
 use Rattle.std.proofs.Common.{◌≡◌, ℕ, suc, zero, ◌+◌, ◌<◌, true, List, [], ◌∷◌, ◌++◌, length, take, drop}
-use Rattle.std.proofs.Common.{Some, ◌≤◌}
+use Rattle.std.proofs.Common.{Some}
 use Rattle.std.proofs.Common.{None, refl, sym, ap, subst, ◌∙◌, add-one, arith}
 use Rattle.std.specs.Prelude.{option_and_then, slice_get}
 use Rattle.heap_model.specs.Types.{Command}
@@ -20,25 +20,13 @@ use Rattle.nursery.specs.Young.{Young, in_eden}
 use Rattle.write_barrier.specs.MutatorState.{heap_of, MainShows, IsOpened}
 use Rattle.collector.specs.States.{HeapState, HeapShows}
 use Rattle.collector.proofs.Keeping.{still_shows}
-use Rattle.heap_script.specs.Stages.{stage_of}
-use Rattle.heap_script.specs.Runs.{left_after, RanTo, Spends, LineAllocates}
+use Rattle.heap_script.specs.Stages.{Collections, uncollected, stage_of}
+use Rattle.heap_script.specs.Reached.{left_after, RanTo}
+use Rattle.heap_script.specs.Spending.{Spends, LineAllocates}
 use Rattle.heap_script.specs.Progress.{objects_made, Handed}
+use Rattle.heap_script.specs.Between.{Running}
 use Rattle.heap_script.proofs.Counts.{length-does, makes_one}
 use Rattle.heap_script.proofs.Handing.{Handed-none, Handed-more, Handed-told}
-
--- Between two lines: the lines that are left are those from this place on with these turns left, what was told was
--- handed on or waits, the objects are counted, the words that were spent are those that the lines need, the heap was so
--- far collected since the last line, and no word of a page is granted.
-pub record Running (script : ScriptText) (heap : HeapState) (objects : ℕ) (waiting : List ℕ)
-    (old new : List ℕ → Type 0) (at : ℕ) (ts : List ℕ) (executed collections : ℕ) : Type 0 where
-  pub reached : RanTo script (heap_of heap.main) executed
-  pub spends : Spends script (stage_of heap.main) executed collections
-  pub ungranted : in_eden heap.main.young ≡ true
-  pub shown : HeapShows heap reached.so_far.graph
-  pub left : IsLeft script.lines at ts (left_after script executed)
-  pub handed : Handed old new waiting reached.so_far.bytes
-  pub made : objects ≡ length reached.so_far.graph.objects
-  pub few : objects ≤ executed
 
 -- a list whose rest after the first n begins with an element
 pub record Next {A : Type 0} (xs : List A) (n : ℕ) (x : A) (rest : List A) : Type 0 where
@@ -79,7 +67,7 @@ next_at (first ∷ xs) (suc n) x rest e = next_at xs n x rest e
 -- a script begins
 pub Running-start : (script : ScriptText) (heap : HeapState) (old : List ℕ → Type 0) → IsPlaced 0 script.lines
     → HeapShows heap start → IsOpened heap.main → heap.main.seat.space.variables ≡ length script.variables
-    → Running script heap 0 [] old old 0 [] 0 0
+    → Running script heap 0 [] old old 0 [] 0 uncollected
 Running-start script heap old placed shown opened variables =
     let reached : RanTo script (heap_of heap.main) 0 = record {
       within = omega arith;
@@ -103,7 +91,7 @@ Running-start script heap old placed shown opened variables =
 
 -- what waits is handed on
 pub Running-handed : (script : ScriptText) (heap : HeapState) (objects : ℕ) (waiting rest : List ℕ)
-    (old mid new : List ℕ → Type 0) (at : ℕ) (ts : List ℕ) (n collections : ℕ)
+    (old mid new : List ℕ → Type 0) (at : ℕ) (ts : List ℕ) (n : ℕ) (collections : Collections)
     → Running script heap objects waiting old mid at ts n collections → Handed mid new rest waiting
     → Running script heap objects rest old new at ts n collections
 Running-handed script heap objects waiting rest old mid new at ts n collections r h = record {
@@ -139,9 +127,9 @@ dropped-next script n next = ap (λ m. drop m (executed_lines script.lines)) (ad
 -- a `repeat` or an `end` was executed
 pub Running-passed : (script : ScriptText) (heap : HeapState) (objects : ℕ) (waiting : List ℕ)
     (old new : List ℕ → Type 0) (at at' : ℕ) (ts ts' : List ℕ) (n number : ℕ)
-    → Running script heap objects waiting old new at ts n 0 → n < lines_most
+    → Running script heap objects waiting old new at ts n uncollected → n < lines_most
     → Goes script.lines at' ts' (left_after script n) (executed number None)
-    → Running script heap objects waiting old new at' ts' (n + 1) 0
+    → Running script heap objects waiting old new at' ts' (n + 1) uncollected
 Running-passed script heap objects waiting old new at at' ts ts' n number r below goes =
     let so_far = r.reached.so_far in
     let line = executed number None in
@@ -156,7 +144,7 @@ Running-passed script heap objects waiting old new at at' ts ts' n number r belo
     } in
     record {
       reached = reached;
-      spends = Spends.one_more (stage_of heap.main) (stage_of heap.main) n 0 line r.spends
+      spends = Spends.one_more (stage_of heap.main) (stage_of heap.main) n uncollected line r.spends
           (next_at (executed_lines script.lines) n line goes.rest goes.is) r.reached reached
           (LineAllocates.passes refl);
       ungranted = r.ungranted;
@@ -170,14 +158,14 @@ Running-passed script heap objects waiting old new at at' ts ts' n number r belo
 -- a command was carried out, did this with the heap, and left nothing granted
 pub Running-carried : (script : ScriptText) (heap after : HeapState) (objects : ℕ) (waiting : List ℕ)
     (old new : List ℕ → Type 0) (at at' : ℕ) (ts ts' : List ℕ) (n number : ℕ) (command : Command) (text : List ℕ)
-    (graph : Graph) {collections : ℕ} → (r : Running script heap objects waiting old new at ts n collections)
+    (graph : Graph) {collections : Collections} → (r : Running script heap objects waiting old new at ts n collections)
     → n < lines_most
     → Goes script.lines at' ts' (left_after script n) (executed number (Some command))
     → after.spare ≡ heap.spare → after.main.seat.space ≡ heap.main.seat.space
     → does ideal_limits script.fields r.reached.so_far.graph command ≡ done graph text → MainShows after.main graph
     → LineAllocates (stage_of heap.main) (stage_of after.main) r.reached.so_far.graph graph collections (Some command)
     → in_eden after.main.young ≡ true → length after.main.free ≡ length heap.main.free
-    → Running script after (objects + objects_made command) (waiting ++ text) old new at' ts' (n + 1) 0
+    → Running script after (objects + objects_made command) (waiting ++ text) old new at' ts' (n + 1) uncollected
 Running-carried script heap after objects waiting old new at at' ts ts' n number command text graph {collections} r
     below goes spare space does-is shown uses ungranted rows =
     let so_far = r.reached.so_far in

@@ -1,5 +1,5 @@
 -- A command that finds words of a page granted where eden has not the words that it needs: what it spends.
-use Rattle.std.proofs.Common.{◌≡◌, ◌∙◌, ◌↔◌, ℕ, ◌+◌, ◌≤◌, Bool, true, false, List, length, ◌==◌, if◌then◌else◌}
+use Rattle.std.proofs.Common.{◌≡◌, ◌≢◌, ◌∙◌, ◌↔◌, ℕ, ◌+◌, Bool, true, false, List, length, ◌==◌, if◌then◌else◌}
 use Rattle.std.proofs.Common.{refl, sym, ap, subst, arith}
 use Rattle.std.proofs.lemmas.Bool.Decides.{nat_tests}
 use Rattle.heap_model.specs.Types.{Command, Run}
@@ -20,21 +20,21 @@ use Rattle.collector.proofs.MadeRoom.{served_rows}
 use Rattle.mutator.specs.Capacities.{KeepsStores}
 use Rattle.mutator.specs.CarriesOut.{TakesRoom, FindsMapNotFull}
 use Rattle.heap_script.specs.Collecting.{LacksWords}
-use Rattle.heap_script.specs.Runs.{UsesNeed, Allocates}
-use Rattle.heap_script.specs.Stages.{SpendsWords, stage_of}
+use Rattle.heap_script.specs.Spending.{UsesNeed, Allocates}
+use Rattle.heap_script.specs.Stages.{Collections, uncollected, SpendsWords, stage_of}
 use Rattle.heap_script.proofs.Lacking.{not_lacking, full_for}
 
--- What a command that asks for no collection finds of a heap in which nothing is granted, behind so many collections
+-- What a command that asks for no collection finds of a heap in which nothing is granted, behind these collections
 -- since the last line: the heap itself; or, where a collection came, and left eden empty and without the
 -- words that the command needs, the heap with so many words granted.
-pub data Served (old found : Mutator) (graph : Graph) (collections : ℕ) (command : Command) : Type 0 where
+pub data Served (old found : Mutator) (graph : Graph) (collections : Collections) (command : Command) : Type 0 where
   as_it_is : found ≡ old → Served old found graph collections command
-  by_grant : (need : ℕ) → 1 ≤ collections → LacksWords old graph command need → old.young.used ≡ 0
+  by_grant : (need : ℕ) → collections ≢ uncollected → LacksWords old graph command need → old.young.used ≡ 0
       → Grants old found need → KeepsGraphs old found → Served old found graph collections command
 
 -- so it is where eden is empty behind a collection, and there is room for the words that the command needs
-pub served : {old found : Mutator} {graph : Graph} {collections : ℕ} {command : Command} {need : ℕ}
-    → Serves old found need → 1 ≤ collections
+pub served : {old found : Mutator} {graph : Graph} {collections : Collections} {command : Command} {need : ℕ}
+    → Serves old found need → collections ≢ uncollected
     → ((rooms : ℕ → Room) → HasRooms (heap_of old) graph rooms → need ≡ need_of graph rooms command)
     → FindsMapNotFull old graph command → old.young.used ≡ 0 → Served old found graph collections command
 served (Serves.eden room is) some needs unfull empty = Served.as_it_is is
@@ -43,7 +43,8 @@ served {need = need} (Serves.granted lacks grants keeps) some needs unfull empty
 
 -- What a command that was carried out has done: it allocated, nothing is granted any more, and so many pages have rows
 -- of free runs.
-pub record HasAllocated (old new : Mutator) (graph after : Graph) (collections : ℕ) (command : Command) : Type 0 where
+pub record HasAllocated (old new : Mutator) (graph after : Graph) (collections : Collections) (command : Command)
+    : Type 0 where
   pub allocates : Allocates (stage_of old) (stage_of new) graph after collections command
   pub ungranted : in_eden new.young ≡ true
   pub rows : length new.free ≡ length old.free
@@ -66,7 +67,7 @@ still_ungranted old n ungranted is =
     ∙ ap (λ (b : Bool). (if b then old.granted else rest_of old.granted n).words == 0) ungranted ∙ ungranted
 
 -- a command that finds the heap itself spends words of eden
-allocated_in_eden : {old new : Mutator} {graph after : Graph} {collections : ℕ} (command : Command)
+allocated_in_eden : {old new : Mutator} {graph after : Graph} {collections : Collections} (command : Command)
     → MainShows old graph → in_eden old.young ≡ true → FindsMapNotFull old graph command
     → Takes old new graph after command → HasAllocated old new graph after collections command
 allocated_in_eden {old} {new} {graph} command shows ungranted unfull takes =
@@ -132,8 +133,8 @@ stores_before stands stores = record {
   made = λ number at place none. stores.made number at place (λ stood. none ((stands number at).0.1 stood));
 }
 
-module _ {old found new : Mutator} {graph after : Graph} {collections : ℕ} (command : Command) {need : ℕ}
-    (shows : MainShows old graph) (ungranted : in_eden old.young ≡ true) (some : 1 ≤ collections)
+module _ {old found new : Mutator} {graph after : Graph} {collections : Collections} (command : Command) {need : ℕ}
+    (shows : MainShows old graph) (ungranted : in_eden old.young ≡ true) (some : collections ≢ uncollected)
     (lacks : LacksWords old graph command need) (empty : old.young.used ≡ 0) (grants : Grants old found need)
     (keeps : KeepsGraphs old found) (takes : Takes found new graph after command) where
   -- a command that finds granted words takes them, by the rooms that objects had before
@@ -183,7 +184,7 @@ module _ {old found new : Mutator} {graph after : Graph} {collections : ℕ} (co
       }
 
 -- a command that is carried out on what it finds of a heap in which nothing is granted allocates on that heap
-pub allocated : {old found new : Mutator} {graph after : Graph} {collections : ℕ} (command : Command)
+pub allocated : {old found new : Mutator} {graph after : Graph} {collections : Collections} (command : Command)
     → MainShows old graph → in_eden old.young ≡ true → Served old found graph collections command
     → FindsMapNotFull found graph command → Takes found new graph after command
     → HasAllocated old new graph after collections command

@@ -5,7 +5,7 @@ use Rattle.heap_command.specs.Commands.{IsWithin}
 use Rattle.object_graph.specs.Graphs.{Graph}
 use Rattle.live_cells.specs.Counts.{ExactMapsAreFull}
 use Rattle.live_cells.specs.Fitting.{NoRunFitsNone}
-use Rattle.write_barrier.specs.MutatorState.{Mutator}
+use Rattle.write_barrier.specs.MutatorState.{Mutator, heap_of, MainShows}
 use Rattle.collector.specs.Making.{IsOutOfRoom}
 use Rattle.collector.specs.States.{HeapState, HeapShows}
 use Rattle.collector.proofs.Keeping.{same_heap, keeps_itself}
@@ -14,8 +14,9 @@ use Rattle.mutator.specs.declared.stop.Stop.TheVariants.{Fault, NoRoom, NoClear}
 use Rattle.mutator.specs.CarriesOut.{Carries, AsksWhereFull, field_numbers}
 use Rattle.heap_script.specs.declared.making_way.Tried.{Tried}
 use Rattle.heap_script.specs.declared.making_way.Tried.TheVariants.{Once, Scavenged, Collected, Granted}
-use Rattle.heap_script.specs.Collecting.{AsksForNone, IsSound, LacksWords, CollectsFully, Tries, FaultsOn, StopsAt}
-use Rattle.heap_script.specs.MakingWay.{IsServable, DoesNothing, FindsFirst, FindsLast, MakesWay}
+use Rattle.heap_script.specs.Collecting.{AsksForNone, IsSound, LacksWords, FindsPairs, CollectsFully, Tries, FaultsOn}
+use Rattle.heap_script.specs.Collecting.{StopsAt}
+use Rattle.heap_script.specs.MakingWay.{IsServable, IsClearable, DoesNothing, FindsFirst, FindsLast, MakesWay}
 use Rattle.heap_script.proofs.Carrying.{wants_some, refused, stopped_there, same_stopped, never_faults, unfull_behind}
 use Rattle.heap_script.proofs.Retrying.{Stands, IsReady, fully_collects, fully_faults, no_more}
 use Rattle.heap_script.proofs.Retrying.{pairs_are_full, nowhere}
@@ -29,6 +30,13 @@ sound_lacking names main after graph command text need (next, written, does-is, 
   record { after = next; written = written; is = does-is },
   record { needs = needs; lacks = lacks; unfull = unfull },
 )
+
+-- one for which the heap was scavenged does not find its weak map full of pairs
+unfull_once : {A : Type 0} {names : List (List ℕ)} {old now : Mutator} {graph : Graph} {command : Command}
+    {entries : ℕ} → MainShows old graph → Stands names old now graph command Scavenged
+    → FindsPairs (heap_of now) graph command entries → A
+unfull_once {entries = entries} shows (Stands.scavenged need none sound lacks makes room keeps) finds =
+    absurd (unfull_behind keeps shows lacks.unfull entries finds)
 
 -- where something was done, something was
 nothing_done : {A : Type 0} {old new : HeapState} {next : Tried} → DoesNothing old new (Some next) → A
@@ -79,9 +87,7 @@ module _ (names : List (List ℕ)) (old now made : HeapState) (after : Mutator) 
       (subst (Stands names now.main made.main graph command) it
       (Stands.collected apart (CollectsFully.for_pairs entries finds (collects graph shows))))
   stands_next Scavenged (NoRoom need) next stands carries asks way = nothing_done way
-  stands_next Scavenged (NoClear entries) next (Stands.scavenged need none sound lacks makes room keeps) (finds, still)
-      asks way =
-      absurd (unfull_behind keeps shown.main lacks.unfull entries finds)
+  stands_next Scavenged (NoClear entries) next stands carries asks way = absurd way
   stands_next Collected (NoRoom need) next (Stands.collected none fully) carries asks way =
       last_room need next fully carries asks way
   stands_next Collected (NoClear entries) next stands carries asks way = nothing_done way
@@ -136,7 +142,7 @@ module _ (names : List (List ℕ)) (old now made : HeapState) (after : Mutator) 
       let again = (sound_lacking names now.main after graph command text need carries asks).1 in
       no_more collects.shows lacks keeps room again
   stops_at Once (NoClear entries) maps runs stands carries asks (one, is, rest) = absurd (cc)
-  stops_at Scavenged (NoClear entries) maps runs stands carries asks (one, is, rest) = absurd (cc)
+  stops_at Scavenged (NoClear entries) maps runs stands carries asks way = absurd way
   stops_at Collected (NoClear entries) maps runs (Stands.collected none fully) (finds, still) asks way =
       let (mid, collects) = fully_collects fully in
       (pairs_are_full names maps collects (keeps_itself now.main) finds, fully)
@@ -158,7 +164,7 @@ no_way now made Scavenged (NoRoom need) way = way.1
 no_way now made Collected (NoRoom need) way = no_room way
 no_way now made Granted (NoRoom need) way = way.1
 no_way now made Once (NoClear entries) (one, is, rest) = absurd (cc)
-no_way now made Scavenged (NoClear entries) (one, is, rest) = absurd (cc)
+no_way now made Scavenged (NoClear entries) way = absurd way
 no_way now made Collected (NoClear entries) way = way.1
 no_way now made Granted (NoClear entries) way = way.1
 
@@ -194,6 +200,15 @@ module _ (names : List (List ℕ)) {old now : HeapState} (after : HeapState) {ob
       refused names now.main after.main graph old.main.seat.space.variables field_numbers command text need
       (ready.shows graph shown).main within
       (subst (λ one. Carries names now.main after.main graph command text (Err one)) is carries)
+
+  -- it was not scavenged for, if its weak map is full of pairs
+  pub clearable : IsClearable stop tried
+  clearable entries is scavenged =
+      let (graph, shown, made) = some in
+      let (text, apart, carries, asks) = stopped_on graph shown made in
+      let finds = (subst (λ one. Carries names now.main after.main graph command text (Err one)) is carries).0 in
+      unfull_once shown.main
+      (subst (Stands names old.main now.main graph command) scavenged (ready.stands graph shown made)) finds
 
   module _ {made : HeapState} (space : (graph : Graph) → HeapShows after graph → HeapShows made graph)
       (kept : made.spare ≡ after.spare) where

@@ -15,7 +15,7 @@ use Rattle.mutator.specs.declared.stop.Stop.{Stop}
 use Rattle.mutator.specs.CarriesOut.{Carries, AsksWhereFull}
 use Rattle.mutator.proofs.MapsNotFull.{others_find_not_full, asks_for_nothing}
 use Rattle.mutator.proofs.Writings.{writing_carried}
-use Rattle.heap_script.specs.Runs.{AsksToCollect}
+use Rattle.heap_script.specs.Spending.{AsksToCollect}
 use Rattle.heap_script.specs.Collecting.{AsksForNone, CarriesAsked, Tries}
 
 -- the mutator's side that is lent shows what the heap shows

@@ -18,7 +18,7 @@ use Rattle.collector.specs.Making.{IsOutOfRoom, Serves, MakesRoom}
 use Rattle.mutator.specs.declared.stop.Stop.{Stop}
 use Rattle.mutator.specs.declared.stop.Stop.TheVariants.{Fault, NoRoom, NoClear}
 use Rattle.mutator.specs.CarriesOut.{Carries, FindsMapNotFull, AsksWhereFull}
-use Rattle.heap_script.specs.Runs.{AsksForAll, AsksToCollect}
+use Rattle.heap_script.specs.Spending.{AsksForAll, AsksToCollect}
 
 -- the command asks for no collection
 abbrev pub AsksForNone : Command → Type 0

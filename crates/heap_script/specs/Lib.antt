@@ -1,7 +1,10 @@
 pub mod Stages
+pub mod Reached
+pub mod Spending
 pub mod Runs
 pub mod LoopCounters
 pub mod Collecting
 pub mod MakingWay
 pub mod Progress
+pub mod Between
 pub use Rattle.mutator.specs.declared.output.TheConstants

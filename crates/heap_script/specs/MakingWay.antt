@@ -1,5 +1,5 @@
 -- What is done for a command that stopped, so that it is tried again.
-use Rattle.std.specs.Prelude.{◌≡◌, ℕ, ◌≤◌, Option, Some, None, false}
+use Rattle.std.specs.Prelude.{◌≡◌, ◌≢◌, ℕ, ◌≤◌, Option, Some, None, false}
 use Rattle.tagged_word.specs.Cells.{cell_words_most}
 use Rattle.object_graph.specs.Graphs.{Graph}
 use Rattle.nursery.specs.Young.{HasRoom}
@@ -17,6 +17,10 @@ use Rattle.heap_script.specs.declared.making_way.Tried.TheVariants.{Once, Scaven
 -- where it stopped for want of room, it wants 1 to 2,048 words
 abbrev pub IsServable : Stop → Type 0
 IsServable stop = (need : ℕ) → stop ≡ NoRoom need → (1 ≤ need) × (need ≤ cell_words_most)
+
+-- where it stopped since its weak map is full of pairs, the heap was not scavenged for it
+abbrev pub IsClearable : Stop → Tried → Type 0
+IsClearable stop tried = (entries : ℕ) → stop ≡ NoClear entries → tried ≢ Scavenged
 
 -- nothing is done
 abbrev pub DoesNothing : HeapState → HeapState → Option Tried → Type 0
@@ -54,10 +58,10 @@ FindsRoom old new need Granted next = DoesNothing old new next
 abbrev pub CollectsNow : HeapState → HeapState → Tried → Type 0
 CollectsNow old new next = (next ≡ Collected) × CollectsShown old new
 
--- pairs of weak maps are cleared, unless a full collection came
+-- Pairs of weak maps are cleared, unless a full collection came. A command for which a scavenge came finds no map full.
 abbrev pub ClearsPairs : HeapState → HeapState → Tried → Option Tried → Type 0
 ClearsPairs old new Once next = (one : Tried) × (next ≡ Some one) × CollectsNow old new one
-ClearsPairs old new Scavenged next = (one : Tried) × (next ≡ Some one) × CollectsNow old new one
+ClearsPairs old new Scavenged next = ⊥
 ClearsPairs old new Collected next = DoesNothing old new next
 ClearsPairs old new Granted next = DoesNothing old new next
 

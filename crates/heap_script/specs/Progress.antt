@@ -18,8 +18,10 @@ use Rattle.heap_script.specs.declared.finished.How.{How}
 use Rattle.heap_script.specs.declared.finished.How.TheVariants.{Fault, HeapFull, SinkFault}
 use Rattle.heap_script.specs.declared.finished.Finished.{Finished}
 use Rattle.heap_script.specs.Collecting.{CarriesAtLast}
-use Rattle.heap_script.specs.Stages.{Stage}
-use Rattle.heap_script.specs.Runs.{RanTo, Spends, EndsRun, IsDue, CutsOff}
+use Rattle.heap_script.specs.Stages.{Stage, Collections, uncollected}
+use Rattle.heap_script.specs.Reached.{RanTo}
+use Rattle.heap_script.specs.Spending.{Spends}
+use Rattle.heap_script.specs.Runs.{EndsRun, IsDue, CutsOff}
 
 -- how many objects a command makes
 abbrev pub objects_made : Command → ℕ
@@ -65,21 +67,21 @@ pub record Handed (old new : List ℕ → Type 0) (waiting all : List ℕ) : Typ
 
 -- The run came to this, and what it told was handed on or waits. Or the sink failed between two lines, where an output
 -- was due and no collection came since the last line, and a front of what was told was written.
-abbrev pub Halts : ScriptText → Stage → ℕ → List ℕ → Finished → Told → (List ℕ → Type 0) → (List ℕ → Type 0)
+abbrev pub Halts : ScriptText → Stage → Collections → List ℕ → Finished → Told → (List ℕ → Type 0) → (List ℕ → Type 0)
     → ℕ → ℕ → How → Type 0
 Halts script stage collections waiting finished so_far old new faults_old faults_new (SinkFault need) =
-    ((finished.line ≡ 0) × (need ≡ 0) × (collections ≡ 0) × IsDue script finished.executed)
+    ((finished.line ≡ 0) × (need ≡ 0) × (collections ≡ uncollected) × IsDue script finished.executed)
     × CutsOff old new so_far.bytes × Rose faults_old faults_new
 Halts script stage collections waiting finished so_far old new faults_old faults_new came =
     EndsRun script stage.heap stage.rows collections finished.executed so_far came finished.line
     × Handed old new waiting so_far.bytes × (faults_new ≡ faults_old)
 
--- The run before its last bytes are handed on: how far it came, how far the heap was collected since the last line,
--- what it spent, and how it halted.
+-- The run before its last bytes are handed on: how far it came, which collections came since the last line, what it
+-- spent, and how it halted.
 pub record Pauses (script : ScriptText) (stage : Stage) (waiting : List ℕ) (finished : Finished)
     (old new : List ℕ → Type 0) (faults_old faults_new : ℕ) : Type 0 where
   pub reached : RanTo script stage.heap finished.executed
-  pub collections : ℕ
+  pub collections : Collections
   pub spends : Spends script stage finished.executed collections
   pub free : AreFreeRuns stage.heap stage.rows
   pub halts : Halts script stage collections waiting finished reached.so_far old new faults_old faults_new finished.how

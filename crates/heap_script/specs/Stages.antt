@@ -1,5 +1,5 @@
 -- What of a heap the lines of a script spend: words of eden, and words of the free runs of pages.
-use Rattle.std.specs.Prelude.{◌≡◌, ℕ, ◌+◌, ◌≤◌, false, List, IsTrue}
+use Rattle.std.specs.Prelude.{◌≡◌, ◌≢◌, ℕ, ◌+◌, false, List, IsTrue}
 use Rattle.free_runs.specs.FreeRuns.{TakesFront}
 use Rattle.heap_model.specs.Types.{Run}
 use Rattle.heap_model.specs.Heaps.{Heap}
@@ -15,11 +15,18 @@ pub record Stage : Type 0 where
 abbrev pub stage_of : Mutator → Stage
 stage_of main = record { heap = heap_of main; rows = main.free }
 
--- A line spends so many words, before which so many collections came since the last line: words of eden, which had
--- them; or, where a collection came, and left eden empty and without so many, the first words of a free run of
--- a page, while eden stays empty.
-pub data SpendsWords (old new : Stage) (collections n : ℕ) : Type 0 where
+-- Which collections of the heap came since the last line: none; a scavenge; or a full collection, by itself or behind
+-- a scavenge.
+pub data Collections : Type 0 where
+  uncollected : Collections
+  scavenged : Collections
+  fully_collected : Collections
+
+-- A line spends so many words, before which these collections came since the last line: words of eden, which had them;
+-- or, where a collection came, and left eden empty and without so many, the first words of a free run of a page, while
+-- eden stays empty.
+pub data SpendsWords (old new : Stage) (collections : Collections) (n : ℕ) : Type 0 where
   of_eden : lacks_room old.heap n ≡ false → new.heap.used ≡ old.heap.used + n → new.rows ≡ old.rows
       → SpendsWords old new collections n
-  of_page : (run : Run) → 1 ≤ collections → IsTrue (lacks_room old.heap n) → old.heap.used ≡ 0 → new.heap.used ≡ 0
-      → TakesFront old.rows new.rows n run → SpendsWords old new collections n
+  of_page : (run : Run) → collections ≢ uncollected → IsTrue (lacks_room old.heap n) → old.heap.used ≡ 0
+      → new.heap.used ≡ 0 → TakesFront old.rows new.rows n run → SpendsWords old new collections n

@@ -14,6 +14,7 @@ use crate::execute::execute_line;
 use crate::finished::{Finished, How};
 use crate::flushing::flush;
 use crate::loop_counters::LoopCounters;
+use crate::running_ahead::{Reached, run_ahead};
 use byte_ends::{Failed, Sink};
 use collector::Heap;
 use crew::Gate;
@@ -23,10 +24,10 @@ use script_text::Script;
 use std::thread::Threads;
 
 /// How many lines are executed at most.
-const LINES_MOST: u64 = 20_000_000;
+pub(crate) const LINES_MOST: u64 = 20_000_000;
 
 /// With more bytes than these waiting, the output may lack room for a command.
-const FULL_FROM: usize = (OUTPUT_BYTES - ROOM) as usize;
+pub(crate) const FULL_FROM: usize = (OUTPUT_BYTES - ROOM) as usize;
 
 /// Runs a script on a heap that was just opened, with an output that is empty, and writes to the sink
 /// what it tells. Threads and gates are not used, and the heap is not checked.
@@ -110,6 +111,16 @@ fn run_lines<K: Sink>(
             Err(stop) => return stopped(stop, line.number, executed),
         }
         executed += 1;
+        let ahead = run_ahead(
+            heap,
+            script,
+            &mut objects,
+            &mut turns,
+            Reached { at, executed },
+            out,
+        );
+        at = ahead.at;
+        executed = ahead.executed;
     }
     Finished {
         how: How::End,

@@ -1,10 +1,10 @@
 //! The run of a script on a heap: its lines in the order of execution, the limit on them, and the
 //! bytes that they write.
 //!
-//! Model: a run has come so far as it has executed lines. `RanTo` of `specs/Runs.antt` says that a
-//! heap shows the graph after them, `Spends` from which words of eden and of free runs the lines had
-//! what they needed, and how far and why the heap was collected between them, and `EndsAs` in what way
-//! a run ends. `Finishes` is what `run_script` promises.
+//! Model: a run has come so far as it has executed lines. `RanTo` of `specs/Reached.antt` says that a
+//! heap shows the graph after them, `Spends` of `specs/Spending.antt` from which words of eden and of
+//! free runs the lines had what they needed, and how far and why the heap was collected between them,
+//! and `EndsAs` of `specs/Runs.antt` in what way a run ends. `Finishes` is what `run_script` promises.
 //! Invariant: between two lines the place in the script and the turns left of its open blocks stand
 //! for the lines that are left to execute, what was told was handed on or waits in the output, and no
 //! word of a page is granted.
@@ -16,6 +16,7 @@ mod flushing;
 mod interpreter;
 mod loop_counters;
 mod making_way;
+mod running_ahead;
 
 pub use finished::{Finished, How};
 pub use interpreter::run_script;

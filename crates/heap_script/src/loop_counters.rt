@@ -1,6 +1,6 @@
 //! The turns left of open blocks. Where a run goes on is `standing_after` of `specs/LoopCounters.antt`; that this
 //! is the order of execution is kept in `interpreter`.
-ghost use Rattle.std.specs.Prelude.{◌≡◌, ◌<◌, ◌≤◌, ◌^◌, [], ◌∷◌, length};
+ghost use Rattle.std.specs.Prelude.{◌≡◌, ◌<◌, ◌≤◌, ◌^◌, [], ◌∷◌, length, drop};
 ghost use Rattle.script_text.specs.Limits.{open_most};
 ghost use Rattle.heap_script.specs.LoopCounters.{standing_after, closed};
 
@@ -38,9 +38,8 @@ impl LoopCounters {
         }
     }
 
-    /// Where the run goes on after the line at this place. It is a call, so that the turns stay in
-    /// memory and take no registers from the loop over lines.
-    #[inline(never)]
+    /// Where the run goes on after the line at this place.
+    #[inline(always)]
     pub(crate) fn next(&mut self, at: usize, what: &What) -> usize
         requires small { at < 2 ^ 63 }
         requires deep { length (standing_after at self.old what.now).turns ≤ open_most }
@@ -59,6 +58,7 @@ impl LoopCounters {
     }
 
     /// One block more is open, with so many turns left.
+    #[inline(never)]
     fn enter(&mut self, turns: u32)
         requires room { length self.old < 4 }
         ensures { self.new ≡ turns ∷ self.old }
@@ -69,6 +69,7 @@ impl LoopCounters {
     }
 
     /// Where the run goes on after the `end` at this place, of the `repeat` at the other.
+    #[inline(always)]
     fn end(&mut self, at: usize, repeat_at: u32) -> usize
         requires small { at < 2 ^ 63 }
         ensures place { result ≡ (closed at self.old repeat_at).at }
@@ -81,9 +82,18 @@ impl LoopCounters {
             self.left[0] -= 1;
             return repeat_at as usize + 1;
         }
+        self.leave();
+        at + 1
+    }
+
+    /// The innermost block is open no more.
+    #[inline(never)]
+    fn leave(&mut self)
+        requires { 1 ≤ length self.old }
+        ensures { self.new ≡ drop 1 self.old }
+    {
         let [_, second, third, fourth] = self.left;
         self.left = [second, third, fourth, 0];
         self.open -= 1;
-        at + 1
     }
 }

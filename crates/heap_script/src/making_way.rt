@@ -1,10 +1,11 @@
 //! Making way for a command that stopped for want of room, or since its weak map is full of pairs. `execute` tries the
 //! command again then.
-ghost use Rattle.std.specs.Prelude.{◌≡◌, ◌≤◌};
+ghost use Rattle.std.specs.Prelude.{◌≡◌, ◌≢◌, ◌≤◌};
 ghost use Rattle.tagged_word.specs.Cells.{cell_words_most};
 ghost use Rattle.object_graph.specs.Graphs.{Graph};
 ghost use Rattle.collector.specs.States.{HeapShows};
-ghost use Rattle.heap_script.specs.MakingWay.{IsServable, MakesWay, FindsRoom, FindsFirst, FindsLast};
+ghost use Rattle.heap_script.specs.declared.making_way.Tried.TheVariants.{Scavenged};
+ghost use Rattle.heap_script.specs.MakingWay.{IsServable, IsClearable, MakesWay, FindsRoom, FindsFirst, FindsLast};
 ghost use Rattle.heap_script.specs.MakingWay.{ClearsPairs, CollectsNow};
 
 use collector::Heap;
@@ -28,6 +29,7 @@ pub(crate) enum Tried {
 #[inline(never)]
 pub(crate) fn make_way(heap: &mut Heap, stop: Stop, tried: Tried) -> Option<Tried>
     requires servable { IsServable stop }
+    requires clearable { IsClearable stop tried }
     requires shown { (graph : Graph) × HeapShows heap.old graph }
     ensures way { MakesWay heap.old heap.new tried stop result }
     ensures shows { (graph : Graph) → HeapShows heap.old graph → HeapShows heap.new graph }
@@ -93,6 +95,7 @@ fn grant(heap: &mut Heap, need: u32) -> Option<Tried>
 
 /// Clears weak maps by a full collection, unless one came.
 fn clear_pairs(heap: &mut Heap, tried: Tried) -> Option<Tried>
+    requires unscavenged { tried ≢ Scavenged }
     requires shown { (graph : Graph) × HeapShows heap.old graph }
     ensures way { ClearsPairs heap.old heap.new tried result }
     ensures shows { (graph : Graph) → HeapShows heap.old graph → HeapShows heap.new graph }
@@ -100,7 +103,8 @@ fn clear_pairs(heap: &mut Heap, tried: Tried) -> Option<Tried>
 {
     match tried {
         Tried::Once => Some(collect_all(heap)),
-        Tried::Scavenged => Some(collect_all(heap)),
+        // The command lacked words then, so its map was not full, and a scavenge fills none.
+        Tried::Scavenged => unreachable!(),
         Tried::Collected => None,
         Tried::Granted => None,
     }

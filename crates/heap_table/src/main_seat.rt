@@ -101,6 +101,32 @@ impl MainSeat {
         self.put_any(a, word);
     }
 
+    /// The word at an offset of a cell, before the marks.
+    #[inline(always)]
+    pub fn slot(&self, cell: u32, offset: u32) -> u64
+        requires within { cell + offset < marks_start self.now.space }
+        requires steady { self.now.phase ≢ Scavenge }
+        ensures of_table { slice_get self.now.table (cell + offset) ≡ Some result }
+        ensures of_heap { slice_get (heap_words self.now) (cell + offset) ≡ Some result }
+    {
+        let _table_count = self.table_count();
+        self.any_slot(cell, offset)
+    }
+
+    /// Puts a word at an offset of a cell, before the marks. No other word changes.
+    #[inline(always)]
+    pub fn put_slot(&mut self, cell: u32, offset: u32, word: u64)
+        requires quiet { self.old.phase ≡ Quiet }
+        requires within { cell + offset < marks_start self.old.space }
+        ensures put { let table = slice_set self.old.table (cell + offset) word in
+            self.new ≡ record self.old { table = table } }
+        ensures heap { heap_words self.new ≡ slice_set (heap_words self.old) (cell + offset) word }
+        ensures rest { RestStays self.old self.new }
+    {
+        let _table_count = self.table_count();
+        self.put_any_slot(cell, offset, word);
+    }
+
     /// Copies so many words to another address, all before the marks. No other word changes.
     #[inline]
     pub fn copy(&mut self, from: u32, to: u32, count: u32)
@@ -167,6 +193,26 @@ impl MainSeat {
         ensures { self.new ≡ record self.old { table = slice_set self.old.table a word } }
     {
         self.table[a as usize] = word;
+    }
+
+    /// Any word of the table, by a cell and an offset. The sum is taken in 64 bits, which it fits
+    /// whatever the two are.
+    #[inline(always)]
+    fn any_slot(&self, cell: u32, offset: u32) -> u64
+        requires { cell + offset < length self.now.table }
+        ensures { slice_get self.now.table (cell + offset) ≡ Some result }
+    {
+        self.table[cell as usize + offset as usize]
+    }
+
+    /// Puts any word of the table, by a cell and an offset.
+    #[inline(always)]
+    fn put_any_slot(&mut self, cell: u32, offset: u32, word: u64)
+        requires { cell + offset < length self.old.table }
+        ensures { let table = slice_set self.old.table (cell + offset) word in
+            self.new ≡ record self.old { table = table } }
+    {
+        self.table[cell as usize + offset as usize] = word;
     }
 
     /// Copies so many words of the table to another address.

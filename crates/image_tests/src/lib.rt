@@ -5,6 +5,8 @@
 #![tactic(auto)]
 
 #[cfg(test)]
+mod exact_images;
+#[cfg(test)]
 mod forged_heaps;
 #[cfg(test)]
 mod images;

@@ -11,13 +11,13 @@ use std::alloc::Global;
 use std::process::Abort;
 use std::test::Fail;
 
-const L: u32 = 0;
+pub(crate) const L: u32 = 0;
 
-const M: u32 = 1;
+pub(crate) const M: u32 = 1;
 
-const K: u32 = 2;
+pub(crate) const K: u32 = 2;
 
-const D: u32 = 3;
+pub(crate) const D: u32 = 3;
 
 const A: u32 = 0;
 
@@ -34,7 +34,7 @@ const FIELD: [Command; 2] = [
 ];
 
 /// The script of the mixed heap. Number 3, the key of an entry, is dead at its end.
-const SCRIPT: [Command; 11] = [
+pub(crate) const SCRIPT: [Command; 11] = [
     List { x: L },
     Weak { x: M },
     New { x: K, cap: 1 },
@@ -211,7 +211,7 @@ const CASES: [(&Worked, &[Command], &[Case]); 2] = [
 ];
 
 /// The graph without objects; there are two names of fields.
-fn empty(alloc: Global) -> Result<Ideal, Fail> {
+pub(crate) fn empty(alloc: Global) -> Result<Ideal, Fail> {
     let mut names = Vec::new(alloc);
     for name in [b"a", b"b"] {
         names.push(Vec::from_slice(alloc, name)?)?;
@@ -223,14 +223,14 @@ fn empty(alloc: Global) -> Result<Ideal, Fail> {
 }
 
 /// The graph goes on with these commands.
-fn go_on(rt: &impl Abort, ideal: &mut Ideal, commands: &[Command]) {
+pub(crate) fn go_on(rt: &impl Abort, ideal: &mut Ideal, commands: &[Command]) {
     for command in commands {
         assert!(rt; ideal.step(command).is_ok());
     }
 }
 
 /// Whether an image that is a whole heap shows the graph.
-fn is_shown(rt: &impl Abort, image: &HeapImage, ideal: &Ideal) -> Result<bool, Fail> {
+pub(crate) fn is_shown(rt: &impl Abort, image: &HeapImage, ideal: &Ideal) -> Result<bool, Fail> {
     assert!(rt; is_whole_heap(image));
     match shows(image, ideal) {
         Ok(answer) => Ok(answer),

@@ -1,11 +1,8 @@
 //! Kept heaps of runs, judged against the ideal meaning of the same scripts.
+use crate::runs::{meant, run_kept};
 use heap_command::Command::LetValue;
 use heap_command::Operand::Int;
 use heap_judge::shows;
-use heap_run::{MemSink, MemSource, OpenGate, run};
-use ideal_graph::Ideal;
-use script_text::{Script, What, parse};
-use std::alloc::Global;
 use std::test::Fail;
 use std::thread::Threads;
 
@@ -57,44 +54,14 @@ const SCRIPTS: [&[u8]; 24] = [
       scavenge\nwdel m a\nnew q 0\nwput m q 6000000000\nscavenge",
 ];
 
-/// The graph of a script without `repeat` up to its end or its first fault.
-fn meant(alloc: Global, script: &Script<'_>) -> Result<Ideal, Fail> {
-    let mut names = Vec::new(alloc);
-    for field in 0..script.fields() {
-        names.push(Vec::from_slice(alloc, script.field(field))?)?;
-    }
-    let Ok(mut ideal) = Ideal::new(alloc, names) else {
-        return Err(Fail::from("memory was refused"));
-    };
-    for line in script.lines() {
-        if let What::Run(command) = line.what {
-            if ideal.step(&command).is_err() {
-                break;
-            }
-        }
-    }
-    Ok(ideal)
-}
-
 /// Whether the kept heap of a script's run shows its graph, and whether it shows that graph with one
 /// binding more.
 fn judged<R: Threads + Sync + AllocGlobal>(rt: &R, source: &[u8]) -> Result<(bool, bool), Fail> {
-    let alloc = rt.alloc();
-    let mut words = Vec::new(alloc);
-    for word in ["run", "--pages", "1", "--young", "128", "--helpers", "1"] {
-        words.push(String::from_str(alloc, word)?)?;
-    }
-    let mut from = MemSource::new(source.to_vec(alloc)?, 4096, Vec::new(alloc));
-    let mut sink = MemSink::new(alloc, 1 << 20, 4096, Vec::new(alloc))?;
-    let kept = run(rt, alloc, &words, &mut from, &mut sink, &OpenGate).kept;
-    let image = kept.ok_or("no heap was kept")?.image;
-    let Ok(script) = parse(alloc, source) else {
-        return Err(Fail::from("the script is bad"));
-    };
-    let mut ideal = meant(alloc, &script)?;
-    let same = shows(&image, &ideal);
+    let kept = run_kept(rt, "128", source)?.1;
+    let mut ideal = meant(rt.alloc(), source, kept.executed)?;
+    let same = shows(&kept.image, &ideal);
     let bound = ideal.step(&LetValue { x: 0, v: Int(77) });
-    match (same, bound, shows(&image, &ideal)) {
+    match (same, bound, shows(&kept.image, &ideal)) {
         (Ok(same), Ok(_), Ok(other)) => Ok((same, other)),
         _ => Err(Fail::from("memory was refused")),
     }

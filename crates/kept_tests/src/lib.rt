@@ -4,4 +4,8 @@
 #![tactic(auto)]
 
 #[cfg(test)]
+mod full_heaps;
+#[cfg(test)]
 mod kept_heaps;
+#[cfg(test)]
+mod runs;

@@ -11,7 +11,8 @@ use Rattle.heap_model.specs.Types.{Value, Cell, Held}
 use Rattle.heap_model.specs.Heaps.{words_of_cell}
 use Rattle.heap_model.specs.Kinds.{HasWord, count_offset}
 use Rattle.heap_model.specs.Needs.{capacity_at}
-use Rattle.heap_model.specs.Slots.{is_object_kind, raw_word, RefersToBox}
+use Rattle.tagged_word.specs.Cells.{is_object_kind}
+use Rattle.heap_model.specs.Slots.{raw_word, RefersToBox}
 use Rattle.write_barrier.specs.MutatorState.{Mutator, heap_of, MainShows, with_word}
 use Rattle.object_cells.specs.Capacities.{ChangesObject}
 use Rattle.object_cells.specs.Made.{IsStoreAt, store_content}

@@ -4,7 +4,7 @@ use Rattle.std.proofs.Common.{not, ◌&&◌, false, slice_get, get_or, set, leng
 use Rattle.std.proofs.Common.{refl, sym, ◌∙◌, ap, subst, arith}
 use Rattle.std.specs.Prelude.{slice_set}
 use Rattle.tagged_word.specs.declared.layout.Kind.TheVariants as kind
-use Rattle.tagged_word.specs.Cells.{store_head}
+use Rattle.tagged_word.specs.Cells.{store_head, is_object_kind}
 use Rattle.page_space.specs.Sizes.{AreWithin}
 use Rattle.heap_model.specs.Types.{Value, Cell, Held}
 use Rattle.object_graph.specs.Graphs.{Graph, ListObject}
@@ -20,7 +20,7 @@ use Rattle.heap_model.proofs.CellWords.{words_by_kind, words_are_size}
 use Rattle.write_barrier.specs.MutatorState.{Mutator, heap_of, reserved}
 use Rattle.write_barrier.specs.Recording.{Touches, touched_one, touched_then}
 use Rattle.heap_model.specs.Remembered.{Touch}
-use Rattle.heap_model.specs.Slots.{is_object_kind, IsSlotWord}
+use Rattle.heap_model.specs.Slots.{IsSlotWord}
 use Rattle.object_cells.specs.declared.stores.Store.{Store}
 use Rattle.object_cells.specs.Capacities.{ChangesObject}
 use Rattle.object_cells.specs.Contents.{next_at, box_in, filling_at, filling_of, filling_need, FillsSlot}

@@ -3,6 +3,9 @@ use Rattle.tagged_word.specs.Cells.{store_head}
 use Rattle.std.specs.Prelude.{◌≡◌, ℕ, ◌+◌, ◌<◌, ◌≤◌, [], ◌∷◌}
 use Rattle.std.specs.Prelude.{◌++◌, length, Some, None, slice_get, slice_set, ℤ}
 use Rattle.std.specs.Prelude.{Result, Ok, Err}
+use Rattle.tagged_word.specs.declared.word.Word.{Word}
+use Rattle.heap_table.specs.Seats.{heap_words}
+use Rattle.handle_roots.specs.Roots.{FitsHeld, with_root}
 use Rattle.heap_model.specs.Types.{Value, Held}
 use Rattle.object_graph.specs.Graphs.{Graph, ListObject}
 use Rattle.object_graph.specs.Meaning.{list_most, below, relist}
@@ -10,7 +13,8 @@ use Rattle.nursery.specs.Young.{HasRoom}
 use Rattle.heap_model.specs.Showing.{ShowsHeld}
 use Rattle.heap_model.specs.Needs.{capacity_at}
 use Rattle.heap_model.specs.Rooms.{push_need, put_need, push_capacity}
-use Rattle.write_barrier.specs.MutatorState.{Mutator, heap_of, MainShows}
+use Rattle.write_barrier.specs.MutatorState.{Mutator, heap_of, MainShows, with_variable}
+use Rattle.write_barrier.specs.ValueLaws.{ShowsByClass}
 use Rattle.object_cells.specs.ListObjects.{IsListAt}
 use Rattle.object_cells.specs.HeldValues.{IsValueHeld}
 use Rattle.object_cells.specs.declared.stores.Store.{Store}
@@ -97,8 +101,26 @@ pub record IsElementAt (list : ListObject) (index : ℤ) (value : Value) : Type 
   pub names : IsPlaceIn list index place
   pub stands : slice_get list.elements place ≡ Some value
 
+-- a word shows the element that an index names; or it names none
+abbrev pub TellsWord : Mutator → ListObject → ℤ → Result Word Range → Type 0
+TellsWord main list index (Ok word) =
+    (value : Value) × IsElementAt list index value × ShowsByClass (heap_of main) word.0 value
+TellsWord main list index (Err range) = IsIndexOutside list index
+
 -- `at`: what is held shows the element that an index names; or it names none.
 abbrev pub TellsElement : Mutator → ListObject → ℤ → Result Held Range → Type 0
 TellsElement main list index (Ok held) =
     (value : Value) × IsElementAt list index value × ShowsHeld (heap_of main) held (Some value)
 TellsElement main list index (Err range) = IsIndexOutside list index
+
+-- a variable holds this, and no other word has changed
+pub record HoldsThis (old new : Mutator) (variable : ℕ) (held : Held) : Type 0 where
+  pub fits : FitsHeld held
+  pub is : new ≡ with_variable old variable held
+  pub heap : heap_words new.seat ≡ with_root old.seat.space (heap_words old.seat) variable held
+
+-- `hold_at`: a variable holds what shows the element that an index names; or it names none, and nothing has changed.
+abbrev pub HoldsElement : Mutator → Mutator → ℕ → ListObject → ℤ → Result Unit Range → Type 0
+HoldsElement old new variable list index (Ok _) =
+    (held : Held) × TellsElement old list index (Ok held) × HoldsThis old new variable held
+HoldsElement old new variable list index (Err range) = IsIndexOutside list index × (new ≡ old)

@@ -101,6 +101,7 @@ fn push_value(main: &mut Main, list: u32, count: u32, value: Held) -> Result<(),
 /// # Errors
 /// The list has 1,000 elements; there is no room for a store or a box that the element needs. In
 /// this order; nothing has changed.
+#[inline(always)]
 pub fn push(main: &mut Main, list: u32, value: Held) -> Result<(), PushStop>
     requires { IsShownSetting main.old list value }
     ensures { (graph : Graph) (one : ListObject) (what : GraphValue) → MainShows main.old graph

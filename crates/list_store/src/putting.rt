@@ -20,6 +20,7 @@ use write_barrier::{Main, NoRoom};
 
 /// The slot at an offset of a list's store comes to hold the value: a wide one in the box that
 /// stands there, or in one that is made.
+#[inline(always)]
 fn fill_slot(main: &mut Main, store: u32, offset: u32, value: Held) -> Result<(), NoRoom>
     requires whole { IsQuietWhole main.old }
     requires tied { IsTied main.old }
@@ -40,6 +41,7 @@ fn fill_slot(main: &mut Main, store: u32, offset: u32, value: Held) -> Result<()
 /// # Errors
 /// The index is below 0, or not below the length; there is no room for a box that the element
 /// needs. In this order; nothing has changed.
+#[inline(always)]
 pub fn put(main: &mut Main, list: u32, index: i64, value: Held) -> Result<(), PutStop>
     requires { IsShownSetting main.old list value }
     ensures { (graph : Graph) (one : ListObject) (what : GraphValue) → MainShows main.old graph

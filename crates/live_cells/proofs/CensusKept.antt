@@ -16,7 +16,8 @@ use Rattle.object_graph.specs.Invariants.{IsGraph}
 use Rattle.object_graph.specs.Reach.{is_marked, reach, marked_entries}
 use Rattle.object_graph.proofs.Rounds.{length-rounds}
 use Rattle.heap_model.specs.Heaps.{Heap, Row, AreRows, HasCell, words_of_cell}
-use Rattle.heap_model.specs.Slots.{is_object_kind, IsPlace}
+use Rattle.tagged_word.specs.Cells.{is_object_kind}
+use Rattle.heap_model.specs.Slots.{IsPlace}
 use Rattle.heap_model.specs.Showing.{ShowsObject, ShowsReached}
 use Rattle.heap_model.proofs.CellsApart.{one_at, used_few}
 use Rattle.heap_model.proofs.ShownObjects.{object_of_shown}

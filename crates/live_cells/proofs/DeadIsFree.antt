@@ -2,12 +2,12 @@
 use Rattle.std.proofs.Common.{◌≡◌, ℕ, ◌<◌, inl, inr, List, Option, Some, IsTrue, refl}
 use Rattle.std.proofs.Common.{subst, arith}
 use Rattle.tagged_word.specs.declared.layout.Kind.TheVariants as kind
-use Rattle.tagged_word.specs.Cells.{is_free_kind}
+use Rattle.tagged_word.specs.Cells.{is_free_kind, is_object_kind}
 use Rattle.page_space.specs.Extents.{Space, eden_start}
 use Rattle.object_graph.specs.Graphs.{Graph}
 use Rattle.heap_model.specs.Types.{Kind, Cell}
 use Rattle.heap_model.specs.Heaps.{Heap, HasCell}
-use Rattle.heap_model.specs.Slots.{is_object_kind, IsPlace}
+use Rattle.heap_model.specs.Slots.{IsPlace}
 use Rattle.heap_model.specs.Wholeness.{IsOwnedKind}
 use Rattle.heap_model.proofs.StaysCollectable.{owned_not_free}
 use Rattle.heap_moves.specs.Moved.{moved_to, IsMoved}
@@ -68,8 +68,7 @@ swept_dead_is_free old new marked to graph rows shows are stay moved filled at b
     let cell : Cell = among.cell in
     let live = live_is_reached old graph cell.at shows ((are cell.at).0 among.among) in
     let stood = moved.stands cell among.words cell.at among.has (stay.stays cell.at among.among) in
-    used_not_dead at keeps stood.has (live_used among.has live)
-    (record { from = among.from; below = among.below }) dead)
+    used_not_dead at keeps stood.has (live_used among.has live) among.of_cell dead)
 
 module _ {old new : Heap} {to : ℕ → Option ℕ} {graph : Graph} (keeps : KeepsNoOther old graph)
     (moved : IsMoved old new to)

@@ -4,13 +4,13 @@ use Rattle.std.proofs.Common.{sym, ◌∙◌, ap, subst}
 use Rattle.std.proofs.lemmas.Bool.{false≢true}
 use Rattle.std.proofs.lemmas.Option.{same_Some}
 use Rattle.tagged_word.specs.declared.layout.Kind.TheVariants as kind
-use Rattle.tagged_word.specs.Cells.{store_head, store_slot}
+use Rattle.tagged_word.specs.Cells.{store_head, store_slot, is_object_kind}
 use Rattle.heap_model.specs.Types.{Object, Entry, Cell}
 use Rattle.object_graph.specs.declared.object.Object.TheVariants as graph_object
 use Rattle.object_graph.specs.Graphs.{Graph}
 use Rattle.object_graph.specs.Reach.{is_marked, reach}
 use Rattle.heap_model.specs.Heaps.{Heap, HasCell}
-use Rattle.heap_model.specs.Slots.{is_object_kind, reference_word, IsPlace, RefersTo}
+use Rattle.heap_model.specs.Slots.{reference_word, IsPlace, RefersTo}
 use Rattle.heap_model.specs.Kinds.{HasWord, Pair, pairs_in}
 use Rattle.heap_model.specs.Wholeness.{IsOwnedKind, NamesFrom}
 use Rattle.heap_model.specs.Showing.{ShowsValue, IsKnownKey, ShowsWeak, ShowsObject, Shows}

@@ -4,6 +4,7 @@ use Rattle.std.proofs.Common.{refl, sym, ◌∙◌, ap, subst, arith}
 use Rattle.std.proofs.lemmas.Option.{same_Some, none-some, slice_get-get_or, slice_get_within}
 use Rattle.tagged_word.specs.declared.layout.Kind.TheVariants as kind
 use Rattle.tagged_word.specs.Cells.{tagged_offsets_of, scavenge_offsets, scavenge_offsets_of, store_slot}
+use Rattle.tagged_word.specs.Cells.{is_object_kind}
 use Rattle.heap_model.specs.Types.{Value, Rep, Object, Field, Entry, Path, Cell}
 use Rattle.object_graph.specs.declared.value.Value.TheVariants.{Ref}
 use Rattle.object_graph.specs.declared.value.Rep.TheVariants as rep
@@ -13,7 +14,7 @@ use Rattle.object_graph.specs.Reach.{is_marked}
 use Rattle.shape_tree.specs.Shapes.{shape_path}
 use Rattle.graph_laws.specs.ReachLaws.{LinksTo}
 use Rattle.heap_model.specs.Heaps.{Heap, HasCell}
-use Rattle.heap_model.specs.Slots.{is_object_kind, reference_word, IsPlace, RefersTo, RefersToPlace}
+use Rattle.heap_model.specs.Slots.{reference_word, IsPlace, RefersTo, RefersToPlace}
 use Rattle.heap_model.specs.Kinds.{HasWord, Pair, HasTable, IsPlainCell, IsListCell, IsSoundOf}
 use Rattle.heap_model.specs.Wholeness.{HasSlotAt, Whole}
 use Rattle.heap_model.specs.Showing.{ShowsValue, ShowsField, ShowsPlain, ShowsList, ShowsWeak, ShowsObject}

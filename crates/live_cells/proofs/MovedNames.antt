@@ -3,7 +3,7 @@ use Rattle.std.proofs.Common.{◌≡◌, ℕ, ◌+◌, List, Option, Some, IsTru
 use Rattle.std.proofs.lemmas.Option.{same_Some}
 use Rattle.heap_model.specs.Types.{Cell}
 use Rattle.heap_model.specs.Heaps.{Heap}
-use Rattle.heap_model.specs.Slots.{is_object_kind}
+use Rattle.tagged_word.specs.Cells.{is_object_kind}
 use Rattle.heap_model.specs.Wholeness.{HasSlotAt, NamesFrom}
 use Rattle.heap_model.proofs.ObjectSlots.{store_slot_in}
 use Rattle.heap_moves.specs.Moved.{IsMovedWord, AreMoved, moved_to, IsMoved}

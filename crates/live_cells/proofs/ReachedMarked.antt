@@ -47,7 +47,7 @@ shown_place {heap} marks what one = record {
 }
 
 module _ {heap : Heap} {graph : Graph} (marked : ℕ → Bool) (shows : Shows heap graph)
-    (targets : HasRootTargets heap marked) (closed : IsMarkClosed heap marked) where
+    (targets : HasRootTargets heap (λ at. IsTrue (marked at))) (closed : IsMarkClosed heap marked) where
   -- where an object that can be reached stands; 0 for any other
   address_by : (number : ℕ) → (is_marked (reach graph) number ≡ true) ⊎ (is_marked (reach graph) number ≡ false) → ℕ
   address_by number (inl reached) = (shown number shows reached).2.cell.at

@@ -5,7 +5,8 @@ use Rattle.heap_model.specs.Types.{Value, Rep, Cell}
 use Rattle.object_graph.specs.declared.value.Value.TheVariants.{Ref}
 use Rattle.object_graph.specs.declared.value.Rep.TheVariants as rep
 use Rattle.heap_model.specs.Heaps.{Heap, HasCell}
-use Rattle.heap_model.specs.Slots.{is_object_kind, reference_word, IsPlace, RefersToBox}
+use Rattle.tagged_word.specs.Cells.{is_object_kind}
+use Rattle.heap_model.specs.Slots.{reference_word, IsPlace, RefersToBox}
 use Rattle.heap_model.specs.Wholeness.{IsOwnedKind}
 use Rattle.heap_model.specs.Showing.{ShowsValue, ShowsWide, ShowsField}
 use Rattle.heap_model.proofs.CellsApart.{one_at}

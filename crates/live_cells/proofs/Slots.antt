@@ -2,10 +2,10 @@
 use Rattle.std.proofs.Common.{◌≡◌, ℕ, List, drop, Contains, IsTrue, ap, subst, arith}
 use Rattle.std.proofs.lemmas.Bool.{false≢true}
 use Rattle.tagged_word.specs.declared.layout.Kind.TheVariants as kind
-use Rattle.tagged_word.specs.Cells.{tagged_offsets_of, scavenge_offsets_of, store_head}
+use Rattle.tagged_word.specs.Cells.{tagged_offsets_of, scavenge_offsets_of, store_head, is_object_kind}
 use Rattle.heap_model.specs.Types.{Kind, LayoutWord, Cell}
 use Rattle.heap_model.specs.Heaps.{Heap, HasCell}
-use Rattle.heap_model.specs.Slots.{is_object_kind, RefersTo, HoldsStore}
+use Rattle.heap_model.specs.Slots.{RefersTo, HoldsStore}
 use Rattle.heap_model.specs.Kinds.{Pair, pairs_in, HasTable}
 use Rattle.heap_model.proofs.CellsApart.{one_words}
 use Rattle.heap_model.proofs.WordClasses.{undefined_refers_not}

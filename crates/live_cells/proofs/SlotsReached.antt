@@ -4,6 +4,7 @@ use Rattle.std.proofs.Common.{sym, ◌∙◌, ap, subst, arith}
 use Rattle.std.proofs.lemmas.Option.{same_Some}
 use Rattle.tagged_word.specs.declared.layout.Kind.TheVariants as kind
 use Rattle.tagged_word.specs.Cells.{tagged_offsets, tagged_offsets_of, in_object_offsets, store_head, store_slot}
+use Rattle.tagged_word.specs.Cells.{is_object_kind}
 use Rattle.tagged_word.proofs.Members.{in_cases, one_in, range_bounds}
 use Rattle.heap_model.specs.Types.{Kind, Object, Cell}
 use Rattle.object_graph.specs.declared.object.Object.TheVariants as graph_object
@@ -11,7 +12,7 @@ use Rattle.object_graph.specs.Graphs.{Graph}
 use Rattle.object_graph.specs.Reach.{is_marked, reach}
 use Rattle.graph_laws.proofs.Reaches.{reach_closed}
 use Rattle.heap_model.specs.Heaps.{Heap, HasCell}
-use Rattle.heap_model.specs.Slots.{is_object_kind, reference_word, IsPlace, RefersTo, HoldsStore}
+use Rattle.heap_model.specs.Slots.{reference_word, IsPlace, RefersTo, HoldsStore}
 use Rattle.heap_model.specs.Kinds.{HasWord}
 use Rattle.heap_model.specs.Wholeness.{HasSlotAt, IsOwnedKind, NamesFrom}
 use Rattle.heap_model.specs.Showing.{ShowsObject, ShowsReached, Shows}

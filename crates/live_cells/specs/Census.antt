@@ -7,7 +7,7 @@ use Rattle.object_graph.specs.Invariants.{IsGraph}
 use Rattle.object_graph.specs.Reach.{reached_objects, reached_entries}
 use Rattle.heap_model.specs.Types.{Kind, Cell}
 use Rattle.heap_model.specs.Heaps.{Heap, Row, AreRows}
-use Rattle.heap_model.specs.Slots.{is_object_kind}
+use Rattle.tagged_word.specs.Cells.{is_object_kind}
 use Rattle.heap_model.specs.Needs.{count_at}
 use Rattle.live_cells.specs.Exact.{KeepsNoOther}
 

@@ -13,7 +13,7 @@ use Rattle.heap_model.specs.Showing.{Shows}
 use Rattle.heap_model.specs.Reaching.{IsReached}
 use Rattle.heap_model.specs.Collectable.{AreFreeRuns}
 use Rattle.heap_moves.specs.Moved.{moved_to, IsMoved}
-use Rattle.live_cells.specs.Exact.{KeepsNoOther, IsDeadWord, Fits}
+use Rattle.live_cells.specs.Exact.{KeepsNoOther, IsWordOf, IsDeadWord, Fits}
 use Rattle.live_cells.specs.Keeping.{StayInPlace}
 use Rattle.live_cells.specs.Live.{AreLive}
 
@@ -39,8 +39,7 @@ pub record IsWordAmong (heap : Heap) (marked : List ℕ) (at : ℕ) : Type 0 whe
   pub words : List ℕ
   pub has : HasCell heap cell words
   pub among : Contains marked cell.at
-  pub from : cell.at ≤ at
-  pub below : at < cell.at + cell.size
+  pub of_cell : IsWordOf cell at
 
 -- Where just the live cells of a heap stay, in their places, and each word of a page that no live cell had is in a free
 -- run, each dead word of a page is.

@@ -30,8 +30,8 @@ LiveIsReached =
 abbrev pub ReachedIsMarked : Type 0
 ReachedIsMarked =
     (heap : Heap) (graph : Graph) (marked : ℕ → Bool) (number at : ℕ) → Shows heap graph
-    → HasRootTargets heap marked → IsMarkClosed heap marked → IsTrue (is_marked (reach graph) number)
-    → IsPlace heap number at → IsTrue (marked at)
+    → HasRootTargets heap (λ at. IsTrue (marked at)) → IsMarkClosed heap marked
+    → IsTrue (is_marked (reach graph) number) → IsPlace heap number at → IsTrue (marked at)
 
 -- So each place of what can be reached is live.
 abbrev pub ReachedIsLive : Type 0

@@ -4,8 +4,8 @@ use Rattle.heap_model.specs.Heaps.{Heap}
 use Rattle.live_cells.specs.Live.{HasSlotTo, HasEntry, IsRootTarget}
 
 -- what root words refer to is marked
-abbrev pub HasRootTargets : Heap → (ℕ → Bool) → Type 0
-HasRootTargets heap marked = (at : ℕ) → IsRootTarget heap at → IsTrue (marked at)
+abbrev pub HasRootTargets : Heap → (ℕ → Type 0) → Type 0
+HasRootTargets heap IsMarked = (at : ℕ) → IsRootTarget heap at → IsMarked at
 
 -- What a slot of a marked cell refers to, of those that marking visits, is marked; and so is the value of a pair whose
 -- table and key are marked.

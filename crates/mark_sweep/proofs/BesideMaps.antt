@@ -9,7 +9,7 @@ use Rattle.page_space.specs.Sizes.{AreWithin}
 use Rattle.page_space.specs.Extents.{roots_start}
 use Rattle.heap_model.specs.Types.{Cell}
 use Rattle.heap_model.specs.Heaps.{Heap, HasCell}
-use Rattle.heap_model.specs.Slots.{reference_word}
+use Rattle.heap_model.specs.Slots.{reference_word, IsWeakCellAt}
 use Rattle.heap_model.specs.Kinds.{count_offset}
 use Rattle.heap_model.specs.Needs.{capacity_at, capacity_by, word_at}
 use Rattle.heap_model.specs.Wholeness.{Whole}
@@ -19,7 +19,6 @@ use Rattle.heap_model.proofs.WordsAlike.{cell_below_roots}
 use Rattle.heap_model.proofs.WordsRead.{word_of_cell}
 use Rattle.object_cells.proofs.WordsTold.{cell_fits}
 use Rattle.ephemeron_table.specs.Pairs.{IsNoPairWord}
-use Rattle.ephemeron_table.specs.Probes.{IsWeakCellAt}
 use Rattle.ephemeron_table.proofs.TablesRead.{found_table, weak_sound}
 use Rattle.ephemeron_clear.specs.Clearing.{AreMaps, IsBesideMaps}
 

@@ -5,7 +5,7 @@ use Rattle.page_space.specs.Sizes.{AreWithin}
 use Rattle.page_space.specs.Extents.{Space}
 use Rattle.object_graph.specs.Graphs.{Graph}
 use Rattle.heap_model.specs.Heaps.{Heap, words_of_cell}
-use Rattle.heap_model.specs.Slots.{reference_word}
+use Rattle.heap_model.specs.Slots.{reference_word, IsWeakCellAt}
 use Rattle.heap_model.specs.Kinds.{Pair}
 use Rattle.heap_model.specs.Showing.{Shows}
 use Rattle.heap_model.specs.Collectable.{IsInHalf, IsCollectable}
@@ -17,9 +17,8 @@ use Rattle.live_cells.proofs.LiveClosed.{live_is_closed}
 use Rattle.live_cells.proofs.LiveKept.{reached_is_live}
 use Rattle.live_cells.proofs.TablesOfMaps.{live_maps_tell}
 use Rattle.write_barrier.specs.MutatorState.{Mutator, heap_of}
-use Rattle.ephemeron_table.specs.Probes.{IsWeakCellAt}
 use Rattle.ephemeron_clear.specs.Clearing.{AreMaps, Clears}
-use Rattle.ephemeron_mark.specs.Marked.{Marked, IsLiveAt, IsMapAt}
+use Rattle.ephemeron_mark.specs.Marked.{Marked, IsLiveAt}
 use Rattle.sweeper.specs.Swept.{IsSweepable}
 use Rattle.mark_sweep.proofs.TakenPairs.{pair_filled, pairs_of_map, pairs_taken}
 
@@ -29,29 +28,15 @@ pub record IsMarked (heap : Heap) (graph : Graph) (maps marked : List ℕ) : Typ
   pub live : AreLive heap marked
   pub told : (at : ℕ) → Contains maps at ↔ (IsLive heap (IsRootTarget heap) at × IsWeakCellAt heap at)
 
--- a weak map's cell that a marking found stands there
-weak_there : {heap : Heap} {at : ℕ} → IsMapAt heap at → IsWeakCellAt heap at
-weak_there is =
-    record { cell = is.cell; words = is.words; has = is.has; stands = is.stands; of_kind = is.of_kind }
-
--- and the other way round
-map_there : {heap : Heap} {at : ℕ} → IsWeakCellAt heap at → IsMapAt heap at
-map_there is =
-    record { cell = is.cell; words = is.words; has = is.has; stands = is.stands; of_kind = is.of_kind }
-
--- so they are what a marking found
+-- the cells and the weak maps that a marking found are such
 pub marked_by : {heap : Heap} {graph : Graph} {maps marked : List ℕ} (found : Marked) → Shows heap graph
     → marked ≡ found.cells → maps ≡ found.maps → ((at : ℕ) → Contains found.cells at ↔ IsLiveAt heap at)
-    → ((at : ℕ) → Contains found.maps at ↔ (IsLiveAt heap at × IsMapAt heap at)) → IsMarked heap graph maps marked
+    → ((at : ℕ) → Contains found.maps at ↔ (IsLiveAt heap at × IsWeakCellAt heap at)) → IsMarked heap graph maps marked
 marked_by {heap} found shows same_cells same_maps live told = record {
   shows = shows;
   live = subst (AreLive heap) (sym same_cells) live;
-  told = λ at. (
-    λ among.
-        let both = (told at).0 (subst (λ all. Contains all at) same_maps among) in
-        (both.0, weak_there both.1),
-    λ both. subst (λ all. Contains all at) (sym same_maps) ((told at).1 (both.0, map_there both.1)),
-  );
+  told = subst (λ (all : List ℕ). (at : ℕ) → Contains all at ↔ (IsLiveAt heap at × IsWeakCellAt heap at))
+      (sym same_maps) told;
 }
 
 -- weak maps stand there

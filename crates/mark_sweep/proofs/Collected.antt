@@ -20,10 +20,10 @@ use Rattle.write_barrier.specs.MutatorState.{Mutator, heap_of, IsTied, AvoidsFre
 use Rattle.object_cells.proofs.TakenRuns.{bumped_none}
 use Rattle.ephemeron_clear.specs.Clearing.{Clears}
 use Rattle.sweeper.specs.Swept.{Sweeps, place_if_marked}
-use Rattle.mark_sweep.specs.MarkSwept.{LiveCellsStay, KeepsObjects, MarkSweeps, Ungrants}
+use Rattle.mark_sweep.specs.MarkSwept.{LiveCellsStay, MarkSweeps, Ungrants}
 use Rattle.mark_sweep.proofs.Ungranted.{heap_stays, ungranted_remembered}
 use Rattle.mark_sweep.proofs.ClearedHeap.{IsMarked, still_collectable, still_live, still_shown}
-use Rattle.mark_sweep.proofs.SweptObjects.{SweptAfter, live_stays, marked_stay, objects_kept, rooms_no_fuller}
+use Rattle.mark_sweep.proofs.SweptObjects.{SweptAfter, live_stays, marked_stay, rooms_no_fuller}
 
 -- From a heap that shows a graph, nothing was granted any more; its live cells were marked; dead entries were cleared;
 -- and what was not marked was made free.
@@ -65,8 +65,7 @@ module _ {old bare cleared new : Mutator} {graph : Graph} {maps marked : List �
         words = is.words;
         has = is.has;
         among = is.among;
-        from = is.from;
-        below = is.below;
+        of_cell = record { from = is.from; below = is.below };
       })))
 
   -- what is left of objects
@@ -165,7 +164,6 @@ module _ {old bare cleared new : Mutator} {graph : Graph} {maps marked : List �
     runs = steps.sweeps.apart;
     rows = steps.sweeps.rows ∙ ap (λ (space : Space). space.sizes.pages) (sym steps.sweeps.seat.space);
     cells = subst (λ (heap : Heap). LiveCellsStay heap (heap_of new)) same_heap (live_stays after);
-    objects = subst (λ (heap : Heap). KeepsObjects heap (heap_of new) graph) same_heap (objects_kept after);
     rooms = subst (λ (heap : Heap). RoomsAreNoFuller heap (heap_of new) graph) same_heap (rooms_no_fuller after);
     seat = rest;
     paths = steps.sweeps.paths ∙ steps.clears.takes.paths ∙ steps.ungrants.paths;

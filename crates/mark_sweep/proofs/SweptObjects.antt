@@ -3,13 +3,13 @@
 use Rattle.std.proofs.Common.{◌≡◌, ℕ, ◌≤◌, inr, List, Contains, Some, IsTrue, slice_get}
 use Rattle.std.proofs.Common.{refl, sym, ◌∙◌, ap, subst, arith}
 use Rattle.std.proofs.lemmas.Bool.{false≢true}
-use Rattle.tagged_word.specs.Cells.{is_free_kind}
+use Rattle.tagged_word.specs.Cells.{is_free_kind, is_object_kind}
 use Rattle.object_graph.specs.declared.object.Object.TheVariants as graph_object
 use Rattle.object_graph.specs.Graphs.{Graph}
 use Rattle.object_graph.specs.Reach.{is_marked, reach}
 use Rattle.heap_model.specs.Types.{Object, Cell}
 use Rattle.heap_model.specs.Heaps.{Heap, words_of_cell}
-use Rattle.heap_model.specs.Slots.{is_object_kind, IsPlace}
+use Rattle.heap_model.specs.Slots.{IsPlace, IsWeakCellAt}
 use Rattle.heap_model.specs.Needs.{capacity_at, count_at}
 use Rattle.heap_model.specs.Rooms.{Room, room_at, IsNoFuller, RoomsAreNoFuller}
 use Rattle.heap_model.specs.Showing.{Shows}
@@ -24,11 +24,10 @@ use Rattle.live_cells.specs.Live.{AreLive}
 use Rattle.live_cells.proofs.LiveKept.{reached_is_live}
 use Rattle.live_cells.proofs.ReachedMarked.{shown_place}
 use Rattle.write_barrier.specs.MutatorState.{Mutator, heap_of}
-use Rattle.ephemeron_table.specs.Probes.{IsWeakCellAt}
 use Rattle.ephemeron_clear.specs.Clearing.{TakesUnmarked}
 use Rattle.sweeper.specs.Swept.{place_if_marked}
 use Rattle.sweeper.proofs.KeptPlaces.{place_is_kept, place_of_marked}
-use Rattle.mark_sweep.specs.MarkSwept.{LiveCellsStay, KeepsObjects}
+use Rattle.mark_sweep.specs.MarkSwept.{LiveCellsStay}
 
 -- what is marked stays in its place, and nothing else stays
 pub marked_stay : (marked : List ℕ) → StayInPlace marked (place_if_marked marked)
@@ -129,15 +128,6 @@ module _ {old mid : Mutator} {new : Heap} {graph : Graph} {maps marked : List �
         of_kind = mid_there.of_kind;
       } in
       omega (arith, same, after.takes.counts at was)
-
-  -- So objects are kept.
-  pub objects_kept : KeepsObjects (heap_of old) new graph
-  objects_kept = record {
-    stays = reached_stays;
-    stood = stood_before;
-    capacities = same_capacity;
-    entries = no_more_entries;
-  }
 
   -- the room of each kind of object is no fuller
   room_by : (number at : ℕ) (what : Object) → slice_get graph.objects number ≡ Some what

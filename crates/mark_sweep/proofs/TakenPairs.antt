@@ -10,7 +10,7 @@ use Rattle.handle_roots.specs.Roots.{root_at}
 use Rattle.heap_table.specs.Seats.{heap_words}
 use Rattle.heap_model.specs.Types.{Cell}
 use Rattle.heap_model.specs.Heaps.{Heap, HasCell, words_of_cell}
-use Rattle.heap_model.specs.Slots.{reference_word}
+use Rattle.heap_model.specs.Slots.{reference_word, IsWeakCellAt}
 use Rattle.heap_model.specs.Kinds.{Pair, count_offset}
 use Rattle.heap_model.specs.Wholeness.{Whole}
 use Rattle.heap_model.proofs.BoundHeaps.{none_in}
@@ -21,7 +21,6 @@ use Rattle.live_cells.proofs.Slots.{marking_slots}
 use Rattle.write_barrier.specs.MutatorState.{Mutator, heap_of}
 use Rattle.object_cells.proofs.SlotsNow.{word_at_offset}
 use Rattle.weak_pairs.specs.Pairs.{HasPairsAt, IsFilledAt}
-use Rattle.ephemeron_table.specs.Probes.{IsWeakCellAt}
 use Rattle.ephemeron_table.proofs.TablesRead.{one_map}
 use Rattle.ephemeron_clear.specs.Clearing.{AreMaps, TakesUnmarked}
 use Rattle.ephemeron_clear.proofs.FilledKeys.{some_pairs}

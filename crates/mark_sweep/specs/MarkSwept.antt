@@ -1,21 +1,17 @@
 -- What marking, clearing and sweeping come to, as one call.
-use Rattle.std.specs.Prelude.{◌≡◌, ℕ, ◌≤◌, List, length, IsTrue}
+use Rattle.std.specs.Prelude.{◌≡◌, ℕ, List, length}
 use Rattle.nursery.specs.Young.{no_run, with_granted}
 use Rattle.free_runs.specs.FreeRuns.{AreFree}
 use Rattle.object_graph.specs.Graphs.{Graph}
-use Rattle.object_graph.specs.Reach.{is_marked, reach}
 use Rattle.heap_table.specs.Seats.{RestStays, heap_words}
 use Rattle.heap_model.specs.Types.{Cell}
 use Rattle.heap_model.specs.Heaps.{Heap, HasCell}
-use Rattle.heap_model.specs.Slots.{IsPlace}
-use Rattle.heap_model.specs.Needs.{capacity_at, count_at}
 use Rattle.heap_model.specs.Rooms.{RoomsAreNoFuller}
 use Rattle.live_cells.specs.Exact.{KeepsNoOther}
 use Rattle.live_cells.specs.Fitting.{DeadIsFree}
 use Rattle.live_cells.specs.Live.{IsLive, IsRootTarget}
 use Rattle.write_barrier.specs.MutatorState.{Mutator, heap_of, MainShows}
 use Rattle.write_barrier.specs.Recording.{Touches, untouched}
-use Rattle.ephemeron_table.specs.Probes.{IsWeakCellAt}
 
 -- Nothing is granted any more, and nothing was written or recorded.
 pub record Ungrants (old new : Mutator) : Type 0 where
@@ -31,17 +27,6 @@ LiveCellsStay old new =
     (cell : Cell) (words : List ℕ) → HasCell old cell words → IsLive old (IsRootTarget old) cell.at
     → (others : List ℕ) × HasCell new cell others
 
--- What is left of objects, where they stand and how much they hold.
-pub record KeepsObjects (old new : Heap) (graph : Graph) : Type 0 where
-  -- an object that can be reached stands where it stood
-  pub stays : (number at : ℕ) → IsTrue (is_marked (reach graph) number) → IsPlace old number at → IsPlace new number at
-  -- and what stands stood there
-  pub stood : (number at : ℕ) → IsPlace new number at → IsPlace old number at
-  -- it has a store of as many slots, or a table of as many pairs
-  pub capacities : (number at : ℕ) → IsPlace new number at → capacity_at new at ≡ capacity_at old at
-  -- and a weak map has no more entries
-  pub entries : (at : ℕ) → IsWeakCellAt new at → count_at new at ≤ count_at old at
-
 -- The live cells of a heap that shows a graph are kept where they stand, pairs of weak maps with dead keys are taken
 -- out, and all else is free.
 pub record MarkSweeps (old new : Mutator) (graph : Graph) : Type 0 where
@@ -55,8 +40,7 @@ pub record MarkSweeps (old new : Mutator) (graph : Graph) : Type 0 where
   pub rows : length new.free ≡ new.seat.space.sizes.pages
   -- live cells stand where they stood
   pub cells : LiveCellsStay (heap_of old) (heap_of new)
-  -- so objects do, with the capacity that they had, and no more of it filled
-  pub objects : KeepsObjects (heap_of old) (heap_of new) graph
+  -- objects have the capacity that they had, and no more of it filled
   pub rooms : RoomsAreNoFuller (heap_of old) (heap_of new) graph
   -- regions, phase, marks and board, and field paths are the same
   pub seat : RestStays old.seat new.seat

@@ -91,7 +91,6 @@ pub fn at(main: &mut Main, y: u32, x: u32, i: Operand) -> Result<(), Stop>
     let (target, index) = operands(main, Operand::Var(x), i)?;
     let from = find_list(main, target)?;
     let which = integer(index)?;
-    let value = list_store::at(main, from, which)?;
-    main.hold(y, value);
+    list_store::hold_at(main, y, from, which)?;
     Ok(())
 }

@@ -46,6 +46,7 @@ pub fn new_plain(main: &mut Main, x: u32, object: u32, cap: u32) -> Result<(), S
 }
 
 /// Makes the words at an address the cell of a plain object without fields.
+#[inline(always)]
 fn fill_plain(main: &mut Main, at: u32, header: Header, cap: u32)
     requires quiet { main.old.seat.phase ≡ Quiet }
     requires is { IsHeader header }
@@ -66,6 +67,7 @@ fn fill_plain(main: &mut Main, at: u32, header: Header, cap: u32)
 }
 
 /// Makes the words at an address the cell of a list without elements, or of a weak map without entries.
+#[inline(always)]
 pub(crate) fn fill_counted(main: &mut Main, at: u32, header: Header)
     requires quiet { main.old.seat.phase ≡ Quiet }
     requires is { IsHeader header }

@@ -6,11 +6,11 @@ use Rattle.heap_model.specs.Types.{Kind, Cell}
 use Rattle.tagged_word.specs.declared.layout.Kind.TheVariants as kind
 use Rattle.tagged_word.specs.declared.word.Class.TheVariants.{Ref}
 use Rattle.tagged_word.specs.Words.{IsClass}
-use Rattle.tagged_word.specs.Cells.{store_slot, length_offset, has_length, length_by}
+use Rattle.tagged_word.specs.Cells.{store_slot, length_offset, has_length, length_by, is_object_kind}
 use Rattle.tagged_word.specs.Readings.{reference_in}
 use Rattle.tagged_word.proofs.Readings.{reference_from, reference_to}
 use Rattle.heap_model.specs.Heaps.{Heap, HasCell, words_of_cell}
-use Rattle.heap_model.specs.Slots.{reference_word, undefined_word, is_object_kind, RefersTo, IsPlace}
+use Rattle.heap_model.specs.Slots.{reference_word, undefined_word, RefersTo, IsPlace}
 use Rattle.heap_model.specs.Kinds.{HasWord, IsSoundOf}
 use Rattle.heap_model.specs.Wholeness.{Whole, NamesFrom}
 use Rattle.heap_model.specs.Needs.{word_at, capacity_at, capacity_by}

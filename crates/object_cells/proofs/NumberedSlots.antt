@@ -6,11 +6,12 @@ use Rattle.std.proofs.lemmas.Option.{none-some, same_Some}
 use Rattle.tagged_word.specs.declared.layout.Kind.TheVariants as kind
 use Rattle.tagged_word.specs.Layouts.{HasInObjectSlots, IsLayoutOfKind}
 use Rattle.tagged_word.specs.Cells.{scavenge_offsets, in_object_offsets, store_head, store_slot, plain_head}
+use Rattle.tagged_word.specs.Cells.{is_object_kind}
 use Rattle.tagged_word.proofs.Members.{in_cases, in_range, range_bounds}
 use Rattle.tagged_word.proofs.Offsets.{in_object_is}
 use Rattle.heap_model.specs.Types.{Cell}
 use Rattle.heap_model.specs.Heaps.{Heap, HasCell, words_of_cell}
-use Rattle.heap_model.specs.Slots.{is_object_kind, RefersTo, HoldsStore}
+use Rattle.heap_model.specs.Slots.{RefersTo, HoldsStore}
 use Rattle.heap_model.specs.Kinds.{HasWord, HasSlots}
 use Rattle.heap_model.specs.Wholeness.{HasRows, HasSlotAt}
 use Rattle.heap_model.proofs.WordClasses.{undefined_refers_not}

@@ -10,7 +10,7 @@ use Rattle.std.proofs.lemmas.List.{map-id}
 use Rattle.std.proofs.lemmas.Simd.{map-map}
 use Rattle.heap_model.specs.Types.{Kind, Path, Cell}
 use Rattle.tagged_word.specs.declared.layout.Kind.TheVariants as kind
-use Rattle.tagged_word.specs.Cells.{has_length, length_offset}
+use Rattle.tagged_word.specs.Cells.{has_length, length_offset, is_object_kind}
 use Rattle.tagged_word.proofs.Members.{in_map, map_from, first_in, rest_in, in_cases}
 use Rattle.page_space.specs.Extents.{Space, roots_start, layouts_start, marks_start}
 use Rattle.page_space.proofs.Starts.{roots_start_is, layouts_start_is}
@@ -18,7 +18,6 @@ use Rattle.cell_layout.specs.Cells.{IsCell, IsRow}
 use Rattle.cell_layout.specs.CellLaws.{ReadsAlike}
 use Rattle.cell_layout.proofs.OneCell.{cells_stay}
 use Rattle.heap_model.specs.Heaps.{Heap, HasCell, words_of_cell}
-use Rattle.heap_model.specs.Slots.{is_object_kind}
 use Rattle.heap_model.specs.Wholeness.{Whole, HasSizes, HasRows, IsOwnedKind}
 use Rattle.heap_model.specs.Changes.{Patch, IsPatched, Rewrite, IsRewrite, patch_of, IsChange}
 use Rattle.heap_model.specs.Changes.{IsRunOf, CellsChange}

@@ -7,11 +7,11 @@ use Rattle.heap_model.specs.Types.{Kind, Cell}
 use Rattle.tagged_word.specs.declared.layout.Kind.TheVariants as kind
 use Rattle.tagged_word.specs.declared.word.Class.TheVariants.{Ref}
 use Rattle.tagged_word.specs.Words.{IsClass}
-use Rattle.tagged_word.specs.Cells.{store_slot, has_length}
+use Rattle.tagged_word.specs.Cells.{store_slot, has_length, is_object_kind}
 use Rattle.tagged_word.proofs.Members.{first_in, rest_in, in_cases}
 use Rattle.page_space.specs.Extents.{layouts_start}
 use Rattle.heap_model.specs.Heaps.{Heap, words_of_cell}
-use Rattle.heap_model.specs.Slots.{reference_word, is_object_kind, IsPlace}
+use Rattle.heap_model.specs.Slots.{reference_word, IsPlace}
 use Rattle.heap_model.specs.Wholeness.{NamesFrom, IsOwnedKind}
 use Rattle.heap_model.specs.Changes.{IsNewlyUsed}
 use Rattle.heap_model.specs.Needs.{capacity_at}

@@ -3,13 +3,12 @@ use Rattle.std.proofs.Common.{◌≡◌, ◌≢◌, ℕ, ◌+◌, ◌<◌, ◌�
 use Rattle.std.proofs.Common.{refl, sym, ◌∙◌, ap, subst, arith}
 use Rattle.std.proofs.lemmas.Bool.{false≢true}
 use Rattle.tagged_word.specs.declared.layout.Kind.TheVariants as kind
-use Rattle.tagged_word.specs.Cells.{length_offset}
+use Rattle.tagged_word.specs.Cells.{length_offset, is_object_kind}
 use Rattle.page_space.specs.Extents.{Space, layouts_start}
 use Rattle.page_space.proofs.Starts.{layouts_start_is}
 use Rattle.shape_tree.specs.Shapes.{IsPathShape, shape_path}
 use Rattle.heap_model.specs.Types.{Cell}
 use Rattle.heap_model.specs.Heaps.{Heap, HasCell, words_of_cell}
-use Rattle.heap_model.specs.Slots.{is_object_kind}
 use Rattle.heap_model.proofs.RunCells.{run_beside}
 use Rattle.heap_model.specs.Wholeness.{Whole}
 use Rattle.heap_model.proofs.CellsApart.{IsOfCell, first_of_cell, cells_apart, used_few}

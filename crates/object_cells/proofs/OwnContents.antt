@@ -4,7 +4,7 @@ use Rattle.std.proofs.Common.{◌≡◌, ◌≢◌, ℕ, ◌+◌, ◌≤◌, ◌
 use Rattle.std.proofs.Common.{sym, ap, subst, arith, add-zero}
 use Rattle.std.proofs.lemmas.Bool.{false≢true}
 use Rattle.tagged_word.specs.declared.layout.Kind.TheVariants as kind
-use Rattle.tagged_word.specs.Cells.{has_length, store_head, store_slot}
+use Rattle.tagged_word.specs.Cells.{has_length, store_head, store_slot, is_object_kind}
 use Rattle.tagged_word.proofs.Members.{first_in, one_in}
 use Rattle.nursery.specs.Young.{HasRoom}
 use Rattle.object_graph.specs.declared.value.Rep.TheVariants as rep
@@ -14,7 +14,6 @@ use Rattle.heap_table.specs.Seats.{heap_words}
 use Rattle.heap_model.specs.Types.{Kind, Value, Cell}
 use Rattle.heap_model.specs.Heaps.{HasCell, words_of_cell}
 use Rattle.heap_model.specs.Kinds.{HasWord, count_offset}
-use Rattle.heap_model.specs.Slots.{is_object_kind}
 use Rattle.heap_model.specs.Wholeness.{Whole, NamesFrom, IsOwnedKind}
 use Rattle.heap_model.proofs.CellOutcomes.{object_is_no_filler, owned_is_no_filler}
 use Rattle.heap_model.proofs.CellsApart.{IsOfCell, cells_apart}

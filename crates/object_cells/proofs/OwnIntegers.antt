@@ -6,7 +6,7 @@ use Rattle.std.proofs.Common.{◌≡◌, ◌≢◌, ℕ, ◌+◌, ◌<◌, inl, 
 use Rattle.std.proofs.Common.{length-set}
 use Rattle.std.proofs.lemmas.Bool.{false≢true}
 use Rattle.tagged_word.specs.declared.layout.Kind.TheVariants as kind
-use Rattle.tagged_word.specs.Cells.{has_length, store_slot}
+use Rattle.tagged_word.specs.Cells.{has_length, store_slot, is_object_kind}
 use Rattle.tagged_word.proofs.Members.{first_in, rest_in, one_in, in_cases}
 use Rattle.page_space.specs.Extents.{marks_start}
 use Rattle.nursery.specs.Young.{bumped}
@@ -18,7 +18,7 @@ use Rattle.heap_model.specs.Changes.{CellsChange}
 use Rattle.heap_model.specs.Heaps.{HasCell, words_of_cell}
 use Rattle.heap_model.specs.Kinds.{HasWord, IsBoxCell, IsSoundOf}
 use Rattle.heap_model.specs.Needs.{capacity_at}
-use Rattle.heap_model.specs.Slots.{is_object_kind, raw_word, RefersToBox, HoldsStore}
+use Rattle.heap_model.specs.Slots.{raw_word, RefersToBox, HoldsStore}
 use Rattle.heap_model.specs.Wholeness.{Whole, NamesFrom, IsOwnedKind}
 use Rattle.heap_model.proofs.BoundHeaps.{none_in}
 use Rattle.heap_model.proofs.CellOutcomes.{cells_move, owned_is_no_filler, stays_standing}

@@ -4,10 +4,10 @@ use Rattle.std.proofs.Common.{refl, sym, ◌∙◌, ap, subst, arith, IsTrue}
 use Rattle.std.proofs.lemmas.Option.{same_Some}
 use Rattle.heap_model.specs.Types.{Kind, Cell}
 use Rattle.tagged_word.specs.declared.layout.Kind.TheVariants as kind
-use Rattle.tagged_word.specs.Cells.{store_slot}
+use Rattle.tagged_word.specs.Cells.{store_slot, is_object_kind}
 use Rattle.tagged_word.proofs.Members.{one_in}
 use Rattle.heap_model.specs.Heaps.{Heap, HasCell, words_of_cell}
-use Rattle.heap_model.specs.Slots.{is_object_kind, reference_word, RefersTo}
+use Rattle.heap_model.specs.Slots.{reference_word, RefersTo}
 use Rattle.heap_model.specs.Kinds.{HasWord, HasSlots, HasNoNumber, IsSoundOf}
 use Rattle.heap_model.specs.Wholeness.{Whole, NamesFrom, IsOwnedKind}
 use Rattle.heap_model.proofs.BoundHeaps.{none_in}

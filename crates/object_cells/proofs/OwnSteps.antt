@@ -7,7 +7,7 @@ use Rattle.heap_model.specs.Types.{Kind, Cell}
 use Rattle.tagged_word.specs.declared.layout.Kind.TheVariants as kind
 use Rattle.tagged_word.proofs.Members.{first_in, rest_in, in_cases}
 use Rattle.heap_model.specs.Heaps.{Heap, HasCell, words_of_cell}
-use Rattle.heap_model.specs.Slots.{is_object_kind}
+use Rattle.tagged_word.specs.Cells.{is_object_kind}
 use Rattle.heap_model.specs.Wholeness.{Whole, NamesFrom, IsOwnedKind}
 use Rattle.heap_model.specs.Changes.{CellsChange, IsOwnOf, IsStill, IsStillBox}
 use Rattle.heap_model.proofs.CellOutcomes.{cells_move, ObjectsStay, places_stay, box_not_gone}

@@ -10,6 +10,7 @@ use Rattle.tagged_word.specs.Headers.{header_bits}
 use Rattle.tagged_word.specs.Layouts.{IsLayoutOfKind, in_object_most}
 use Rattle.tagged_word.specs.Shapes.{shapes_most}
 use Rattle.tagged_word.specs.Cells.{has_length, length_by, cell_size, size_within, words_least, words_of}
+use Rattle.tagged_word.specs.Cells.{is_object_kind}
 use Rattle.page_space.specs.Extents.{Space, CellsEndAt}
 use Rattle.shape_tree.specs.Shapes.{IsPathShape, shape_path}
 use Rattle.shape_tree.specs.ShapeLayouts.{layout_of}
@@ -17,7 +18,6 @@ use Rattle.shape_tree.proofs.PathLayouts.{IsLayout-path, layout_word-path}
 use Rattle.cell_layout.specs.Cells.{IsCell}
 use Rattle.cell_layout.proofs.CellsThere.{slice_get-layouts_in}
 use Rattle.heap_model.specs.Heaps.{Heap}
-use Rattle.heap_model.specs.Slots.{is_object_kind}
 use Rattle.heap_model.specs.Wholeness.{Whole, HasRows}
 use Rattle.heap_model.specs.Changes.{CellsChange}
 use Rattle.heap_model.proofs.CellsApart.{has_is_cell}

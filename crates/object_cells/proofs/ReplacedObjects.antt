@@ -13,7 +13,7 @@ use Rattle.object_graph.specs.Invariants.{IsGraph}
 use Rattle.graph_laws.specs.ReachLaws.{LinksTo, HasBound, IsClosed}
 use Rattle.graph_laws.proofs.Reaches.{reach_has_bound, reach_closed, reach_least}
 use Rattle.heap_model.specs.Heaps.{Heap, words_of_cell}
-use Rattle.heap_model.specs.Slots.{is_object_kind}
+use Rattle.tagged_word.specs.Cells.{is_object_kind}
 use Rattle.heap_model.specs.Wholeness.{HasSizes, HasRows}
 use Rattle.heap_model.specs.Showing.{ShowsObject}
 use Rattle.heap_model.specs.Changes.{CellsChange, IsOwnChange, IsGraphChange}

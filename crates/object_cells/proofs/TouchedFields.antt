@@ -4,7 +4,7 @@ use Rattle.std.proofs.Common.{◌≡◌, ℕ, ◌+◌, ◌≤◌, ◌<◌, ◌�
 use Rattle.std.proofs.Common.{ap, arith}
 use Rattle.std.proofs.lemmas.List.Elements.{Contains-append_left}
 use Rattle.tagged_word.specs.declared.layout.Kind.TheVariants as kind
-use Rattle.tagged_word.specs.Cells.{plain_head, store_slot}
+use Rattle.tagged_word.specs.Cells.{plain_head, store_slot, is_object_kind}
 use Rattle.tagged_word.proofs.Members.{first_in, rest_in}
 use Rattle.page_space.specs.Extents.{eden_start}
 use Rattle.object_graph.specs.declared.value.Rep.TheVariants as rep
@@ -14,7 +14,6 @@ use Rattle.heap_model.specs.Types.{LayoutWord, Path, PathField, Cell}
 use Rattle.heap_model.specs.Heaps.{Heap, HasCell, words_of_cell}
 use Rattle.heap_model.specs.Wholeness.{Whole, HasRows}
 use Rattle.heap_model.specs.Changes.{CellsChange}
-use Rattle.heap_model.specs.Slots.{is_object_kind}
 use Rattle.heap_model.specs.Remembered.{IsSlotOf, Touch, TouchesMade}
 use Rattle.heap_model.proofs.CellOutcomes.{object_is_no_filler}
 use Rattle.heap_model.proofs.CellsApart.{IsOfCell, first_of_cell}

@@ -4,7 +4,8 @@ use Rattle.std.proofs.Common.{refl, sym, ◌∙◌, ap, subst}
 use Rattle.heap_model.specs.Types.{Kind, Cell}
 use Rattle.tagged_word.specs.declared.layout.Kind.TheVariants as kind
 use Rattle.heap_model.specs.Heaps.{Heap}
-use Rattle.heap_model.specs.Slots.{is_object_kind, small_word, undefined_word, hole_word, RefersToPlace}
+use Rattle.tagged_word.specs.Cells.{is_object_kind}
+use Rattle.heap_model.specs.Slots.{small_word, undefined_word, hole_word, RefersToPlace}
 use Rattle.heap_model.proofs.WordClasses.{same_reference, small_refers_not, undefined_refers_not, hole_refers_not}
 use Rattle.heap_model.specs.Wholeness.{IsOwnedKind}
 use Rattle.heap_model.proofs.CellOutcomes.{owned_is_no_filler, box_is_no_filler}

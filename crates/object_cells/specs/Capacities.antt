@@ -3,9 +3,9 @@
 use Rattle.std.specs.Prelude.{◌≡◌, ◌≢◌, ℕ, ◌+◌, ◌^◌, ◌<◌, ◌⊎◌, List, Contains, slice_get, Some, IsTrue}
 use Rattle.heap_model.specs.Types.{Kind, Cell}
 use Rattle.tagged_word.specs.declared.layout.Kind.TheVariants as kind
-use Rattle.tagged_word.specs.Cells.{store_slot}
+use Rattle.tagged_word.specs.Cells.{store_slot, is_object_kind}
 use Rattle.heap_model.specs.Heaps.{Heap, HasCell}
-use Rattle.heap_model.specs.Slots.{reference_word, is_object_kind, IsPlace}
+use Rattle.heap_model.specs.Slots.{reference_word, IsPlace}
 use Rattle.heap_model.specs.Wholeness.{Whole, NamesFrom}
 use Rattle.heap_model.specs.Needs.{capacity_at}
 use Rattle.object_cells.specs.CellWrites.{Owns, WritesOwnCells}

@@ -5,13 +5,12 @@ use Rattle.std.specs.Prelude.{slice_get, IsTrue}
 use Rattle.heap_model.specs.Types.{Kind, Path, Cell}
 use Rattle.tagged_word.specs.declared.layout.Kind.TheVariants as kind
 use Rattle.tagged_word.specs.Headers.{header_bits}
-use Rattle.tagged_word.specs.Cells.{has_length, length_offset}
+use Rattle.tagged_word.specs.Cells.{has_length, length_offset, is_object_kind}
 use Rattle.page_space.specs.Extents.{layouts_start}
 use Rattle.shape_tree.specs.Shapes.{IsPathShape, shape_path}
 use Rattle.shape_tree.specs.ShapeLayouts.{layout_of}
 use Rattle.cell_layout.specs.Cells.{IsRow}
 use Rattle.heap_model.specs.Heaps.{Heap, HasCell, words_of_cell}
-use Rattle.heap_model.specs.Slots.{is_object_kind}
 use Rattle.heap_model.specs.Wholeness.{Whole, HasSizes, HasRows, IsOwnedKind}
 use Rattle.heap_model.specs.Changes.{IsRunOf, CellsChange}
 

@@ -9,7 +9,7 @@ use Rattle.object_graph.specs.Reach.{is_marked, reach}
 use Rattle.object_graph.specs.Invariants.{IsGraph, IsValue, AreFields, fields_most}
 use Rattle.object_graph.specs.Limits.{paths_most}
 use Rattle.heap_model.specs.Heaps.{Heap, words_of_cell}
-use Rattle.heap_model.specs.Slots.{is_object_kind}
+use Rattle.tagged_word.specs.Cells.{is_object_kind}
 use Rattle.heap_model.specs.Wholeness.{HasSizes, HasRows}
 use Rattle.heap_model.specs.Showing.{ShowsPlain}
 use Rattle.heap_model.specs.Changes.{CellsChange, IsOwnChange}

@@ -29,8 +29,11 @@ pub fn count_of(main: &Main, list: u32) -> u32
 pub fn checked_index(count: u32, index: i64) -> Option<u32>
     ensures { result ≡ below count index }
 {
-    let Ok(place) = u32::try_from(index) else {
+    if index < 0 {
         return None;
-    };
-    if place < count { Some(place) } else { None }
+    }
+    if index >= count as i64 {
+        return None;
+    }
+    Some(index as u32)
 }

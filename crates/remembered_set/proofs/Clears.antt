@@ -1,10 +1,10 @@
 -- Flags that are cleared one behind another.
 use Rattle.std.proofs.Common.{◌≡◌, ℕ, ◌+◌, ◌<◌, ◌≤◌, ◌≢◌, Bool, true, false, List, length, get_or, set, max, arith, inl}
-use Rattle.std.proofs.Common.{inr}
+use Rattle.std.proofs.Common.{inr, refl}
 use Rattle.std.proofs.Common.{sym, ◌∙◌}
 use Rattle.std.proofs.lemmas.Bool.{cases_lt, cases_eq}
 use Rattle.std.proofs.lemmas.List.{length-set, get_or-set_same, get_or-set_other}
-use Rattle.remembered_set.specs.Flags.{AreClear, ClearsBetween, set_count}
+use Rattle.remembered_set.specs.Flags.{AreClear, ClearsBetween, CountsCleared, set_count}
 use Rattle.remembered_set.proofs.Counts.{set_count_raised}
 
 -- flags that are clear already
@@ -54,3 +54,23 @@ set_count_cleared flags from n place behind within inside is =
     set_count_raised (set flags place false) flags from n place behind within
     (get_or-set_same flags place false false inside) is
     (λ other beside. sym (get_or-set_other flags place other false false beside))
+
+-- one flag is cleared
+pub clears_one : (flags : List Bool) (slot : ℕ) → slot < length flags
+    → ClearsBetween flags (set flags slot false) slot (slot + 1)
+clears_one flags slot inside =
+    let none : ClearsBetween flags flags slot slot = record {
+      as_many = refl;
+      cleared = λ place between.
+          let begins = between.begins in
+          let ends = between.ends in
+          absurd (omega arith);
+      others = λ place _. refl;
+    } in
+    clears_more flags flags slot slot inside (omega arith) none
+
+-- and where it was set, that is one
+pub counts_one : (flags : List Bool) (slot : ℕ) → slot < length flags → get_or flags slot false ≡ true
+    → CountsCleared flags (set flags slot false) slot (slot + 1) 1
+counts_one flags slot inside is = λ start n first last.
+    set_count_cleared flags start n slot (omega arith) (omega arith) inside is

@@ -1,6 +1,6 @@
 -- Flags that are bits of words, as words change and as they are looked at.
 use Rattle.std.proofs.Common.{◌≡◌, ◌≢◌, ℕ, ◌+◌, ◌-◌, ◌*◌, ◌/◌, ◌%◌, ◌^◌, ◌<◌, ◌≤◌, ◌==◌, ◌↔◌, IsTrue, min, inl, inr}
-use Rattle.std.proofs.Common.{Bool, true, false}
+use Rattle.std.proofs.Common.{Bool, true, false, not}
 use Rattle.std.proofs.Common.{List, length, get_or, set, replicate, bit_and, refl, sym, ◌∙◌, ap, arith}
 use Rattle.std.specs.Int.{bit_at, trailing_zeros, w64}
 use Rattle.std.proofs.lemmas.Bool.{cases_lt, cases_eq, eqb-true, eq-eqb, false≢true}
@@ -170,6 +170,24 @@ bit_test word bit below =
           let none : bit_at word bit ≡ 0 = omega (arith, bit_at-lt word bit, other) in
           let both : bit_and word (1 * 2 ^ bit % 2 ^ 64) ≡ 0 = is ∙ ap (λ n. n * 2 ^ bit) none ∙ omega arith in
           (λ _. eqb-other (bit_at word bit) 1 other, λ _. eq-eqb (bit_and word (1 * 2 ^ bit % 2 ^ 64)) 0 both)
+    ]
+
+-- whether a bit is left behind the mask of one is whether it is set
+pub bit_left : (word bit : ℕ) → bit < 64
+    → not (bit_and word (1 * 2 ^ bit % 2 ^ 64) == 0) ≡ (bit_at word bit == 1)
+bit_left word bit below =
+    elim (cases_eq (bit_at word bit) 1) [
+      | inl one ↦
+          let is_set : (bit_at word bit == 1) ≡ true = eq-eqb (bit_at word bit) 1 one in
+          let some : (bit_and word (1 * 2 ^ bit % 2 ^ 64) == 0) ≡ false =
+          eqb-other (bit_and word (1 * 2 ^ bit % 2 ^ 64)) 0 (λ zero.
+          let none : (bit_at word bit == 1) ≡ false =
+          (bit_test word bit below).0 (eq-eqb (bit_and word (1 * 2 ^ bit % 2 ^ 64)) 0 zero) in
+          absurd (false≢true (sym none ∙ is_set))) in
+          ap not some ∙ sym is_set
+      | inr other ↦
+          let clear : (bit_at word bit == 1) ≡ false = eqb-other (bit_at word bit) 1 other in
+          ap not ((bit_test word bit below).1 clear) ∙ sym clear
     ]
 
 -- the flag of a place is the bit of its word

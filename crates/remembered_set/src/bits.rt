@@ -18,8 +18,18 @@ pub(crate) fn note(bits: &mut [u64], place: u32) -> bool
     word & 1 << (place % BITS) == 0
 }
 
+/// Whether the flag of a place is set.
+#[inline(always)]
+pub(crate) fn is_set(bits: &[u64], place: u32) -> bool
+    requires { place < 64 * length bits.now }
+    ensures { result ≡ slice_index_or (flags_of bits.now) place false }
+{
+    bits[(place / BITS) as usize] & 1 << (place % BITS) != 0
+}
+
 /// Clears the flag of a place.
-fn unset(bits: &mut [u64], place: u32)
+#[inline(always)]
+pub(crate) fn unset(bits: &mut [u64], place: u32)
     requires { place < 64 * length bits.old }
     ensures { flags_of bits.new ≡ set (flags_of bits.old) place false }
 {

@@ -6,14 +6,15 @@
 //! the pages, and a count for each page of its recorded slots.
 #![tactic(auto)]
 
-ghost use Rattle.std.specs.Prelude.{◌≡◌, ◌+◌, ◌*◌, ◌<◌, ◌≤◌, ◌↔◌, ◌⊎◌, ℕ, min, max, [], Contains, IsTrue, IfOk, IfSome, MatchOption};
+ghost use Rattle.std.specs.Prelude.{◌≡◌, ◌+◌, ◌*◌, ◌<◌, ◌≤◌, ◌↔◌, ◌⊎◌, ℕ, min, max, [], Contains, IsTrue};
+ghost use Rattle.std.specs.Prelude.{IfOk, IfSome, MatchOption};
 ghost use Rattle.page_space.specs.Sizes.{page_words, pages_most};
 ghost use Rattle.remembered_set.specs.Recorded.{IsRecorded, IsAscending, IsBetween, HasNoneFrom, IsNextRecorded};
 ghost use Rattle.remembered_set.specs.Recorded.{HasNoneBetween, IsLeastBetween, noted, forgotten};
 
 mod bits;
 
-use crate::bits::{BITS, clear, first_set, note};
+use crate::bits::{BITS, clear, first_set, is_set, note, unset};
 use page_space::PAGE_WORDS;
 use std::alloc::Global;
 use std::marker::Model;
@@ -75,6 +76,18 @@ impl Remembered {
     {
         if note(&mut self.bits, slot) {
             self.counts[(slot / PAGE_WORDS) as usize] += 1;
+        }
+    }
+
+    /// Forgets one slot, which may be recorded or not.
+    #[inline(always)]
+    pub fn forget(&mut self, slot: u32)
+        requires { slot < self.old.bound }
+        ensures { self.new ≡ forgotten self.old slot (slot + 1) }
+    {
+        if is_set(&self.bits, slot) {
+            unset(&mut self.bits, slot);
+            self.counts[(slot / PAGE_WORDS) as usize] -= 1;
         }
     }
 

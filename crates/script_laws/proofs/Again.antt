@@ -33,7 +33,8 @@ AreReadAgain unbuilt (stated ∷ more) = IsReadAgain unbuilt stated.statement ×
 
 -- a statement and those that follow it are read again
 followed-AreReadAgain :
-    (unbuilt : List Keyword) (stated : NumberedStatement) (more : Result (List NumberedStatement) BadScript) (all : List NumberedStatement)
+    (unbuilt : List Keyword) (stated : NumberedStatement) (more : Result (List NumberedStatement) BadScript)
+    (all : List NumberedStatement)
     → IsReadAgain unbuilt stated.statement
     → ((rest : List NumberedStatement) → more ≡ Ok rest → AreReadAgain unbuilt rest) → followed stated more ≡ Ok all
     → AreReadAgain unbuilt all

@@ -39,7 +39,8 @@ depth-line variables fields at open' number other operands more depth n = refl
 
 -- at most four `repeat`s are open
 pub nested :
-    (unbuilt : List Keyword) (variables fields : List (List ℕ)) (at : ℕ) (open' : List ℕ) (xs : List NumberedStatement) (depth : ℕ)
+    (unbuilt : List Keyword) (variables fields : List (List ℕ)) (at : ℕ) (open' : List ℕ) (xs : List NumberedStatement)
+    (depth : ℕ)
     → depth ≤ open_most → AreStated unbuilt depth xs → (n : ℕ)
     → depth_of depth (take n (lines_from variables fields at open' xs)) ≤ open_most
 nested unbuilt variables fields at open' xs depth few h zero = few

@@ -33,7 +33,8 @@ after-more done place token written places tokens e =
 
 -- an operand may not stand at its place
 pub after-refused :
-    (done : List RawOperand) (place : OperandKind) (token : List ℕ) (why : Why) (places : List OperandKind) (tokens : List (List ℕ))
+    (done : List RawOperand) (place : OperandKind) (token : List ℕ) (why : Why) (places : List OperandKind)
+    (tokens : List (List ℕ))
     → written_at place token ≡ Err why
     → after done (written_all (place ∷ places) (token ∷ tokens)) ≡ Err why
 after-refused done place token why places tokens e =

@@ -59,7 +59,8 @@ stated-few unbuilt lines stated e =
     )
 
 -- the script of statements that were read is sound where it has not too many names
-pub script_of-IsWellFormed : (unbuilt : List Keyword) (lines : List (List ℕ)) (stated : List NumberedStatement) (script : ScriptText)
+pub script_of-IsWellFormed : (unbuilt : List Keyword) (lines : List (List ℕ)) (stated : List NumberedStatement)
+    (script : ScriptText)
     → stated_from unbuilt 1 [] lines ≡ Ok stated
     → script_of stated ≡ script → length script.variables ≤ variable_names_most
     → length script.fields ≤ field_names_most

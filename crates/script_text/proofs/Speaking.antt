@@ -59,7 +59,8 @@ nest-IsNested number open' other inner e =
     record { may = tt; deep = ap length (sym same) }
 
 -- both parts of statements that were read
-record AreRead (stated : NumberedStatement) (more : Result (List NumberedStatement) BadScript) (all : List NumberedStatement) : Type 0 where
+record AreRead (stated : NumberedStatement) (more : Result (List NumberedStatement) BadScript)
+    (all : List NumberedStatement) : Type 0 where
   rest : List NumberedStatement
   more_is : more ≡ Ok rest
   same : stated ∷ rest ≡ all
@@ -114,7 +115,8 @@ stated_from-AreStated unbuilt number open' (line ∷ lines) all e =
     (λ deep rest h. stated_from-AreStated unbuilt (suc number) deep lines rest h) e
 
 -- a statement before others is one more
-followed-few : (n : ℕ) (stated : NumberedStatement) (more : Result (List NumberedStatement) BadScript) (all : List NumberedStatement)
+followed-few : (n : ℕ) (stated : NumberedStatement) (more : Result (List NumberedStatement) BadScript)
+    (all : List NumberedStatement)
     → ((rest : List NumberedStatement) → more ≡ Ok rest → length rest ≤ n) → followed stated more ≡ Ok all
     → length all ≤ suc n
 followed-few n stated more all h e =

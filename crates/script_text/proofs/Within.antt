@@ -143,7 +143,8 @@ what_of-NamesWithin variables fields ends repeats k arguments suits = tt
 
 -- the lines of statements that were read name only what has a number
 pub lines_from-NamesWithin :
-    (unbuilt : List Keyword) (depth : ℕ) (variables fields : List (List ℕ)) (at : ℕ) (open' : List ℕ) (xs : List NumberedStatement)
+    (unbuilt : List Keyword) (depth : ℕ) (variables fields : List (List ℕ)) (at : ℕ) (open' : List ℕ)
+    (xs : List NumberedStatement)
     → AreStated unbuilt depth xs → AreIn variables (flat_map (λ s. variables_of s.statement) xs)
     → AreIn fields (flat_map (λ s. fields_of s.statement) xs)
     → All (λ line. NamesWithin (length variables) (length fields) line.what) (lines_from variables fields at open' xs)
@@ -180,7 +181,8 @@ keyword_of-what_of ends repeats other a b c = refl
 
 -- the lines of statements that were read are built
 pub lines_from-IsBuilt :
-    (unbuilt : List Keyword) (depth : ℕ) (variables fields : List (List ℕ)) (at : ℕ) (open' : List ℕ) (xs : List NumberedStatement)
+    (unbuilt : List Keyword) (depth : ℕ) (variables fields : List (List ℕ)) (at : ℕ) (open' : List ℕ)
+    (xs : List NumberedStatement)
     → AreStated unbuilt depth xs → All (λ line. IsBuilt unbuilt line.what) (lines_from variables fields at open' xs)
 lines_from-IsBuilt unbuilt depth variables fields at open' [] h = λ k d lt. absurd (omega (arith, lt))
 lines_from-IsBuilt unbuilt depth variables fields at open' (stated ∷ more) h =

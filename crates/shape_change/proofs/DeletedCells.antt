@@ -2,7 +2,7 @@
 -- slots.
 use Rattle.std.proofs.Common.{◌≡◌, ◌≢◌, ℕ, ◌+◌, ◌<◌, inl, List, [], Contains, Some, slice_get, refl, sym, ◌∙◌, ap}
 use Rattle.std.proofs.Common.{subst, arith, ◌∷◌, ◌++◌, length}
-use Rattle.tagged_word.specs.Cells.{store_head, length_offset, store_slot}
+use Rattle.tagged_word.specs.Cells.{store_head, length_offset, store_slot, is_object_kind}
 use Rattle.page_space.specs.Extents.{Space, layouts_start, eden_start}
 use Rattle.page_space.proofs.Starts.{layouts_start_is}
 use Rattle.heap_model.specs.Types.{Field, Path, Cell}
@@ -26,7 +26,6 @@ use Rattle.std.proofs.lemmas.Bool.Decides.{nat_tests}
 use Rattle.std.proofs.lemmas.Option.{slice_get_within}
 use Rattle.tagged_word.proofs.Members.{first_in}
 use Rattle.heap_model.specs.Heaps.{Heap, HasCell, words_of_cell}
-use Rattle.heap_model.specs.Slots.{is_object_kind}
 use Rattle.heap_model.specs.Kinds.{HasWord}
 use Rattle.heap_model.specs.Changes.{IsRunOf, CellsChange}
 use Rattle.shape_change.specs.Shifts.{slot_at}

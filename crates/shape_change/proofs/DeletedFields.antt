@@ -10,7 +10,7 @@ use Rattle.heap_model.specs.Types.{Field, Path, PathField, Cell}
 use Rattle.object_graph.specs.Objects.{without_field}
 use Rattle.object_graph.specs.Paths.{path_of}
 use Rattle.shape_tree.specs.Shapes.{shape_path, without}
-use Rattle.heap_model.specs.Slots.{hole_word, is_object_kind, reference_word}
+use Rattle.heap_model.specs.Slots.{hole_word, reference_word}
 use Rattle.heap_model.specs.Kinds.{HasWord, HasNoNumber, IsStoreCell, IsSoundOf}
 use Rattle.heap_model.specs.Showing.{ShowsField}
 use Rattle.write_barrier.specs.MutatorState.{Mutator, heap_of}
@@ -27,7 +27,7 @@ use Rattle.shape_change.proofs.DeletedCells.{others_of, deleted_writes, one_of, 
 use Rattle.shape_change.proofs.MovedInFields.{drawn_shown, drawn_is, no_box, drawn_field}
 use Rattle.std.proofs.lemmas.List.{append-nil}
 use Rattle.tagged_word.specs.declared.layout.Kind.TheVariants as kind
-use Rattle.tagged_word.specs.Cells.{store_slot}
+use Rattle.tagged_word.specs.Cells.{store_slot, is_object_kind}
 use Rattle.heap_model.specs.Heaps.{Heap, words_of_cell}
 use Rattle.heap_model.specs.Wholeness.{IsOwnedKind, NamesFrom}
 use Rattle.heap_model.proofs.ObjectSlots.{store_slot_at}

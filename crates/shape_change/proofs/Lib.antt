@@ -18,6 +18,8 @@ mod SetOutcomes
 mod SetRefused
 mod SetThere
 mod SetByPlace
+mod WordsPut
+mod FewMissing
 mod ShownFields
 mod NewLayouts
 mod SlotAddresses

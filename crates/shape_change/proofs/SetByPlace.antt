@@ -1,23 +1,26 @@
 -- What comes of setting a field that is there, by what was read of its slot.
 use Rattle.std.specs.Prelude.{Result, Err}
-use Rattle.std.proofs.Common.{◌≡◌, ℕ, Some, refl, sym, ◌∙◌, ap, subst}
+use Rattle.std.proofs.Common.{◌≡◌, ◌<◌, ℕ, nat_lt, true, Some, refl, sym, ◌∙◌, ap, subst, arith}
+use Rattle.std.proofs.lemmas.Bool.Decides.{nat_tests}
 use Rattle.page_space.specs.Sizes.{AreWithin}
 use Rattle.shape_tree.specs.Shapes.{shape_path, changed}
 use Rattle.object_graph.specs.Objects.{revalued}
 use Rattle.object_graph.specs.Values.{rep_of, join}
 use Rattle.object_graph.specs.Graphs.{Graph, PlainObject}
-use Rattle.heap_model.specs.Types.{Value, Held}
+use Rattle.heap_model.specs.Types.{Value, Held, Word}
 use Rattle.heap_model.specs.Showing.{ShowsHeld}
 use Rattle.write_barrier.specs.MutatorState.{Mutator, heap_of}
 use Rattle.write_barrier.specs.declared.room.NoRoom.{NoRoom}
 use Rattle.object_cells.specs.CellsAt.{HasField}
-use Rattle.object_cells.specs.Contents.{filling_at, LacksRoom, FillsSlot}
+use Rattle.object_cells.specs.declared.content.SlotContent.{SlotContent}
+use Rattle.object_cells.specs.declared.content.SlotContent.TheVariants as content
+use Rattle.object_cells.specs.Contents.{content_of, filling_at, LacksRoom, FillsSlot}
 use Rattle.object_cells.proofs.HeldContents.{held_rep_is}
 use Rattle.shape_change.specs.declared.set_field.SlotSetting.{SlotSetting}
 use Rattle.shape_change.specs.declared.stop.FieldStop.{FieldStop}
 use Rattle.shape_change.specs.declared.stop.FieldStop.TheVariants as stop
 use Rattle.shape_change.specs.FieldChanges.{HasSetField, SetsField}
-use Rattle.shape_change.specs.Fillings.{IsSlotSetting, SetsWider}
+use Rattle.shape_change.specs.Fillings.{IsSlotSetting, KeepsTagged, KeepsRaw, SetsWider}
 use Rattle.shape_change.specs.Places.{place_at}
 use Rattle.shape_change.proofs.Settings.{Setting}
 use Rattle.shape_change.proofs.SetOutcomes.{set_as_it_is}
@@ -43,6 +46,31 @@ module _ {old : Mutator} {graph : Graph} {object slot : ℕ} {plain : PlainObjec
     as_it_is_sets {new} same filled_so =
         set_as_it_is s sets.place within (setting_fills s there is shows) (rep_stays same)
         (subst (λ a. FillsSlot old new (place_at a sets.place) sets.content) (sym s.stands) filled_so)
+
+    -- so it was where a tagged word was put, and the field keeps its representation
+    pub kept_sets : {new : Mutator} (word : Word) → KeepsTagged sets.was held word
+        → FillsSlot old new (place_at object sets.place) (content.Tagged word)
+        → HasSetField old new graph object plain name what
+    kept_sets {new} word keeps filled_so =
+        let own = nat_lt slot (shape_path old.paths shape).cap in
+        let stays : sets.rep ≡ sets.was = is.joins ∙ keeps.stays in
+        let holds : sets.content ≡ content.Tagged word =
+        is.content ∙ ap (λ r. content_of own r held) stays ∙ keeps.content own in
+        as_it_is_sets stays
+        (subst (λ (c : SlotContent). FillsSlot old new (place_at object sets.place) c) (sym holds) filled_so)
+
+    -- and where a raw one was put in an own slot
+    pub kept_raw_sets : {new : Mutator} (word : ℕ) → slot < (shape_path old.paths shape).cap
+        → KeepsRaw sets.was held word → FillsSlot old new (place_at object sets.place) (content.Raw word)
+        → HasSetField old new graph object plain name what
+    kept_raw_sets {new} word own keeps filled_so =
+        let stays : sets.rep ≡ sets.was = is.joins ∙ keeps.stays in
+        let is_own : nat_lt slot (shape_path old.paths shape).cap ≡ true = grind (arith, nat_tests, own) in
+        let holds : sets.content ≡ content.Raw word =
+        is.content ∙ ap (λ r. content_of (nat_lt slot (shape_path old.paths shape).cap) r held) stays
+        ∙ ap (λ o. content_of o sets.was held) is_own ∙ keeps.content in
+        as_it_is_sets stays
+        (subst (λ (c : SlotContent). FillsSlot old new (place_at object sets.place) c) (sym holds) filled_so)
 
     -- it is refused where there is no room for a box
     pub as_it_is_refused : {new : Mutator} (full : NoRoom) → sets.rep ≡ sets.was

@@ -1,6 +1,6 @@
 -- What has changed once a slot of a plain object was filled.
-use Rattle.std.specs.Prelude.{◌≡◌, ℕ, ◌<◌, Some, None, List, Result, Ok, Err, slice_get, option_map, nat_lt}
-use Rattle.heap_model.specs.Types.{Header, Path, Held}
+use Rattle.std.specs.Prelude.{◌≡◌, ℕ, ◌<◌, Bool, true, Some, None, List, Result, Ok, Err, slice_get, option_map, nat_lt}
+use Rattle.heap_model.specs.Types.{Header, Path, Held, Rep, Word}
 use Rattle.tagged_word.specs.Headers.{header_bits}
 use Rattle.page_space.specs.Extents.{layouts_start, marks_start}
 use Rattle.object_graph.specs.Paths.{with_path}
@@ -14,6 +14,7 @@ use Rattle.heap_model.specs.Wholeness.{HasSizes}
 use Rattle.write_barrier.specs.MutatorState.{Mutator, heap_of, IsTied, with_word}
 use Rattle.write_barrier.specs.Opening.{ChangesWithin}
 use Rattle.object_cells.specs.declared.content.SlotContent.{SlotContent}
+use Rattle.object_cells.specs.declared.content.SlotContent.TheVariants as content
 use Rattle.shape_change.specs.declared.set_field.SlotSetting.{SlotSetting}
 use Rattle.shape_change.specs.declared.stop.FieldStop.{FieldStop}
 use Rattle.shape_change.specs.declared.stop.FieldStop.TheVariants as stop
@@ -32,6 +33,16 @@ pub record IsSlotSetting (heap : Heap) (object shape slot : ℕ) (value : Held) 
   pub joins : setting.rep ≡ join setting.was (held_rep value)
   pub content : setting.content ≡ content_of (nat_lt slot (shape_path heap.paths shape).cap) setting.rep value
   pub held : HoldsSlotWord heap (word_at heap (place_at object setting.place)) setting.content
+
+-- a field of this representation keeps it for the value, and its slot comes to hold the tagged word
+pub record KeepsTagged (was : Rep) (value : Held) (word : Word) : Type 0 where
+  pub stays : join was (held_rep value) ≡ was
+  pub content : (own : Bool) → content_of own was value ≡ content.Tagged word
+
+-- a field of this representation keeps it for the value, and its slot, if it is an own one, comes to hold the raw word
+pub record KeepsRaw (was : Rep) (value : Held) (word : ℕ) : Type 0 where
+  pub stays : join was (held_rep value) ≡ was
+  pub content : content_of true was value ≡ content.Raw word
 
 -- The slot of this number of the plain object at the address, whose shape this is, may be set so.
 pub record CanSetSlot (main : Mutator) (object shape slot : ℕ) (setting : SlotSetting) : Type 0 where

@@ -55,6 +55,7 @@ pub(crate) struct NewField {
 ///
 /// # Errors
 /// The object has 64 fields, or there may not be as many field paths.
+#[inline(always)]
 fn new_field(main: &Main, shape: u32, name: u32, value: Held) -> Result<NewField, FieldStop>
     requires path { IsPathShape main.now.paths shape }
     requires is_new { has_name (shape_path main.now.paths shape) name ≡ false }
@@ -86,7 +87,7 @@ fn new_field(main: &Main, shape: u32, name: u32, value: Held) -> Result<NewField
 /// The object has 64 fields, there may not be as many field paths, or there is no room for a store
 /// or a box that the field needs; nothing has changed.
 #[inline(never)]
-pub(crate) fn add_there(
+fn add_there(
     main: &mut Main,
     object: u32,
     header: Header,
@@ -109,7 +110,28 @@ pub(crate) fn add_there(
     Ok(())
 }
 
+/// A call of `add_there` that is to have no part in what is done where the name is there.
+#[inline(always)]
+pub(crate) fn add_apart(
+    main: &mut Main,
+    object: u32,
+    header: Header,
+    name: u32,
+    value: Held,
+) -> Result<(), FieldStop>
+    requires shown { IsShownSetting main.old object value }
+    requires headed { IsHeaderAt (heap_of main.old) object header }
+    requires is_new { has_name (shape_path main.old.paths header.shape) name ≡ false }
+    ensures { (graph : Graph) (plain : PlainObject) (what : GraphValue) → MainShows main.old graph
+        → IsPlainAt main.old graph object plain → IsValueHeld main.old graph value what
+        → field_value plain.fields name ≡ None
+        → SetsField main.old main.new graph object plain name what result }
+{
+    add_there(main, object, header, name, value)
+}
+
 /// The slot that the field comes to, and how.
+#[inline(always)]
 fn add_field(main: &mut Main, object: u32, header: Header, new: NewField) -> Result<(), NoRoom>
     requires can { CanAdd main.old object header new.field.name new.value }
     requires new { let paths = main.old.paths in
@@ -134,6 +156,7 @@ fn add_field(main: &mut Main, object: u32, header: Header, new: NewField) -> Res
 }
 
 /// The field comes to the next in-object slot.
+#[inline(always)]
 fn add_own(main: &mut Main, object: u32, header: Header, new: NewField)
     requires can { CanAdd main.old object header new.field.name new.value }
     requires new { let paths = main.old.paths in
@@ -149,6 +172,7 @@ fn add_own(main: &mut Main, object: u32, header: Header, new: NewField)
 }
 
 /// Puts in an in-object slot what it comes to hold.
+#[inline(always)]
 fn put_own(main: &mut Main, object: u32, offset: u32, content: SlotContent)
     requires quiet { main.old.seat.phase ≡ Quiet }
     requires within { object + offset < marks_start main.old.seat.space }
@@ -169,6 +193,7 @@ fn put_own(main: &mut Main, object: u32, offset: u32, content: SlotContent)
 }
 
 /// The field comes to the next slot of the property store.
+#[inline(never)]
 fn add_to_store(
     main: &mut Main,
     object: u32,
@@ -197,6 +222,7 @@ fn add_to_store(
 }
 
 /// The field comes to the next slot of a store that takes the place of one that is full.
+#[inline(never)]
 fn add_to_new_store(
     main: &mut Main,
     object: u32,

@@ -10,6 +10,7 @@
 mod add_field;
 mod delete_field;
 mod get_field;
+mod kept_rep;
 mod set_field;
 mod shift_slots;
 mod slots;

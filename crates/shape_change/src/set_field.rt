@@ -1,6 +1,7 @@
 //! The call `set`. A name that is new to its object is in `add_field.rt`.
 ghost use Rattle.std.specs.Prelude.{◌≡◌, ◌+◌, ◌<◌, ◌≤◌, length, OnOk, IfErr, ℕ, Some, slice_get};
-ghost use Rattle.std.specs.Prelude.{option_map, OnErr};
+ghost use Rattle.std.specs.Prelude.{option_map, OnErr, IfSome, None, false};
+ghost use Rattle.shape_change.specs.Fillings.{KeepsTagged};
 ghost use Rattle.write_barrier.specs.MutatorState.{heap_of, IsTied, MainShows};
 ghost use Rattle.shape_change.specs.FieldChanges.{IsShownSetting, SetsField};
 ghost use Rattle.object_cells.specs.CellsAt.{HasField, IsQuietWhole, IsHeaderAt};
@@ -8,7 +9,9 @@ ghost use Rattle.shape_change.specs.Fillings.{IsSlotSetting, with_paths, CanSetS
 ghost use Rattle.page_space.specs.Extents.{layouts_start, marks_start};
 ghost use Rattle.object_graph.specs.Paths.{missing};
 ghost use Rattle.object_graph.specs.Limits.{paths_most};
-ghost use Rattle.shape_tree.specs.Shapes.{IsPathShape, shape_path, changed, Leads, LacksPathsFor};
+ghost use Rattle.shape_tree.specs.Shapes.{IsPathShape, shape_path, has_name, changed, Leads};
+ghost use Rattle.shape_tree.specs.Shapes.{LacksPathsFor};
+ghost use Rattle.object_graph.specs.Objects.{field_value};
 ghost use Rattle.heap_table.specs.declared.phase.Phase.TheVariants.{Quiet};
 ghost use Rattle.heap_model.specs.Wholeness.{HasSizes};
 ghost use Rattle.write_barrier.specs.Opening.{ChangesWithin};
@@ -20,7 +23,8 @@ ghost use Rattle.object_cells.specs.PlainObjects.{IsPlainAt};
 ghost use Rattle.object_cells.specs.HeldValues.{IsValueHeld};
 ghost use Rattle.object_cells.specs.Contents.{HoldsSlotWord, LacksRoom, FillsSlot, filling_at};
 
-use crate::add_field::add_there;
+use crate::add_field::add_apart;
+use crate::kept_rep::set_there;
 use crate::slots::{Place, fill, filling_of, slot_place};
 use crate::stop::FieldStop;
 use crate::transitions::{put_new_layouts, set_shape};
@@ -46,7 +50,13 @@ pub(crate) struct SlotSetting {
 
 /// How the slot of the field of this number of the plain object at an address is set to a value.
 #[inline(always)]
-fn setting_of(main: &Main, object: u32, shape: u32, slot: u32, value: Held) -> SlotSetting
+pub(crate) fn setting_of(
+    main: &Main,
+    object: u32,
+    shape: u32,
+    slot: u32,
+    value: Held,
+) -> SlotSetting
     requires shown { IsShownSetting main.now object value }
     requires there { HasField (heap_of main.now) object shape slot }
     ensures { IsSlotSetting (heap_of main.now) object shape slot value result }
@@ -76,7 +86,11 @@ fn room_for_change(main: &Main, shape: u32, slot: u32, rep: Rep) -> Result<(), S
         IfErr result (λ full. LacksPathsFor main.now.paths main.now.paths path full) }
 {
     let shapes = main.shapes();
-    shapes.room_for(shapes.missing_change(shape, slot, rep))
+    // No path has more prefixes: mostly there is room for them, and none needs to be sought.
+    match shapes.room_for(shapes.fields(shape) + 1) {
+        Ok(()) => Ok(()),
+        Err(_) => shapes.room_for(shapes.missing_change(shape, slot, rep)),
+    }
 }
 
 /// The shape with another representation of a field. Its path is there from now on, with its
@@ -191,8 +205,8 @@ fn set_as_is(main: &mut Main, object: u32, place: Place, content: SlotContent) -
 
 /// Gives the field of this number of the plain object at an address the value. Its representation
 /// never narrows, and the object gets another shape where it widens.
-#[inline(always)]
-fn set_there(
+#[inline(never)]
+pub(crate) fn set_by_setting(
     main: &mut Main,
     object: u32,
     header: Header,
@@ -233,6 +247,6 @@ pub fn set(main: &mut Main, object: u32, name: u32, value: Held) -> Result<(), F
     let header = main.header(object);
     match main.shapes().find(header.shape, name) {
         Some(slot) => set_there(main, object, header, slot, value),
-        None => add_there(main, object, header, name, value),
+        None => add_apart(main, object, header, name, value),
     }
 }

@@ -14,13 +14,17 @@ ghost use Rattle.write_barrier.specs.MutatorState.{heap_of, IsTied};
 ghost use Rattle.object_cells.specs.CellsAt.{IsQuietWhole, HasPlainSlot, IsCapAt};
 ghost use Rattle.heap_table.specs.declared.phase.Phase.TheVariants.{Quiet};
 ghost use Rattle.heap_model.specs.Needs.{word_at};
+ghost use Rattle.tagged_word.specs.declared.word.Class.{Class as WordClass};
+ghost use Rattle.tagged_word.specs.Words.{small, IsClass, bits_of};
+ghost use Rattle.tagged_word.specs.Readings.{reference_in};
+ghost use Rattle.write_barrier.specs.Values.{held_of_class};
 ghost use Rattle.object_cells.specs.Contents.{AllocatesBox, LacksRoom, HoldsSlotWord, IsBeforeMarks};
 
 use handle_roots::Held;
 use object_cells::{SlotContent, SlotWrite};
 use object_graph::Rep;
-use tagged_word::Word;
 use tagged_word::cell::{PLAIN_HEAD, STORE_HEAD, STORE_SLOT};
+use tagged_word::{Class, Word};
 use write_barrier::{Main, NoRoom};
 
 /// Where a field of a plain object stands.
@@ -54,6 +58,47 @@ fn is_raw(own: bool, rep: Rep) -> bool
     }
 }
 
+/// The small integer that an even word stands for: the lower half of the word tells it.
+#[inline(always)]
+fn small_value(word: Word) -> i64
+    ensures { (v : ℤ) → IsTrue (small v) → word.0 ≡ bits_of (Class.Small v) → result ≡ v }
+{
+    let low = (word.0 % 4_294_967_296) as u32;
+    (low.cast_signed() / 2) as i64
+}
+
+/// What the word of a slot that is not raw, and no small integer's, stands for.
+#[inline(always)]
+fn value_of_odd(main: &Main, word: Word) -> Held
+    requires quiet { main.now.seat.phase ≡ Quiet }
+    requires within { (at : ℕ) → reference_in word.0 ≡ Some at
+        → at + 1 < marks_start main.now.seat.space }
+    ensures { (class : WordClass) → IsClass class → word.0 ≡ bits_of class
+        → result ≡ held_of_class (heap_of main.now) class }
+{
+    main.addresses_fit();
+    match word.class() {
+        Some(Class::Ref(at)) if !main.is_box(word) => Held::Ref(at),
+        _ => main.value_of_word(word),
+    }
+}
+
+/// What the word of a slot that is not raw stands for. Its lowest bit tells a small integer.
+#[inline(always)]
+fn value_of_tagged(main: &Main, word: Word) -> Held
+    requires quiet { main.now.seat.phase ≡ Quiet }
+    requires within { (at : ℕ) → reference_in word.0 ≡ Some at
+        → at + 1 < marks_start main.now.seat.space }
+    ensures { (class : WordClass) → IsClass class → word.0 ≡ bits_of class
+        → result ≡ held_of_class (heap_of main.now) class }
+{
+    if word.0 % 2 == 0 {
+        Held::Int(small_value(word))
+    } else {
+        value_of_odd(main, word)
+    }
+}
+
 /// The value of a field, by its word.
 #[inline(always)]
 pub(crate) fn value_of_field(main: &Main, own: bool, rep: Rep, word: u64) -> Held
@@ -66,7 +111,7 @@ pub(crate) fn value_of_field(main: &Main, own: bool, rep: Rep, word: u64) -> Hel
     if is_raw(own, rep) {
         Held::Int(word.cast_signed())
     } else {
-        main.value_of_word(Word(word))
+        value_of_tagged(main, Word(word))
     }
 }
 

@@ -37,7 +37,30 @@ fn add_path(main: &mut Main, shape: u32, field: PathField, step: Step) -> u32
 
 /// The shape of the path of a shape with a field more, to which this step leads: it is added where
 /// it is missing.
+#[inline(always)]
 pub(crate) fn step_to(main: &mut Main, shape: u32, field: PathField, step: Step) -> u32
+    requires quiet { main.old.seat.phase ≡ Quiet }
+    requires sized { HasSizes (heap_of main.old) }
+    requires path { IsPathShape main.old.paths shape }
+    requires is_new { has_name (shape_path main.old.paths shape) field.name ≡ false }
+    requires few { length (shape_path main.old.paths shape).fields < fields_most }
+    requires step { let path = stepped (shape_path main.old.paths shape) field.name field.rep in
+        IsStep main.old.paths path step }
+    ensures { let path = stepped (shape_path main.old.paths shape) field.name field.rep in
+        AddsPath main.old main.new path result }
+{
+    // There are no more paths than there may be.
+    main.paths_fit();
+    match step {
+        Step::Found(next) => next,
+        Step::Missing => add_laid(main, shape, field, step),
+    }
+}
+
+/// The same, with the layout words of what is added.
+#[cold]
+#[inline(never)]
+fn add_laid(main: &mut Main, shape: u32, field: PathField, step: Step) -> u32
     requires quiet { main.old.seat.phase ≡ Quiet }
     requires sized { HasSizes (heap_of main.old) }
     requires path { IsPathShape main.old.paths shape }

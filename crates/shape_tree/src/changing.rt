@@ -142,9 +142,24 @@ impl ShapeTree {
     {
         // Opens the tree: the proof needs what holds of each.
         let _ = &self.nodes;
-        if let Some(next) = self.there_changed(shape, at, rep) {
-            return Ok(next);
+        match self.there_changed(shape, at, rep) {
+            Some(next) => Ok(next),
+            None => self.lead_to_changed(shape, at, rep),
         }
+    }
+
+    /// The same, where steps to the path may be missing. Its route is large, so it is kept out of
+    /// line.
+    #[cold]
+    #[inline(never)]
+    fn lead_to_changed(&mut self, shape: u32, at: u32, rep: Rep) -> Result<u32, ShapesFull>
+        requires path { IsPathShape self.old shape }
+        requires there { at < length (shape_path self.old shape).fields }
+        ensures changed { let path = changed (shape_path self.old shape) at rep in
+            IfOk result (λ next. Leads self.old self.new path next) }
+        ensures full { let path = changed (shape_path self.old shape) at rep in
+            IfErr result (λ full. LacksPathsFor self.old self.new path full) }
+    {
         let route = self.way_to_changed(shape, at, rep);
         self.lead(route.from, route.tail.as_slice())
     }
@@ -163,9 +178,23 @@ impl ShapeTree {
     {
         // Opens the tree: the proof needs what holds of each.
         let _ = &self.nodes;
-        if let Some(next) = self.there_without(shape, at) {
-            return Ok(next);
+        match self.there_without(shape, at) {
+            Some(next) => Ok(next),
+            None => self.lead_without(shape, at),
         }
+    }
+
+    /// The same, where steps to the path may be missing, out of line as for `change`.
+    #[cold]
+    #[inline(never)]
+    fn lead_without(&mut self, shape: u32, at: u32) -> Result<u32, ShapesFull>
+        requires path { IsPathShape self.old shape }
+        requires there { at < length (shape_path self.old shape).fields }
+        ensures taken_out { let path = without (shape_path self.old shape) at in
+            IfOk result (λ next. Leads self.old self.new path next) }
+        ensures full { let path = without (shape_path self.old shape) at in
+            IfErr result (λ full. LacksPathsFor self.old self.new path full) }
+    {
         let route = self.way_without(shape, at);
         self.lead(route.from, route.tail.as_slice())
     }

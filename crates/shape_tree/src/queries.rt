@@ -49,8 +49,9 @@ impl ShapeTree {
         ensures fields { result.now ≡ (shape_path self.now shape).fields }
         ensures is { IsPath (shape_path self.now shape) }
     {
-        let node = self.nodes[(shape - FIRST) as usize];
-        &self.fields[node.start as usize..(node.start + node.count) as usize]
+        let node = &self.nodes[(shape - FIRST) as usize];
+        let start = node.start as usize;
+        &self.fields[start..start + node.count as usize]
     }
 
     /// The shape of the path of no field and this cap.
@@ -105,7 +106,12 @@ impl ShapeTree {
         requires there { at < length (shape_path self.now shape).fields }
         ensures { slice_get (shape_path self.now shape).fields at ≡ Some result }
     {
-        self.fields_of(shape)[at as usize]
+        // Each part is read by itself: a caller often needs but one.
+        let field = &self.fields_of(shape)[at as usize];
+        PathField {
+            name: field.name,
+            rep: field.rep,
+        }
     }
 
     /// The place of the field of this name in the path of a shape.

@@ -36,16 +36,20 @@ impl ShapeTree {
         if cached.is_for(step) {
             return Some(cached.shape);
         }
-        self.look_up(step)
+        self.look_up(shape, field)
     }
 
     /// The same by the table of transitions. It hashes, so it is kept out of line.
     #[inline(never)]
-    fn look_up(&self, step: Transition) -> Option<u32>
-        requires { IsPathShape self.now step.parent }
-        ensures { let path = extended (shape_path self.now step.parent) (step.field ∷ []) in
+    fn look_up(&self, shape: u32, field: PathField) -> Option<u32>
+        requires { IsPathShape self.now shape }
+        ensures { let path = extended (shape_path self.now shape) (field ∷ []) in
             MatchOption result (IsMissing self.now path) (IsShapeOf self.now path) }
     {
+        let step = Transition {
+            parent: shape,
+            field,
+        };
         self.steps.get(&step).copied()
     }
 

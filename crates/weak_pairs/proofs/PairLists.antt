@@ -1,7 +1,6 @@
 -- The pairs of a table by its words.
 use Rattle.std.proofs.Common.{◌≡◌, ℕ, suc, ◌+◌, ◌-◌, ◌*◌, ◌≤◌, ◌<◌, inl, inr, List, length, get_or, drop, Some}
-use Rattle.std.proofs.Common.{slice_get, refl, sym, ◌∙◌, ap, arith, length-drop, length-take, ◌/◌}
-use Rattle.std.proofs.Common.{[], ◌∷◌}
+use Rattle.std.proofs.Common.{slice_get, refl, sym, ◌∙◌, ap, arith, length-drop, length-take}
 use Rattle.std.specs.Prelude.{slice_range}
 use Rattle.std.proofs.lemmas.Bool.{cases_lt}
 use Rattle.std.proofs.lemmas.List.{same_lists}
@@ -10,14 +9,9 @@ use Rattle.tagged_word.specs.Cells.{store_head}
 use Rattle.heap_model.specs.Kinds.{Pair, pairs_in}
 use Rattle.heap_model.proofs.CellWords.{slice_get-take, slice_get-drop}
 use Rattle.heap_model.proofs.ObjectSlots.{pair_words}
+use Rattle.heap_model.proofs.PairLists.{length-pairs_in}
 use Rattle.weak_pairs.specs.Tables.{ArePairsIn, key_offset, value_offset, pairs_of, IsOutsidePairs}
 use Rattle.weak_pairs.specs.declared.table.Table.{Table}
-
--- there are half as many pairs as words
-pub length-pairs_in : (words : List ℕ) → length (pairs_in words) ≡ length words / 2
-length-pairs_in [] = refl
-length-pairs_in (key ∷ []) = omega arith
-length-pairs_in (key ∷ value ∷ words) = omega (arith, length-pairs_in words)
 
 -- a word of a range is one of all
 in_range : (words : List ℕ) (from to k place word : ℕ) → from + k ≡ place

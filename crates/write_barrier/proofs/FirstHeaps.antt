@@ -9,7 +9,7 @@ use Rattle.std.proofs.lemmas.List.{map-id}
 use Rattle.std.proofs.lemmas.List.Elements.{All-nil, All-map, All-contains_itself}
 use Rattle.std.proofs.lemmas.List.Sums.{sum_by-cons}
 use Rattle.std.proofs.lemmas.Simd.{map-map}
-use Rattle.tagged_word.specs.Cells.{scavenge_offsets}
+use Rattle.tagged_word.specs.Cells.{scavenge_offsets, is_object_kind}
 use Rattle.heap_model.specs.Types.{Region, Cell}
 use Rattle.page_space.specs.declared.region.Region.TheVariants.{Page, Eden, Segment, Root, Layout, Mark, Board, Outside}
 use Rattle.page_space.specs.Extents.{Extent}
@@ -23,7 +23,7 @@ use Rattle.shape_tree.specs.Shapes.{AreShapes}
 use Rattle.handle_roots.specs.declared.held.Held.TheVariants as held
 use Rattle.handle_roots.specs.Roots.{Holds}
 use Rattle.heap_model.specs.Heaps.{Row, IsUsedRow, AreRows, HasCell, cell_extents, survivors_in, survivors_of}
-use Rattle.heap_model.specs.Slots.{is_object_kind, IsPlace}
+use Rattle.heap_model.specs.Slots.{IsPlace}
 use Rattle.heap_model.specs.Kinds.{IsSoundCell}
 use Rattle.heap_model.specs.Wholeness.{Whole, HasSizes, HasRows}
 use Rattle.heap_model.specs.Collectable.{IsCollectable}

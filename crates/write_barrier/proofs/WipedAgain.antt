@@ -2,10 +2,12 @@
 use Rattle.std.proofs.Common.{◌≡◌, ℕ, ◌+◌, ◌<◌, ◌≤◌, inl, inr, sym, ◌∙◌, ap, subst, arith}
 use Rattle.std.proofs.lemmas.Bool.{cases_lt}
 use Rattle.page_space.specs.Extents.{marks_start}
+use Rattle.remembered_set.specs.Recorded.{Recorded}
 use Rattle.heap_model.specs.Remembered.{Touch}
 use Rattle.write_barrier.specs.MutatorState.{Mutator, with_word}
 use Rattle.write_barrier.specs.Recording.{Touches, touched, touched_again, touched_then}
-use Rattle.write_barrier.proofs.Recording.{then_touch, touch_alike, word_touch}
+use Rattle.write_barrier.proofs.JudgedSlots.{wiped_behind}
+use Rattle.write_barrier.proofs.Recording.{forget_touch, then_touch, touch_alike, word_touch}
 use Rattle.write_barrier.proofs.TouchedRanges.{touched_inside, touched_outside}
 
 -- a range that is wiped, and then once more in part, is as one that was wiped once
@@ -38,3 +40,11 @@ word_in {mid = mid} from to at word low high before is one =
     wiped_in from to at (at + 1) low (omega (arith, high)) one
     (subst (λ (main : Mutator). Touches mid main (touched Touch.Wiped at (at + 1))) (sym is)
     (word_touch mid at word (omega (arith, high, before))))
+
+-- behind all pages nothing is recorded: a range there is wiped as it stands
+pub wiped_young : (main : Mutator) (from to : ℕ) → main.recorded.bound ≤ from
+    → Touches main main (touched Touch.Wiped from to)
+wiped_young main from to behind =
+    subst (λ (one : Mutator). Touches main one (touched Touch.Wiped from to))
+    (ap (λ (recorded : Recorded). record main { recorded = recorded }) (wiped_behind main.recorded from to behind))
+    (forget_touch main from to)

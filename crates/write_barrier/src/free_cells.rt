@@ -82,7 +82,51 @@ impl Main {
 
     /// Makes so many words at an address a free cell: a filler where it is one, a gap where they are
     /// more. Nothing is recorded of them.
+    #[inline]
     pub fn put_free_cell(&mut self, at: u32, count: u32)
+        requires quiet { self.old.seat.phase ≡ Quiet }
+        requires within { at + count ≤ marks_start self.old.seat.space }
+        ensures beside { RestStays self.old.seat self.new.seat }
+        ensures paths { self.new.paths ≡ self.old.paths }
+        ensures young { self.new.young ≡ self.old.young }
+        ensures heap { let words = heap_words self.old.seat in
+            heap_words self.new.seat ≡ with_free_cell words at count }
+        ensures touches { Touches self.old self.new (touched Touch.Wiped at (at + count)) }
+    {
+        if self.remembered.covers(at) {
+            self.put_free_in_page(at, count);
+        } else {
+            self.put_free_young(at, count);
+        }
+    }
+
+    /// The same of words behind all pages, of which nothing is recorded.
+    #[inline(always)]
+    fn put_free_young(&mut self, at: u32, count: u32)
+        requires quiet { self.old.seat.phase ≡ Quiet }
+        requires within { at + count ≤ marks_start self.old.seat.space }
+        requires behind { self.old.recorded.bound ≤ at }
+        ensures beside { RestStays self.old.seat self.new.seat }
+        ensures paths { self.new.paths ≡ self.old.paths }
+        ensures young { self.new.young ≡ self.old.young }
+        ensures heap { let words = heap_words self.old.seat in
+            heap_words self.new.seat ≡ with_free_cell words at count }
+        ensures touches { Touches self.old self.new (touched Touch.Wiped at (at + count)) }
+    {
+        self.addresses_fit();
+        match count {
+            0 => {}
+            1 => self.put_young(at, FILLER.word().0),
+            _ => {
+                self.put_young(at, GAP.word().0);
+                self.put_young(at + LENGTH, count as u64);
+            }
+        }
+    }
+
+    /// The same of words of a page.
+    #[inline(never)]
+    fn put_free_in_page(&mut self, at: u32, count: u32)
         requires quiet { self.old.seat.phase ≡ Quiet }
         requires within { at + count ≤ marks_start self.old.seat.space }
         ensures beside { RestStays self.old.seat self.new.seat }

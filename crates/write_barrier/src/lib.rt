@@ -9,6 +9,7 @@
 
 mod fills;
 mod free_cells;
+mod held_words;
 mod laws;
 mod main_side;
 mod opening;

@@ -79,8 +79,7 @@ impl Main {
         ensures of_table { slice_get self.now.seat.table (cell + offset) ≡ Some result }
         ensures of_heap { slice_get (heap_words self.now.seat) (cell + offset) ≡ Some result }
     {
-        self.addresses_fit();
-        self.word(cell + offset)
+        self.seat.slot(cell, offset)
     }
 
     /// The header that stands at an address: that of each cell there.

@@ -27,6 +27,18 @@ impl Main {
         self.seat.put(a, word);
     }
 
+    /// Puts a word at an offset of a cell, before the marks. Nothing is recorded.
+    #[inline(always)]
+    pub(crate) fn put_slot(&mut self, cell: u32, offset: u32, word: u64)
+        requires quiet { self.old.seat.phase ≡ Quiet }
+        requires within { cell + offset < marks_start self.old.seat.space }
+        ensures put { self.new ≡ put_word self.old (cell + offset) word }
+        ensures heap { let words = heap_words self.old.seat in
+            heap_words self.new.seat ≡ slice_set words (cell + offset) word }
+    {
+        self.seat.put_slot(cell, offset, word);
+    }
+
     /// Forgets what is recorded of the words from an address up to, not including, another: no slot is
     /// there any more.
     #[inline(always)]
@@ -36,6 +48,31 @@ impl Main {
         if self.remembered.covers(from) {
             self.remembered.forget_range(from, to);
         }
+    }
+
+    /// Forgets what is recorded of one word: no slot is there any more.
+    #[inline(always)]
+    fn forget_word(&mut self, a: u32)
+        ensures { self.new ≡ forgets self.old a (a + 1) }
+    {
+        if self.remembered.covers(a) {
+            self.remembered.forget(a);
+        }
+    }
+
+    /// Puts a word behind all pages, where nothing is recorded: one that is no slot of a cell. No other
+    /// word changes.
+    #[inline(always)]
+    pub(crate) fn put_young(&mut self, a: u32, word: u64)
+        requires quiet { self.old.seat.phase ≡ Quiet }
+        requires within { a < marks_start self.old.seat.space }
+        requires behind { self.old.recorded.bound ≤ a }
+        ensures written { self.new ≡ with_word self.old a word }
+        ensures heap { let words = heap_words self.old.seat in
+            heap_words self.new.seat ≡ slice_set words a word }
+        ensures bound { self.new.recorded.bound ≡ self.old.recorded.bound }
+    {
+        self.put(a, word);
     }
 
     /// Whether a word refers to a young cell.
@@ -55,13 +92,12 @@ impl Main {
     #[inline(never)]
     pub(crate) fn judge(&mut self, slot: u32, word: Word)
         requires of_page { slot < self.old.recorded.bound }
-        requires few { slot + 1 < 2 ^ 32 }
         ensures { self.new ≡ record self.old { recorded = judged self.old.recorded slot word.0 } }
     {
         if self.is_young(word) {
             self.remembered.note(slot);
         } else {
-            self.remembered.forget_range(slot, slot + 1);
+            self.remembered.forget(slot);
         }
     }
 
@@ -75,8 +111,7 @@ impl Main {
         ensures heap { let words = heap_words self.old.seat in
             heap_words self.new.seat ≡ slice_set words a word }
     {
-        self.addresses_fit();
-        self.forget(a, a + 1);
+        self.forget_word(a);
         self.put(a, word);
     }
 
@@ -90,7 +125,8 @@ impl Main {
             heap_words self.new.seat ≡ slice_set words (cell + offset) word }
     {
         self.addresses_fit();
-        self.write(cell + offset, word);
+        self.forget_word(cell + offset);
+        self.put_slot(cell, offset, word);
     }
 
     /// Puts a value in the slot of a cell at an offset. No other word changes.
@@ -107,7 +143,7 @@ impl Main {
         if self.remembered.covers(slot) {
             self.judge(slot, value);
         }
-        self.put(slot, value.0);
+        self.put_slot(cell, offset, value.0);
     }
 
     /// Puts a value in the slot of a weak table at an offset. No other word changes. Marking never looks at

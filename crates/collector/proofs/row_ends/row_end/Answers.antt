@@ -2,7 +2,7 @@ use Rattle.std.proofs.Common.{◌+◌, ◌∙◌, refl, sym, ap, arith}
 use Rattle.page_space.proofs.Limits.{words_count_most}
 use Rattle.write_barrier.specs.MutatorState.{heap_of}
 use Rattle.heap_model.proofs.RegionRows.{start_inside}
-use Rattle.collector.proofs.CellRegions.{told_inside}
+use Rattle.cell_reading.proofs.RowLimits.{told_inside}
 use Rattle.collector.proofs.RowWalks.{eden_ends, whole_ends, segment_between}
 use Rattle.collector.proofs.row_ends.row_end.Goals as goal
 

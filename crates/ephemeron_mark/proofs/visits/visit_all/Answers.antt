@@ -3,7 +3,7 @@ use Rattle.std.proofs.Common.{◌≡◌, ℕ, ◌<◌, ◌+◌, Contains, Some, 
 use Rattle.live_cells.proofs.ObjectTargets.{at_is_in}
 use Rattle.cell_list.proofs.Flags.{listed_are_few}
 use Rattle.write_barrier.specs.MutatorState.{heap_of}
-use Rattle.ephemeron_mark.specs.Progress.{AreMaps}
+use Rattle.ephemeron_mark.specs.Progress.{AreMapsAmong}
 use Rattle.ephemeron_mark.proofs.GrownLists.{grows_again}
 use Rattle.ephemeron_mark.proofs.VisitedCells.{no_fewer, next_visited, stands_to_read, read_is_cell}
 use Rattle.ephemeron_mark.proofs.NotedMaps.{maps_stay, next_noted}
@@ -63,7 +63,7 @@ loop-next-preserved c =
     let marked = at_is_in c.loop-next.cells.addresses next c.get.result c.get.ensures in
     let is_cell = read_is_cell invariant.grown.marking c.get.result c.known_cell-cell.result marked
     c.known_cell-cell.ensures.one in
-    let noted_now = subst (λ (maps : List ℕ). AreMaps (heap_of c.args.main.now) c.loop-next.cells maps (next + 1))
+    let noted_now = subst (λ (maps : List ℕ). AreMapsAmong (heap_of c.args.main.now) c.loop-next.cells maps (next + 1))
     (sym c.note_map.ensures.noted) (next_noted is_cell there invariant.maps c.len.ensures.own.once) in
     record {
       grown = grows_again invariant.grown grown;

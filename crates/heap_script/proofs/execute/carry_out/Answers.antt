@@ -1,6 +1,6 @@
 use Rattle.std.proofs.Common.{◌∙◌, refl}
 use Rattle.heap_script.proofs.Retrying.{ready_first, ready_space, carried_at}
-use Rattle.heap_script.proofs.Stopping.{unchanged, servable, ready_next, stops}
+use Rattle.heap_script.proofs.Stopping.{unchanged, servable, clearable, ready_next, stops}
 use Rattle.heap_script.proofs.execute.carry_out.Goals as goal
 
 pub tries-init : goal.tries-init
@@ -28,6 +28,12 @@ make_way-requires-clause-servable c =
     let now = c.tries.invariant in
     servable c.args.script.now.fields c.execute.new.heap now.ready now.objects c.in-Err.ensures.spare c.requires.shown
     c.in-Err.ensures.carried c.requires.within
+
+pub make_way-requires-clause-clearable : goal.make_way-requires-clause-clearable
+make_way-requires-clause-clearable c =
+    let now = c.tries.invariant in
+    clearable c.args.script.now.fields c.execute.new.heap now.ready now.objects c.in-Err.ensures.spare
+    c.requires.shown c.in-Err.ensures.carried
 
 pub make_way-requires-clause-shown : goal.make_way-requires-clause-shown
 make_way-requires-clause-shown c =

@@ -1,14 +1,16 @@
-use Rattle.std.proofs.Common.{◌≡◌, ◌∙◌, ℕ, ◌+◌, ◌<◌, List, ◌++◌, refl, sym, subst, get_or, arith}
+use Rattle.std.proofs.Common.{◌≡◌, ◌∙◌, ℕ, ◌+◌, ◌<◌, List, ◌++◌, refl, sym, ap, subst, get_or, arith}
+use Rattle.page_space.specs.Extents.{Space}
 use Rattle.std.proofs.lemmas.Option.{slice_get_past}
 use Rattle.std.specs.Prelude.{slice_get, None}
 use Rattle.object_graph.specs.Run.{lines_most}
 use Rattle.script_text.specs.Unrolled.{executed_lines}
 use Rattle.script_text.proofs.Left.{at_most_four}
 use Rattle.write_barrier.specs.MutatorState.{heap_of}
-use Rattle.heap_script.specs.Stages.{stage_of}
+use Rattle.heap_script.specs.Stages.{uncollected, stage_of}
 use Rattle.heap_script.proofs.Ways.{goes_on, past_end}
 use Rattle.heap_script.specs.Runs.{OutputHolds, IsDue}
 use Rattle.heap_script.proofs.Handing.{CutsOff-handed}
+use Rattle.heap_script.proofs.Passing.{as_taken, as_handed}
 use Rattle.heap_script.proofs.Running.{next-drop, Running-start, Running-handed}
 use Rattle.heap_script.proofs.LineCarried.{Running-line, TellsAt-line}
 use Rattle.heap_script.proofs.Ending.{EndsRun-end, EndsRun-limit, Stopped-line, Pauses-stopped}
@@ -48,7 +50,7 @@ returns-then-executed-eq-LINES_MOST-clause-pauses g c =
     r.left in
     record {
       reached = r.reached;
-      collections = 0;
+      collections = uncollected;
       spends = r.spends;
       free = r.shown.main.free;
       halts = (
@@ -74,7 +76,7 @@ returns-clause-pauses g c =
     rw (← c.lines-lines.ensures.all) (slice_get_past lines c.loop-at.at c.loop-at-test.false) in
     record {
       reached = r.reached;
-      collections = 0;
+      collections = uncollected;
       spends = r.spends;
       free = r.shown.main.free;
       halts = (
@@ -104,7 +106,7 @@ returns-in_default g c =
     record {
       pauses = record {
         reached = r.reached;
-        collections = 0;
+        collections = uncollected;
         spends = r.spends;
         free = r.shown.main.free;
         halts = (
@@ -142,6 +144,48 @@ returns-in-Err g c =
       space = same_regions heap after r.shown shows c.in-Err.ensures.spare ∙ c.loop-at.invariant.space;
     }
 
+pub run_ahead-ahead-requires-clause-runs : goal.run_ahead-ahead-requires-clause-runs
+run_ahead-ahead-requires-clause-runs g c =
+    let script = c.args.script.now in
+    let before = c.loop-at.invariant.running in
+    let n = c.loop-at.executed in
+    let lines = c.lines-lines.result.now in
+    let line = get_or lines c.loop-at.at past_end in
+    let heap = c.loop-at.heap in
+    let r = Running-handed script heap _ _ c.flush_if_full.new.out _ _ _ _ _ _ _ before c.in-Ok.ensures.handed in
+    let goes = goes_on lines script.lines c.loop-at.at c.loop-at.turns _ c.lines-lines.ensures.all c.loop-at-test.true
+    r.left in
+    let below : n < lines_most = omega (arith, r.reached.few) in
+    let ran = c.in-Ok-execute_line.ensures in
+    let (text, carries, out-is) = ran.carried r.reached.so_far.graph r.shown r.made in
+    let running = Running-line script heap c.execute_line.new.heap c.loop-at.objects c.flush_if_full.new.out _ _
+    c.loop-at.at _ c.loop-at.turns _ n line.number _ text r below goes ran.spare carries in
+    (running.handed.handed, rw (ran.place, ran.turned, ran.counted, out-is) (as_taken running))
+
+pub run_ahead-ahead-requires-clause-variables : goal.run_ahead-ahead-requires-clause-variables
+run_ahead-ahead-requires-clause-variables g c =
+    let script = c.args.script.now in
+    let before = c.loop-at.invariant.running in
+    let n = c.loop-at.executed in
+    let lines = c.lines-lines.result.now in
+    let line = get_or lines c.loop-at.at past_end in
+    let heap = c.loop-at.heap in
+    let r = Running-handed script heap _ _ c.flush_if_full.new.out _ _ _ _ _ _ _ before c.in-Ok.ensures.handed in
+    let goes = goes_on lines script.lines c.loop-at.at c.loop-at.turns _ c.lines-lines.ensures.all c.loop-at-test.true
+    r.left in
+    let below : n < lines_most = omega (arith, r.reached.few) in
+    let ran = c.in-Ok-execute_line.ensures in
+    let (text, carries, out-is) = ran.carried r.reached.so_far.graph r.shown r.made in
+    let running = Running-line script heap c.execute_line.new.heap c.loop-at.objects c.flush_if_full.new.out _ _
+    c.loop-at.at _ c.loop-at.turns _ n line.number _ text r below goes ran.spare carries in
+    let space = same_regions heap c.execute_line.new.heap r.shown running.shown ran.spare
+    ∙ c.loop-at.invariant.space in
+    ap (λ (space : Space). space.variables) space ∙ c.requires.variables
+
+pub loop-at-smaller : goal.loop-at-smaller
+loop-at-smaller g c =
+    omega (arith, c.run_ahead-ahead.ensures.further, c.loop-at.invariant.running.reached.few)
+
 pub loop-at-preserved : goal.loop-at-preserved
 loop-at-preserved g c =
     let script = c.args.script.now in
@@ -156,16 +200,19 @@ loop-at-preserved g c =
     let below : n < lines_most = omega (arith, r.reached.few) in
     let ran = c.in-Ok-execute_line.ensures in
     let (text, carries, out-is) = ran.carried r.reached.so_far.graph r.shown r.made in
+    let running = Running-line script heap c.execute_line.new.heap c.loop-at.objects c.flush_if_full.new.out _ _
+    c.loop-at.at _ c.loop-at.turns _ n line.number _ text r below goes ran.spare carries in
     let tells = TellsAt-line script (heap_of heap.main) _ _ _ _ n line.number _ text r.reached goes carries in
     let holds : OutputHolds script (n + 1) (c.flush_if_full.new.out ++ text) =
     subst (λ (waiting : List ℕ). OutputHolds script (n + 1) (waiting ++ text)) (sym c.in-Ok.ensures.waits)
     (OutputHolds.one_more n c.loop-at.out text c.loop-at.invariant.holds tells) in
-    let running = Running-line script heap c.execute_line.new.heap c.loop-at.objects c.flush_if_full.new.out _ _
-    c.loop-at.at _ c.loop-at.turns _ n line.number _ text r below goes ran.spare carries in
+    let ahead = c.run_ahead-ahead.ensures in
+    let runs = ahead.runs running.handed.handed
+    (rw (ran.place, ran.turned, ran.counted, out-is) (as_taken running)) in
     record {
-      running = rw (ran.place, ran.turned, ran.counted, out-is) running;
-      holds = rw out-is holds;
-      space = same_regions heap c.execute_line.new.heap r.shown running.shown ran.spare
+      running = as_handed runs running.handed.taken;
+      holds = ahead.holds (rw out-is holds);
+      space = ahead.space ∙ same_regions heap c.execute_line.new.heap r.shown running.shown ran.spare
           ∙ c.loop-at.invariant.space;
       steady = c.in-Ok.ensures.steady ∙ c.loop-at.invariant.steady;
     }

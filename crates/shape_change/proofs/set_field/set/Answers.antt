@@ -32,7 +32,7 @@ returns-in-Some c graph plain what shows is holds =
 
 pub returns-in-None : goal.returns-in-None
 returns-in-None c graph plain what shows is holds =
-    c.add_there.ensures graph plain what shows is holds
+    c.add_apart.ensures graph plain what shows is holds
     (name_is_new shows is c.header-header.ensures.of_cell c.args.name
     (ap (λ (paths : List Path). has_name (shape_path paths c.header-header.result.shape) c.args.name)
     (sym c.shapes.ensures) ∙ c.in-None.ensures.none.0 refl))

@@ -6,8 +6,8 @@ use Rattle.heap_model.proofs.SlotWords.{field_is_slot}
 use Rattle.object_cells.proofs.WordsTold.{field_told, raw_field_told, raw_back, slot_within}
 use Rattle.shape_change.proofs.slots.value_of_field.Goals as goal
 
-pub value_of_word-requires-clause-within : goal.value_of_word-requires-clause-within
-value_of_word-requires-clause-within c = λ at refers.
+pub value_of_tagged-requires-clause-within : goal.value_of_tagged-requires-clause-within
+value_of_tagged-requires-clause-within c = λ at refers.
     slot_within c.args.word at
     (field_is_slot c.args.rep c.args.word c.requires.field (c.is_raw.ensures.tagged c.if-is_raw.false)) refers
 
@@ -21,4 +21,4 @@ returns-then-is_raw c value shows =
 pub returns-else-is_raw : goal.returns-else-is_raw
 returns-else-is_raw c value shows =
     field_told c.addresses_fit.ensures.within c.requires.whole.whole.sized
-    (c.is_raw.ensures.tagged c.if-is_raw.false) c.value_of_word.ensures shows
+    (c.is_raw.ensures.tagged c.if-is_raw.false) c.value_of_tagged.ensures shows

@@ -13,7 +13,8 @@ pub returns-in_err-room_for-clause-full : goal.returns-in_err-room_for-clause-fu
 returns-in_err-room_for-clause-full c =
     let old = c.args.self.now in
     let path = extended (shape_path old c.args.from) c.args.tail.now in
-    refused_with (λ answer. IfErr answer (LacksPathsFor old old path)) c.from_residual.result c.in_err-room_for.field-0.0 c.from_residual.ensures.1
+    refused_with (λ answer. IfErr answer (LacksPathsFor old old path)) c.from_residual.result
+    c.in_err-room_for.field-0.0 c.from_residual.ensures.1
     (c.in_err-room_for.ensures.full path (length-missing_walk old path c.walk-walk.result c.walk-walk.ensures))
 
 pub returns-clause-led : goal.returns-clause-led

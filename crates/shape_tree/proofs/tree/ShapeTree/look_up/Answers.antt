@@ -5,5 +5,5 @@ use Rattle.shape_tree.proofs.tree.ShapeTree.look_up.Goals as goal
 
 pub returns : goal.returns
 returns c =
-    step_shown c.self.inside c.args.self.now c.args.step.parent c.args.step.field c.copied.result c.self.invariant
+    step_shown c.self.inside c.args.self.now c.args.shape c.args.field c.copied.result c.self.invariant
     c.self.view_is c.requires (sym (c.copied.ensures ∙ c.get.ensures.value))

@@ -6,7 +6,7 @@ use Rattle.shape_change.specs.FieldChanges.{SetsField}
 use Rattle.shape_change.specs.declared.stop.FieldStop.TheVariants as stop
 use Rattle.shape_change.proofs.Settings.{setting}
 use Rattle.shape_change.proofs.SetByPlace.{as_it_is_sets, as_it_is_refused, widening_sets}
-use Rattle.shape_change.proofs.set_field.set_there.Goals as goal
+use Rattle.shape_change.proofs.set_field.set_by_setting.Goals as goal
 
 pub returns-then-ne : goal.returns-then-ne
 returns-then-ne c graph plain what name shows is holds there =

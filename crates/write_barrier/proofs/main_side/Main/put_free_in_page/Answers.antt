@@ -8,7 +8,7 @@ use Rattle.write_barrier.specs.FreeCells.{filler_header}
 use Rattle.write_barrier.specs.Recording.{Touches, touched}
 use Rattle.write_barrier.proofs.Recording.{forget_touch}
 use Rattle.write_barrier.proofs.WipedAgain.{word_in}
-use Rattle.write_barrier.proofs.main_side.Main.put_free_cell.Goals as goal
+use Rattle.write_barrier.proofs.main_side.Main.put_free_in_page.Goals as goal
 
 pub returns-in-0-clause-touches : goal.returns-in-0-clause-touches
 returns-in-0-clause-touches c =

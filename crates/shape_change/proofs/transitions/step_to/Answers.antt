@@ -1,0 +1,21 @@
+-- Nothing is added where the step is found.
+use Rattle.std.proofs.Common.{refl, subst}
+use Rattle.shape_tree.specs.Shapes.{shape_path, stepped}
+use Rattle.shape_tree.specs.Growth.{IsStep}
+use Rattle.shape_tree.proofs.LedPaths.{leads_there}
+use Rattle.shape_change.proofs.transitions.step_to.Goals as goal
+
+pub returns-in-Found : goal.returns-in-Found
+returns-in-Found c =
+    let paths = c.args.main.now.paths in
+    let path = stepped (shape_path paths c.args.shape) c.args.field.name c.args.field.rep in
+    record {
+      beside = record { space = refl; phase = refl; behind = refl };
+      young = refl;
+      free = refl;
+      recorded = refl;
+      leads = leads_there paths path c.in-Found.next c.paths_fit.ensures.good
+          (subst (IsStep paths path) c.in-Found.is c.requires.step);
+      sized = c.requires.sized;
+      stay = λ at below. refl;
+    }
