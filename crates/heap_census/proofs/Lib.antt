@@ -1,4 +1,1 @@
-mod CellsBefore
-mod FewPairs
-mod CountSteps
 mod RowSteps

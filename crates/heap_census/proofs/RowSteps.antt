@@ -20,7 +20,7 @@ use Rattle.cell_reading.specs.Limits.{EndsBy, IsLimit}
 use Rattle.cell_reading.specs.Standing.{StandsAt}
 use Rattle.heap_census.specs.declared.census.Census.{Census}
 use Rattle.heap_census.specs.Passing.{CountsTo}
-use Rattle.heap_census.proofs.CountSteps.{NoneBegins, counts_further}
+use Rattle.live_cells.proofs.CountSteps.{NoneBegins, counts_further}
 
 -- A count has gone along the used row of a region to an address: from there on these cells stand in it.
 pub record Walking (heap : Heap) (start end limit at : ℕ) : Type 0 where

@@ -1,27 +1,9 @@
 -- How far a count of a heap's cells has come.
-use Rattle.std.specs.Prelude.{◌≡◌, ℕ, ◌*◌, ◌≤◌, List, filter, length, sum_by, nat_lt}
-use Rattle.heap_model.specs.Types.{Cell}
-use Rattle.heap_model.specs.Heaps.{Heap, Row, AreRows}
-use Rattle.live_cells.specs.Census.{objects_in, pairs_counted}
+use Rattle.std.specs.Prelude.{ℕ}
+use Rattle.heap_model.specs.Heaps.{Heap}
+use Rattle.live_cells.specs.Counting.{CountsTo as CountedTo}
 use Rattle.heap_census.specs.declared.census.Census.{Census}
 
--- the objects' cells of rows that begin before an address
-abbrev pub objects_before : List Row → ℕ → List Cell
-objects_before rows to = filter (λ cell. nat_lt cell.at to) (objects_in rows)
-
--- So many cells of objects begin before an address, and their weak maps count so many pairs together.
-pub record IsCensusBefore (heap : Heap) (rows : List Row) (to : ℕ) (census : Census) : Type 0 where
-  pub objects : census.objects ≡ length (objects_before rows to)
-  pub entries : census.entries ≡ sum_by (λ cell. pairs_counted heap cell.layout.kind cell.at) (objects_before rows to)
-
--- The most pairs that are counted for a word of an object's cell: that of a weak map has 3 words, and its table, which
--- is no longer than a page, no more than 1,023 pairs.
-abbrev pub word_pairs_most : ℕ
-word_pairs_most = 341
-
--- A count has come to an address: these are the objects and the pairs of the cells that begin before it, and there are
--- no more than the words before it may have.
-pub record CountsTo (heap : Heap) (to : ℕ) (census : Census) : Type 0 where
-  pub counted : (rows : List Row) → AreRows heap rows → IsCensusBefore heap rows to census
-  pub few_objects : census.objects ≤ to
-  pub few_entries : census.entries ≤ word_pairs_most * to
+-- the census is what a count that has come to the address counts
+abbrev pub CountsTo : Heap → ℕ → Census → Type 0
+CountsTo heap to census = CountedTo heap to census.objects census.entries

@@ -5,7 +5,8 @@ ghost use Rattle.heap_model.specs.Heaps.{HasCell};
 ghost use Rattle.heap_model.specs.Wholeness.{Whole};
 ghost use Rattle.live_cells.specs.Census.{pairs_counted};
 ghost use Rattle.write_barrier.specs.MutatorState.{heap_of};
-ghost use Rattle.heap_census.specs.Passing.{CountsTo, word_pairs_most};
+ghost use Rattle.heap_census.specs.Passing.{CountsTo};
+ghost use Rattle.live_cells.specs.Counting.{word_pairs_most};
 
 use cell_layout::Cell;
 use heap_model::cells::COUNT;

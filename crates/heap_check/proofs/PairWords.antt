@@ -57,7 +57,7 @@ table_is (HasTable.table to cell words refers is power) =
     (ap (λ all. pairs_in (drop store_head all)) (sym refers.has.words_are))
 
 -- a table of a span has half as many pairs as the span has words
-table_capacity : (heap : Heap) (word : ℕ) (cell : Cell) (table : Span)
+pub table_capacity : (heap : Heap) (word : ℕ) (cell : Cell) (table : Span)
     → RefersTo heap word cell (words_of_cell heap cell)
     → cell.layout.kind ≡ kind.Table → IsSpan heap table
     → span_words heap table ≡ drop store_head (words_of_cell heap cell) → cell.length ≡ (table.end - table.from) / 2

@@ -14,16 +14,21 @@ pub record PassesPair (pairs : List Pair) (number at steps : ℕ) : Type 0 where
   pub elsewhere : (number + steps) % length pairs ≢ at
   pub filled : (pair : Pair) → slice_get pairs ((number + steps) % length pairs) ≡ Some pair → pair ≢ free_pair
 
--- a pair that is tested to be free is
-pub free_from : (pair : Pair) → is_free_pair pair ≡ true → pair ≡ free_pair
-free_from pair is =
-    let key : pair.key ≡ hole_word = grind (arith, nat_tests) in
-    let value : pair.value ≡ hole_word = grind (arith, nat_tests) in
+-- a pair of two holes is free
+pub two_holes : (pair : Pair) → pair.key ≡ hole_word → pair.value ≡ hole_word → pair ≡ free_pair
+two_holes pair key value =
     let keyed : pair ≡ record { key = hole_word; value = pair.value } =
     ap (λ k. record { key = k; value = pair.value }) key in
     let valued : record { key = hole_word; value = pair.value } ≡ free_pair =
     ap (λ v. record { key = hole_word; value = v }) value in
     keyed ∙ valued
+
+-- a pair that is tested to be free is
+pub free_from : (pair : Pair) → is_free_pair pair ≡ true → pair ≡ free_pair
+free_from pair is =
+    let key : pair.key ≡ hole_word = grind (arith, nat_tests) in
+    let value : pair.value ≡ hole_word = grind (arith, nat_tests) in
+    two_holes pair key value
 
 -- a free pair more is no entry more
 pub count_free : (pairs : List Pair) (at : ℕ) (pair : Pair) → slice_get pairs at ≡ Some pair

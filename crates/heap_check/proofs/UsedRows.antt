@@ -105,6 +105,7 @@ bounds_from heap start end region within few stands inside =
     record {
       limits = within;
       stands = stands;
+      by_kind = ap (λ (r : Region). bound_in r start end heap.used) same;
       bounds = subst B bound (bounds_of heap extent end within few stands.among stands.ends);
     }
 
@@ -127,7 +128,7 @@ used_within heap start end within few stands =
     )
 
 -- the used row of the region is a walk within the bound
-row_walks : (heap : Heap) (start end : ℕ) (bound : Bound) (row : Row) → BoundsFrom heap start end bound
+pub row_walks : (heap : Heap) (start end : ℕ) (bound : Bound) (row : Row) → BoundsFrom heap start end bound
     → IsRowFrom heap start row → IsWalk heap bound start row.end row.cells
 row_walks heap start end bound row bounds is =
     let same = of_region bounds.limits bounds.stands is in

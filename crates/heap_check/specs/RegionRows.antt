@@ -27,10 +27,11 @@ pub record IsBoundOf (heap : Heap) (extent : Extent) (bound : Bound) : Type 0 wh
   pub within : bound.limit ≤ extent.start + extent.words
   pub ends : (end : ℕ) → EndsUsed heap extent end extent.region ↔ ((end ≤ bound.limit) × Stops heap bound end)
 
--- so it is of the region that stands there, and the sizes of the heap are within their limits
+-- so it is of the region that stands there, by its kind, and the sizes of the heap are within their limits
 pub record BoundsFrom (heap : Heap) (start end : ℕ) (bound : Bound) : Type 0 where
   pub limits : AreWithin heap.space.sizes heap.space.variables
   pub stands : StandsBetween heap.space start end
+  pub by_kind : bound ≡ bound_in stands.extent.region start end heap.used
   pub bounds : IsBoundOf heap stands.extent bound
 
 -- the region that begins at the address has no used row

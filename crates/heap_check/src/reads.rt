@@ -17,7 +17,7 @@ pub fn word_at(image: &HeapImage, a: u32) -> Option<u64>
 }
 
 /// Whether the word at an address is there and is 0.
-pub(crate) fn is_zero(image: &HeapImage, a: u32) -> bool
+pub fn is_zero(image: &HeapImage, a: u32) -> bool
     ensures { IsTrue result ↔ (slice_get image.now.words a ≡ Some 0) }
 {
     match word_at(image, a) {
@@ -27,7 +27,7 @@ pub(crate) fn is_zero(image: &HeapImage, a: u32) -> bool
 }
 
 /// The cell that words at an address read as, whatever stands before it.
-pub(crate) fn cell_there(image: &HeapImage, a: u32) -> Option<Cell>
+pub fn cell_there(image: &HeapImage, a: u32) -> Option<Cell>
     requires { HasWords (image_heap image.now) }
     ensures cell { MatchOption result (HasNoCell image.now.regions image.now.words a)
         (λ cell. (cell.at ≡ a) × IsCell image.now.regions image.now.words cell) }

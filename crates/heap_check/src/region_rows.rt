@@ -11,7 +11,7 @@ use heap_model::HeapImage;
 use page_space::Region;
 
 /// How far the row of a region may go that stands between two addresses.
-pub(crate) fn bound_of(image: &HeapImage, start: u32, end: u32) -> Bound
+pub fn bound_of(image: &HeapImage, start: u32, end: u32) -> Bound
     requires few { IsFew (image_heap image.now) }
     requires stands { StandsBetween image.now.regions start end }
     ensures { BoundsFrom (image_heap image.now) start end result }
@@ -55,7 +55,7 @@ pub(crate) fn row_end(image: &HeapImage, start: u32, end: u32) -> Option<u32>
 }
 
 /// How many words of survivors a row has.
-pub(crate) fn survivors_at(image: &HeapImage, start: u32, end: u32, row_end: u32) -> u32
+pub fn survivors_at(image: &HeapImage, start: u32, end: u32, row_end: u32) -> u32
     requires few { IsFew (image_heap image.now) }
     requires stands { StandsBetween image.now.regions start end }
     requires ends { EndsRowAt (image_heap image.now) start row_end }

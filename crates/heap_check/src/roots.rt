@@ -80,7 +80,7 @@ fn is_second(image: &HeapImage, class: Class, second: u64) -> bool
 }
 
 /// Whether a root word that is an odd value stands for something, with the word behind it.
-fn is_odd_root(code: u32, second: u64) -> bool
+pub fn is_odd_root(code: u32, second: u64) -> bool
     ensures { IsTrue result ↔ IsOddRoot code second }
 {
     match code {

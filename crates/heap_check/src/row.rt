@@ -10,9 +10,9 @@ use heap_model::HeapImage;
 
 /// How far a row may go: to a limit, or, in a region that may be blank, to a word that is 0.
 #[derive(Clone, Copy)]
-pub(crate) struct Bound {
-    pub(crate) limit: u32,
-    pub(crate) blank: bool,
+pub struct Bound {
+    pub limit: u32,
+    pub blank: bool,
 }
 
 /// What a walk comes to.

@@ -61,7 +61,7 @@ fn has_layout(image: &HeapImage, shape: u32) -> bool
 }
 
 /// The layout word of a shape; 0 where it is not in use.
-fn layout_word_of(shapes: &ShapeTree, shape: u32) -> u64
+pub fn layout_word_of(shapes: &ShapeTree, shape: u32) -> u64
     ensures { result ≡ layout_word shapes.now shape }
 {
     if shape == 0 || shape >= shape::PATHS + shapes.paths() {

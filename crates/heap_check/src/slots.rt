@@ -42,7 +42,7 @@ pub enum Referent {
 
 impl Referent {
     /// Whether a slot of a store or table may hold it.
-    fn is_slot(self) -> bool
+    pub fn is_slot(self) -> bool
         ensures { result ≡ is_slot_sort self }
     {
         match self {
@@ -53,7 +53,7 @@ impl Referent {
     }
 
     /// Whether it is a value in a tagged slot: an integer in a box is not small.
-    fn is_value(self) -> bool
+    pub fn is_value(self) -> bool
         ensures { result ≡ is_value_sort self }
     {
         match self {
@@ -86,7 +86,7 @@ impl Referent {
     }
 
     /// Whether a field of the representation may hold it, in an own slot or in a property store.
-    fn is_field(self, own: bool, rep: Rep) -> bool
+    pub fn is_field(self, own: bool, rep: Rep) -> bool
         ensures { result ≡ is_field_sort own rep self }
     {
         match rep {
@@ -159,7 +159,7 @@ fn sort_at(image: &HeapImage, at: u32) -> Referent
 }
 
 /// What a reference to the cell stands for.
-fn sort_of_cell(image: &HeapImage, cell: Cell) -> Referent
+pub fn sort_of_cell(image: &HeapImage, cell: Cell) -> Referent
     requires { StandsIn (image_heap image.now) cell }
     ensures { IsSort (image_heap image.now) (reference_word cell.at) result }
 {
@@ -183,7 +183,7 @@ fn is_box(kind: Kind) -> bool
 }
 
 /// The integer in a box.
-pub(crate) fn integer_of(image: &HeapImage, cell: Cell) -> i64
+pub fn integer_of(image: &HeapImage, cell: Cell) -> i64
     requires stands { StandsIn (image_heap image.now) cell }
     requires boxed { cell.layout.kind ≡ Kind.Boxed }
     ensures holds { HasWord (words_of_cell (image_heap image.now) cell) 1 (raw_word result) }
@@ -193,7 +193,7 @@ pub(crate) fn integer_of(image: &HeapImage, cell: Cell) -> i64
 }
 
 /// Whether a word is a hole.
-pub(crate) fn is_hole(word: u64) -> bool
+pub fn is_hole(word: u64) -> bool
     ensures { IsTrue result ↔ (word ≡ hole_word) }
 {
     word == Word::odd(odd::HOLE).0

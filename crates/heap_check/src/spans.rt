@@ -1,5 +1,5 @@
 //! Words of a cell, and spans of words.
-ghost use Rattle.std.specs.Prelude.{◌≡◌, ◌≤◌, ◌<◌, drop};
+ghost use Rattle.std.specs.Prelude.{◌≡◌, ◌+◌, ◌≤◌, ◌<◌, drop};
 ghost use Rattle.tagged_word.specs.Cells.{store_head};
 ghost use Rattle.heap_model.specs.Images.{image_heap};
 ghost use Rattle.heap_model.specs.Heaps.{words_of_cell};
@@ -35,6 +35,8 @@ pub fn behind_head(image: &HeapImage, cell: Cell) -> Span
     ensures slots { span_words (image_heap image.now) result
         ≡ drop store_head (words_of_cell (image_heap image.now) cell) }
     ensures is { IsSpan (image_heap image.now) result }
+    ensures from { result.from ≡ cell.at + store_head }
+    ensures end { result.end ≡ cell.at + cell.size }
 {
     // No address of a heap is past 32 bits.
     let _words_count = image.regions.count();

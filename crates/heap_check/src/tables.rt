@@ -53,7 +53,7 @@ pub fn is_undefined(word: u64) -> bool
 }
 
 /// Whether a number is a power of two.
-fn is_power_of_two(n: u32) -> bool
+pub fn is_power_of_two(n: u32) -> bool
     ensures { IsTrue result ↔ IsPowerOfTwo n }
 {
     // It has 32 bits, so no power from 32 on is this number.

@@ -54,7 +54,7 @@ fn has_entries(image: &HeapImage, table: Span, count: u64) -> bool
 }
 
 /// How many pairs of a table hold something.
-fn entries_in(image: &HeapImage, table: Span) -> u32
+pub fn entries_in(image: &HeapImage, table: Span) -> u32
     requires { IsSpan (image_heap image.now) table }
     ensures { result ≡ filled_pairs (table_pairs (image_heap image.now) table) }
 {
@@ -115,7 +115,7 @@ fn is_found(image: &HeapImage, table: Span, at: u32, pair: KeyValue) -> bool
 }
 
 /// Whether probing a table for a number comes to a place.
-fn is_probed(image: &HeapImage, table: Span, number: u32, at: u32) -> bool
+pub fn is_probed(image: &HeapImage, table: Span, number: u32, at: u32) -> bool
     requires { IsSpan (image_heap image.now) table }
     ensures { IsTrue result
         ↔ IsProbed (table_pairs (image_heap image.now) table) number at }

@@ -7,6 +7,8 @@
 #[cfg(test)]
 mod exact_images;
 #[cfg(test)]
+mod first_flaws;
+#[cfg(test)]
 mod forged_heaps;
 #[cfg(test)]
 mod images;

@@ -1,7 +1,10 @@
 //! Full heaps, and others: whether they keep exactly what can be reached, and how many words fit.
 use crate::runs::{meant, run_kept};
+use heap_checker::check;
 use heap_judge::{fits, is_exact, is_whole_heap};
 use heap_model::HeapImage;
+use ideal_graph::Ideal;
+use std::alloc::Global;
 use std::test::Fail;
 use std::thread::Threads;
 
@@ -95,16 +98,31 @@ fn just_fit(image: &HeapImage, most: u32) -> bool {
     }
 }
 
+/// Whether a check of an image counts as many objects and entries as can be reached.
+fn counts_census(alloc: Global, image: &HeapImage, ideal: &mut Ideal) -> Result<bool, Fail> {
+    match (check(alloc, image), ideal.reach()) {
+        (Ok(counts), Ok(census)) => Ok(
+            counts.objects == census.objects && counts.entries == census.entries,
+        ),
+        _ => Err(Fail::from("a flaw, or memory was refused")),
+    }
+}
+
 /// Whether what is kept of a script's run is what the case says: the status and the words that were
-/// wanted; whether it is exact; and how many words fit.
+/// wanted; whether it is exact, as its counts are then the census; and how many words fit.
 fn judged<R: Threads + Sync + AllocGlobal>(
     rt: &R,
     case: &Case,
 ) -> Result<((u8, u32), bool, bool), Fail> {
     let (status, kept) = run_kept(rt, "64", case.script)?;
-    let ideal = meant(rt.alloc(), case.script, kept.executed)?;
+    let mut ideal = meant(rt.alloc(), case.script, kept.executed)?;
+    let counted = counts_census(rt.alloc(), &kept.image, &mut ideal)?;
     match is_exact(&kept.image, &ideal) {
-        Ok(exact) => Ok(((status, kept.need), exact, just_fit(&kept.image, case.most))),
+        Ok(exact) => Ok((
+            (status, kept.need),
+            exact && counted,
+            just_fit(&kept.image, case.most),
+        )),
         Err(_) => Err(Fail::from("memory was refused")),
     }
 }

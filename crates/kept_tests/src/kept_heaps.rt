@@ -1,5 +1,6 @@
 //! Kept heaps of runs, judged against the ideal meaning of the same scripts.
 use crate::runs::{meant, run_kept};
+use heap_checker::check;
 use heap_command::Command::LetValue;
 use heap_command::Operand::Int;
 use heap_judge::shows;
@@ -61,8 +62,9 @@ fn judged<R: Threads + Sync + AllocGlobal>(rt: &R, source: &[u8]) -> Result<(boo
     let mut ideal = meant(rt.alloc(), source, kept.executed)?;
     let same = shows(&kept.image, &ideal);
     let bound = ideal.step(&LetValue { x: 0, v: Int(77) });
+    let whole = check(rt.alloc(), &kept.image).is_ok();
     match (same, bound, shows(&kept.image, &ideal)) {
-        (Ok(same), Ok(_), Ok(other)) => Ok((same, other)),
+        (Ok(same), Ok(_), Ok(other)) => Ok((whole && same, other)),
         _ => Err(Fail::from("memory was refused")),
     }
 }

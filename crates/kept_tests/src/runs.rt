@@ -1,4 +1,6 @@
 //! Runs of scripts, and the graphs of the lines that they executed.
+ghost use Rattle.std.specs.Prelude.{◌<◌};
+
 use heap_run::{Kept, MemSink, MemSource, OpenGate, run};
 use ideal_graph::Ideal;
 use script_text::{Line, Script, What, parse};

@@ -24,3 +24,6 @@ pub mod SameNumbers
 pub mod ReachedNumbers
 pub mod CellLists
 pub mod CensusKept
+pub mod CellsBefore
+pub mod FewPairs
+pub mod CountSteps

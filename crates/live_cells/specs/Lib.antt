@@ -7,3 +7,4 @@ pub mod Keeping
 pub mod Cleared
 pub mod Fitting
 pub mod Census
+pub mod Counting

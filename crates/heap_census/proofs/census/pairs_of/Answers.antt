@@ -4,7 +4,7 @@ use Rattle.page_space.proofs.Starts.{layouts_start_is, marks_start_is}
 use Rattle.heap_model.proofs.CellsApart.{used_few}
 use Rattle.heap_model.proofs.WordsAlike.{cell_below_roots}
 use Rattle.write_barrier.specs.MutatorState.{heap_of}
-use Rattle.heap_census.proofs.FewPairs.{few_pairs, count_read}
+use Rattle.live_cells.proofs.FewPairs.{few_pairs, count_read}
 use Rattle.heap_census.proofs.census.pairs_of.Goals as goal
 
 pub slot-requires-clause-within : goal.slot-requires-clause-within

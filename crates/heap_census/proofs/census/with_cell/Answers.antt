@@ -5,13 +5,13 @@ use Rattle.page_space.proofs.Starts.{layouts_start_is, marks_start_is, board_sta
 use Rattle.tagged_word.specs.Cells.{is_object_kind}
 use Rattle.heap_model.proofs.CellsApart.{used_few}
 use Rattle.heap_model.proofs.WordsAlike.{cell_below_roots}
-use Rattle.heap_census.proofs.CountSteps.{counts_over, counts_more, same_object_kind}
+use Rattle.live_cells.proofs.CountSteps.{counts_over, counts_more}
 use Rattle.heap_census.proofs.census.with_cell.Goals as goal
 
 pub returns-then-not-is_object : goal.returns-then-not-is_object
 returns-then-not-is_object c =
     let none : is_object_kind c.args.cell.now.layout.kind ≡ false =
-    same_object_kind c.args.cell.now.layout.kind ∙ sym c.is_object.ensures ∙ c.if-not-is_object.true in
+    sym c.is_object.ensures ∙ c.if-not-is_object.true in
     record { counts = counts_over c.requires.whole.rows c.requires.stands.1 none c.requires.counts }
 
 pub overflow_add-result : goal.overflow_add-result
@@ -46,7 +46,7 @@ overflow_add-result-2 c =
 pub returns : goal.returns
 returns c =
     let object : is_object_kind c.args.cell.now.layout.kind ≡ true =
-    same_object_kind c.args.cell.now.layout.kind ∙ sym c.is_object.ensures ∙ c.if-not-is_object.false in
+    sym c.is_object.ensures ∙ c.if-not-is_object.false in
     record {
       counts = counts_more c.pairs_of.result c.requires.whole.rows c.requires.stands.1 object c.pairs_of.ensures.counted
           c.pairs_of.ensures.few c.requires.counts;

@@ -3,7 +3,7 @@ use Rattle.std.proofs.Common.{◌≤◌, refl, subst}
 use Rattle.page_space.specs.Extents.{Space, CellsEndAt, roots_start}
 use Rattle.heap_model.proofs.RegionSeams.{first_seam, next_seam, seam_stands}
 use Rattle.write_barrier.specs.MutatorState.{heap_of}
-use Rattle.heap_census.proofs.CountSteps.{counts_none, counts_all}
+use Rattle.live_cells.proofs.CountSteps.{counts_none, counts_all}
 use Rattle.heap_census.proofs.regions.count_cells.Goals as goal
 
 pub loop-end-init : goal.loop-end-init

@@ -5,11 +5,9 @@ use Rattle.std.proofs.lemmas.Bool.{cases_lt}
 use Rattle.std.proofs.lemmas.List.Kept.{AllPairs-filter}
 use Rattle.std.proofs.lemmas.List.Sums.{sum_by-append, sum_by-cons}
 use Rattle.tagged_word.proofs.Members.{filter_from, filter_true, in_filter}
-use Rattle.tagged_word.specs.declared.layout.Kind.TheVariants as kind
-use Rattle.tagged_word.specs.Cells as cells
 use Rattle.page_space.specs.Extents.{roots_start}
 use Rattle.cell_layout.proofs.OneCell.{cells_have_words}
-use Rattle.heap_model.specs.Types.{Kind, Cell}
+use Rattle.heap_model.specs.Types.{Cell}
 use Rattle.heap_model.specs.Heaps.{Heap, Row, AreRows, HasCell, words_of_cell}
 use Rattle.tagged_word.specs.Cells.{is_object_kind}
 use Rattle.heap_model.specs.Wholeness.{HasRows}
@@ -17,11 +15,9 @@ use Rattle.heap_model.proofs.CellsApart.{IsOfCell, has_is_cell, first_of_cell, c
 use Rattle.heap_model.proofs.WordsAlike.{cell_below_roots}
 use Rattle.live_cells.specs.Census.{objects_in, pairs_counted}
 use Rattle.live_cells.proofs.CellLists.{IsBefore, cells_in, cells_ascend, cell_among, among_has}
-use Rattle.heap_census.specs.declared.census.Census.{Census}
-use Rattle.heap_census.specs.Counted.{IsCensusOf}
-use Rattle.heap_census.specs.Passing.{objects_before, CountsTo, word_pairs_most}
-use Rattle.heap_census.proofs.CellsBefore.{begins_before, same_kept, all_kept, none_kept}
-use Rattle.heap_census.proofs.CellsBefore.{below_test, not_below_test, kept_to}
+use Rattle.live_cells.specs.Counting.{objects_before, AreCounted, CountsTo, word_pairs_most}
+use Rattle.live_cells.proofs.CellsBefore.{begins_before, same_kept, all_kept, none_kept}
+use Rattle.live_cells.proofs.CellsBefore.{below_test, not_below_test, kept_to}
 
 -- whether a cell is an object's
 abbrev is_object : Cell → Bool
@@ -34,7 +30,7 @@ NoneBegins heap from to =
     → ⊥
 
 -- nothing was counted before the first address
-pub counts_none : (heap : Heap) → CountsTo heap 0 (record { objects = 0; entries = 0 })
+pub counts_none : (heap : Heap) → CountsTo heap 0 0 0
 counts_none heap = record {
   counted = λ rows are.
       let none : objects_before rows 0 ≡ [] = none_kept (begins_before 0) (objects_in rows) (λ cell there.
@@ -65,8 +61,8 @@ same_before {heap} {rows} {from} {to} are ahead none =
     ])
 
 -- so a count comes to that address too
-pub counts_further : {heap : Heap} {from to : ℕ} {census : Census} → from ≤ to → NoneBegins heap from to
-    → CountsTo heap from census → CountsTo heap to census
+pub counts_further : {heap : Heap} {from to objects entries : ℕ} → from ≤ to → NoneBegins heap from to
+    → CountsTo heap from objects entries → CountsTo heap to objects entries
 counts_further {heap} {from} {to} ahead none counts = record {
   counted = λ rows are.
       let one = counts.counted rows are in
@@ -87,9 +83,9 @@ none_in_cell {cell = cell} {other} rows has has_other from below =
     cells_apart other.at rows has has_other inside (first_of_cell has_other)
 
 -- so a count passes by a cell that is no object's
-pub counts_over : {heap : Heap} {cell : Cell} {words : List ℕ} {census : Census} → HasRows heap
-    → HasCell heap cell words → is_object cell ≡ false → CountsTo heap cell.at census
-    → CountsTo heap (cell.at + cell.size) census
+pub counts_over : {heap : Heap} {cell : Cell} {words : List ℕ} {objects entries : ℕ} → HasRows heap
+    → HasCell heap cell words → is_object cell ≡ false → CountsTo heap cell.at objects entries
+    → CountsTo heap (cell.at + cell.size) objects entries
 counts_over {heap} {cell} rows has none counts =
     counts_further (omega arith) (λ other others has_other object from below.
     let same : cell ≡ other = none_in_cell rows has has_other from below in
@@ -115,12 +111,12 @@ one_more {heap} {rows} {cell} whole are has object =
     ])
 
 -- and a count has one more
-pub counts_more : {heap : Heap} {cell : Cell} {words : List ℕ} {census : Census} (pairs : ℕ) → HasRows heap
+pub counts_more : {heap : Heap} {cell : Cell} {words : List ℕ} {objects entries : ℕ} (pairs : ℕ)
+    → HasRows heap
     → HasCell heap cell words → is_object cell ≡ true → pairs ≡ pairs_counted heap cell.layout.kind cell.at
-    → pairs ≤ word_pairs_most * cell.size → CountsTo heap cell.at census
-    → CountsTo heap (cell.at + cell.size)
-    (record { objects = census.objects + 1; entries = census.entries + pairs })
-counts_more {heap} {cell} {words} {census} pairs whole has object is few counts =
+    → pairs ≤ word_pairs_most * cell.size → CountsTo heap cell.at objects entries
+    → CountsTo heap (cell.at + cell.size) (objects + 1) (entries + pairs)
+counts_more {heap} {cell} {words} pairs whole has object is few counts =
     let some = (cells_have_words heap.space heap.words cell (has_is_cell has)).0 in
     record {
       counted = λ rows are.
@@ -149,8 +145,9 @@ counts_more {heap} {cell} {words} {census} pairs whole has object is few counts 
     }
 
 -- at the roots all cells were passed by
-pub counts_all : {heap : Heap} {rows : List Row} {to : ℕ} {census : Census} → HasRows heap → AreRows heap rows
-    → roots_start heap.space ≤ to → CountsTo heap to census → IsCensusOf heap rows census
+pub counts_all : {heap : Heap} {rows : List Row} {to objects entries : ℕ} → HasRows heap → AreRows heap rows
+    → roots_start heap.space ≤ to → CountsTo heap to objects entries
+    → AreCounted heap (objects_in rows) objects entries
 counts_all {heap} {rows} {to} whole are past counts =
     let one = counts.counted rows are in
     let all : objects_before rows to ≡ objects_in rows =
@@ -162,10 +159,3 @@ counts_all {heap} {rows} {to} whole are past counts =
       objects = one.objects ∙ ap (λ (cells : List Cell). length cells) all;
       entries = one.entries ∙ ap (sum_by (λ cell. pairs_counted heap cell.layout.kind cell.at)) all;
     }
-
--- the objects' kinds of heaps are those of cells
-pub same_object_kind : (k : Kind) → is_object_kind k ≡ cells.is_object_kind k
-same_object_kind kind.Plain = refl
-same_object_kind kind.List = refl
-same_object_kind kind.Weak = refl
-same_object_kind _ = refl

@@ -1,0 +1,11 @@
+pub mod Firsts
+pub mod Frames
+pub mod Cells
+pub mod FirstFlaws
+pub mod Marks
+pub mod Rows
+pub mod SpanFlaws
+pub mod Flags
+pub mod Names
+pub mod Counting
+pub mod Judging
