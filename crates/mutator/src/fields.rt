@@ -45,8 +45,7 @@ pub fn get(main: &mut Main, y: u32, x: u32, f: u32) -> Result<(), Stop>
 {
     let target = bound(main, x)?;
     let found = plain(main, target)?;
-    let value = shape_change::get(main, found.at, f);
-    main.hold(y, value);
+    shape_change::hold_get(main, y, found.at, f);
     Ok(())
 }
 

@@ -54,3 +54,4 @@ mod GrownAdded
 mod FieldAdded
 mod NewNames
 pub mod FullPaths
+pub mod HeldFields

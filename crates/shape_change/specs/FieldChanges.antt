@@ -1,22 +1,44 @@
 -- What the calls on the fields of an object do.
-use Rattle.std.specs.Prelude.{◌≡◌, ℕ, List, None, unwrap_or}
+use Rattle.std.specs.Prelude.{◌≡◌, ℕ, List, Some, None, unwrap_or, slice_get, nat_lt}
 use Rattle.std.specs.Prelude.{Result, Ok, Err}
-use Rattle.heap_model.specs.Types.{Value, Field, ShapesFull, Held}
+use Rattle.heap_model.specs.Types.{Value, Field, ShapesFull, Held, Cell, PathField}
+use Rattle.heap_model.specs.Heaps.{HasCell}
+use Rattle.heap_model.specs.Kinds.{HasSlots, HasWord}
+use Rattle.heap_model.specs.Showing.{ShowsHeld, ShowsField}
+use Rattle.handle_roots.specs.Roots.{FitsHeld, with_root}
+use Rattle.heap_table.specs.Seats.{heap_words}
 use Rattle.object_graph.specs.declared.value.Value.TheVariants.{Undefined}
 use Rattle.object_graph.specs.Objects.{field_value, with_field, without_field}
 use Rattle.object_graph.specs.Paths.{path_of}
 use Rattle.object_graph.specs.Graphs.{Graph, PlainObject}
-use Rattle.shape_tree.specs.Shapes.{LacksPathsFor}
+use Rattle.shape_tree.specs.Shapes.{LacksPathsFor, shape_path}
 use Rattle.nursery.specs.Young.{HasRoom}
 use Rattle.heap_model.specs.Needs.{capacity_at}
 use Rattle.heap_model.specs.Rooms.{set_need, set_capacity}
-use Rattle.write_barrier.specs.MutatorState.{Mutator, heap_of, MainShows}
+use Rattle.write_barrier.specs.MutatorState.{Mutator, heap_of, MainShows, with_variable}
 use Rattle.object_cells.specs.PlainObjects.{IsPlainAt, ShowsRefilled, LacksPaths, LacksFields}
 use Rattle.object_cells.specs.HeldValues.{IsValueHeld}
 use Rattle.object_cells.specs.Uses.{UsesMore}
 use Rattle.object_cells.specs.Capacities.{ChangesObject}
 use Rattle.shape_change.specs.declared.stop.FieldStop.{FieldStop}
 use Rattle.shape_change.specs.declared.stop.FieldStop.TheVariants as stop
+
+-- A variable holds what shows a value to it, and no other word has changed.
+pub record HoldsValue (old new : Mutator) (variable : ℕ) (value : Value) : Type 0 where
+  pub held : Held
+  pub shows : ShowsHeld (heap_of old) held (Some value)
+  pub fits : FitsHeld held
+  pub is : new ≡ with_variable old variable held
+  pub heap : heap_words new.seat ≡ with_root old.seat.space (heap_words old.seat) variable held
+
+-- a variable holds the field of this number of the plain object at the address
+abbrev pub HoldsSlot : Mutator → Mutator → ℕ → ℕ → ℕ → Type 0
+HoldsSlot old new variable at slot =
+    (cell : Cell) (words slots : List ℕ) (field : PathField) (word : ℕ) (value : Value)
+    → HasCell (heap_of old) cell words → cell.at ≡ at → HasSlots (heap_of old) words slots
+    → slice_get (shape_path old.paths cell.header.shape).fields slot ≡ Some field → HasWord slots slot word
+    → ShowsField (heap_of old) (nat_lt slot (shape_path old.paths cell.header.shape).cap) word field.rep value
+    → HoldsValue old new variable value
 
 -- The heap shows a graph whose plain object of some number stands at the address, and what is held shows a value of it.
 pub record IsShownSetting (main : Mutator) (at : ℕ) (held : Held) : Type 0 where

@@ -18,6 +18,6 @@ mod stop;
 mod transitions;
 
 pub use delete_field::delete;
-pub use get_field::get;
+pub use get_field::hold_get;
 pub use set_field::set;
 pub use stop::FieldStop;

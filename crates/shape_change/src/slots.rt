@@ -9,13 +9,16 @@ ghost use Rattle.page_space.specs.Extents.{marks_start};
 ghost use Rattle.object_graph.specs.declared.value.Value.{Value};
 ghost use Rattle.shape_tree.specs.Shapes.{IsPathShape, shape_path};
 ghost use Rattle.heap_model.specs.Slots.{IsFieldWord};
-ghost use Rattle.heap_model.specs.Showing.{ShowsHeld, ShowsField};
-ghost use Rattle.write_barrier.specs.MutatorState.{heap_of, IsTied};
+ghost use Rattle.heap_model.specs.Showing.{ShowsField};
+ghost use Rattle.write_barrier.specs.MutatorState.{heap_of, IsTied, with_variable};
+ghost use Rattle.heap_table.specs.Seats.{heap_words};
+ghost use Rattle.handle_roots.specs.Roots.{FitsHeld, with_root};
+ghost use Rattle.shape_change.specs.FieldChanges.{HoldsValue};
 ghost use Rattle.object_cells.specs.CellsAt.{IsQuietWhole, HasPlainSlot, IsCapAt};
 ghost use Rattle.heap_table.specs.declared.phase.Phase.TheVariants.{Quiet};
 ghost use Rattle.heap_model.specs.Needs.{word_at};
 ghost use Rattle.tagged_word.specs.declared.word.Class.{Class as WordClass};
-ghost use Rattle.tagged_word.specs.Words.{small, IsClass, bits_of};
+ghost use Rattle.tagged_word.specs.Words.{IsClass, bits_of};
 ghost use Rattle.tagged_word.specs.Readings.{reference_in};
 ghost use Rattle.write_barrier.specs.Values.{held_of_class};
 ghost use Rattle.object_cells.specs.Contents.{AllocatesBox, LacksRoom, HoldsSlotWord, IsBeforeMarks};
@@ -58,15 +61,6 @@ fn is_raw(own: bool, rep: Rep) -> bool
     }
 }
 
-/// The small integer that an even word stands for: the lower half of the word tells it.
-#[inline(always)]
-fn small_value(word: Word) -> i64
-    ensures { (v : ℤ) → IsTrue (small v) → word.0 ≡ bits_of (Class.Small v) → result ≡ v }
-{
-    let low = (word.0 % 4_294_967_296) as u32;
-    (low.cast_signed() / 2) as i64
-}
-
 /// What the word of a slot that is not raw, and no small integer's, stands for.
 #[inline(always)]
 fn value_of_odd(main: &Main, word: Word) -> Held
@@ -83,35 +77,46 @@ fn value_of_odd(main: &Main, word: Word) -> Held
     }
 }
 
-/// What the word of a slot that is not raw stands for. Its lowest bit tells a small integer.
+/// Makes a variable hold what the word of a slot stands for that is not raw. Its lowest bit tells a
+/// small integer, whose word is the variable's first root word too.
 #[inline(always)]
-fn value_of_tagged(main: &Main, word: Word) -> Held
-    requires quiet { main.now.seat.phase ≡ Quiet }
+fn hold_tagged(main: &mut Main, variable: u32, word: Word)
+    requires quiet { main.old.seat.phase ≡ Quiet }
+    requires known { variable < main.old.seat.space.variables }
+    requires class { (class : WordClass) × IsClass class × (word.0 ≡ bits_of class) }
     requires within { (at : ℕ) → reference_in word.0 ≡ Some at
-        → at + 1 < marks_start main.now.seat.space }
-    ensures { (class : WordClass) → IsClass class → word.0 ≡ bits_of class
-        → result ≡ held_of_class (heap_of main.now) class }
+        → at + 1 < marks_start main.old.seat.space }
+    ensures held { (class : WordClass) → IsClass class → word.0 ≡ bits_of class →
+        let value = held_of_class (heap_of main.old) class in
+        main.new ≡ with_variable main.old variable value }
+    ensures heap { (class : WordClass) → IsClass class → word.0 ≡ bits_of class →
+        let value = held_of_class (heap_of main.old) class in
+        heap_words main.new.seat ≡ with_root main.old.seat.space (heap_words main.old.seat) variable value }
+    ensures fits { (class : WordClass) → IsClass class → word.0 ≡ bits_of class →
+        FitsHeld (held_of_class (heap_of main.old) class) }
 {
     if word.0 % 2 == 0 {
-        Held::Int(small_value(word))
+        main.hold_word(variable, word);
     } else {
-        value_of_odd(main, word)
+        let value = value_of_odd(main, word);
+        main.hold(variable, value);
     }
 }
 
-/// The value of a field, by its word.
+/// Makes a variable hold the value of a field, by its word.
 #[inline(always)]
-pub(crate) fn value_of_field(main: &Main, own: bool, rep: Rep, word: u64) -> Held
-    requires whole { IsQuietWhole main.now }
-    requires field { IsFieldWord (heap_of main.now) own rep word }
-    ensures { (value : Value) → ShowsField (heap_of main.now) own word rep value
-        → ShowsHeld (heap_of main.now) result (Some value) }
+pub(crate) fn hold_field(main: &mut Main, variable: u32, own: bool, rep: Rep, word: u64)
+    requires whole { IsQuietWhole main.old }
+    requires known { variable < main.old.seat.space.variables }
+    requires field { IsFieldWord (heap_of main.old) own rep word }
+    ensures { (value : Value) → ShowsField (heap_of main.old) own word rep value
+        → HoldsValue main.old main.new variable value }
 {
     main.addresses_fit();
     if is_raw(own, rep) {
-        Held::Int(word.cast_signed())
+        main.hold(variable, Held::Int(word.cast_signed()));
     } else {
-        value_of_tagged(main, Word(word))
+        hold_tagged(main, variable, Word(word));
     }
 }
 

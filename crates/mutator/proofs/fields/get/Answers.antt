@@ -11,8 +11,8 @@ plain-requires c =
     let (value, is, stands) = c.in_ok-target.ensures.found graph shows in
     value_still graph value c.in_ok-target.target c.bound.ensures.same shows stands
 
-pub get-value-requires : goal.get-value-requires
-get-value-requires c =
+pub hold_get-requires-clause-shown : goal.hold_get-requires-clause-shown
+hold_get-requires-clause-shown c =
     let (graph, shows) = c.requires.shown in
     let (value, is, stands) = c.in_ok-target.ensures.found graph shows in
     let shown = shows_still c.bound.ensures.same shows in
@@ -26,9 +26,17 @@ returns c = record {
       let same = c.bound.ensures.same in
       let shown = shows_still same shows in
       let found = c.in_ok-found.ensures graph target shown (stands_still same stands) in
-      value_carried names c.args.y c.get-value.result same shown
+      let holds = c.hold_get.ensures graph found.plain shown found.stands in
+      value_carried names c.args.y holds.held same shown
       (get_done names c.args.y c.args.f (record { bound = is; refers = found.refers })) refl tt c.requires.within.0
-      c.hold.ensures.holds.fits (c.get-value.ensures graph found.plain shown found.stands)
-      (record { held = c.hold.ensures.held; heap = c.hold.ensures.heap }) (λ rooms. (refl, λ number. refl));
-  binds = binds_after c.args.y c.get-value.result c.bound.ensures.same c.hold.ensures.held;
+      holds.fits holds.shows
+      (record { held = holds.is; heap = holds.heap }) (λ rooms. (refl, λ number. refl));
+  binds =
+      let (graph, shows) = c.requires.shown in
+      let (target, is, stands) = c.in_ok-target.ensures.found graph shows in
+      let same = c.bound.ensures.same in
+      let shown = shows_still same shows in
+      let found = c.in_ok-found.ensures graph target shown (stands_still same stands) in
+      let holds = c.hold_get.ensures graph found.plain shown found.stands in
+      binds_after c.args.y holds.held same holds.is;
 }

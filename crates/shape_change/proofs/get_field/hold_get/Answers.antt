@@ -1,4 +1,4 @@
--- A field's value is read where it stands.
+-- A field's value is held where it stands.
 use Rattle.std.proofs.Common.{ℕ, ap, sym, ◌∙◌, subst, refl, Some, slice_get, get_or, nat_lt, arith}
 use Rattle.std.specs.Prelude.{List, unwrap_or}
 use Rattle.std.proofs.lemmas.Option.{slice_get_within, slice_get-get_or}
@@ -10,32 +10,39 @@ use Rattle.heap_model.specs.Showing.{ShowsHeld, ShowsField}
 use Rattle.write_barrier.specs.MutatorState.{heap_of}
 use Rattle.object_cells.proofs.FieldsFound.{value_found}
 use Rattle.object_cells.proofs.FieldWords.{path_field}
+use Rattle.shape_change.specs.FieldChanges.{HoldsValue}
 use Rattle.shape_change.proofs.ShownFields.{shown_cell, shown_shape, name_is_new, field_found, found_there}
 use Rattle.object_cells.proofs.PlainFields.{slots_held, plain_shown, names_distinct}
 use Rattle.write_barrier.proofs.Headers.{has_header}
-use Rattle.shape_change.proofs.get_field.get.Goals as goal
+use Rattle.shape_change.proofs.get_field.hold_get.Goals as goal
 
 pub header-shape-requires-clause-there : goal.header-shape-requires-clause-there
 header-shape-requires-clause-there c =
-    let shown = plain_shown c.requires.shows c.requires.is in
+    let shown = plain_shown c.requires.shown.shows c.requires.shown.is in
     has_header shown.has shown.stands
 
 pub find-requires : goal.find-requires
 find-requires c =
     subst (λ (paths : List Path). IsPathShape paths c.header-shape.result.shape) (sym c.shapes.ensures)
-    (shown_shape c.requires.shows c.requires.is c.header-shape.ensures.of_cell)
+    (shown_shape c.requires.shown.shows c.requires.shown.is c.header-shape.ensures.of_cell)
 
 pub returns-in-None : goal.returns-in-None
 returns-in-None c graph plain shows is =
     let value = name_is_new shows is c.header-shape.ensures.of_cell c.args.name
     (ap (λ (paths : List Path). has_name (shape_path paths c.header-shape.result.shape) c.args.name)
     (sym c.shapes.ensures) ∙ c.in-None.ensures.none.0 refl) in
-    subst (λ found. ShowsHeld (heap_of c.args.main.now) held.Undefined (Some (unwrap_or found Undefined))) (sym value)
-    ShowsHeld.undefined
+    record {
+      held = held.Undefined;
+      shows = subst (λ found. ShowsHeld (heap_of c.args.main.now) held.Undefined (Some (unwrap_or found Undefined)))
+          (sym value) ShowsHeld.undefined;
+      fits = c.hold.ensures.holds.fits;
+      is = c.hold.ensures.held;
+      heap = c.hold.ensures.heap;
+    }
 
-pub value_of_slot-requires-clause-there : goal.value_of_slot-requires-clause-there
-value_of_slot-requires-clause-there c =
-    (field_found c.requires.shows c.requires.is c.header-shape.ensures.of_cell c.in-Some.slot c.args.name
+pub hold_slot-requires-clause-there : goal.hold_slot-requires-clause-there
+hold_slot-requires-clause-there c =
+    (field_found c.requires.shown.shows c.requires.shown.is c.header-shape.ensures.of_cell c.in-Some.slot c.args.name
     (found_there _ _ _ _ _ c.shapes.ensures c.in-Some.ensures.found)).has
 
 pub returns-in-Some : goal.returns-in-Some
@@ -53,9 +60,9 @@ returns-in-Some c graph plain shows is =
     let there = slice_get-get_or slots slot 0 (omega (arith, held.room, few)) in
     let P : ℕ → Type 0 =
     λ cap. ShowsField (heap_of c.args.main.now) (nat_lt slot cap) (get_or slots slot 0) at.field.rep at.field.value in
-    let tells = c.value_of_slot.ensures shown.cell _ slots _ _ at.field.value shown.has shown.at shown.shows.has of_path
+    let holds = c.hold_slot.ensures shown.cell _ slots _ _ at.field.value shown.has shown.at shown.shows.has of_path
     there
     (subst P (sym (ap (λ (p : Path). p.cap) shown.shows.path)) (shown.shows.each slot at.field _ at.there there)) in
     subst
-    (λ found. ShowsHeld (heap_of c.args.main.now) c.value_of_slot.result (Some (unwrap_or found Undefined)))
-    (sym (value_found plain.fields slot at.field c.args.name (names_distinct shows is) at.there at.named)) tells
+    (λ found. HoldsValue c.args.main.now c.hold_slot.new.main c.args.variable (unwrap_or found Undefined))
+    (sym (value_found plain.fields slot at.field c.args.name (names_distinct shows is) at.there at.named)) holds

@@ -1,4 +1,4 @@
--- The value of a field by its place: its slot is there, and holds a word of its representation.
+-- A variable holds a field by its place: its slot is there, and holds a word of its representation.
 use Rattle.std.proofs.Common.{◌≡◌, ℕ, Bool, ap, sym, ◌∙◌, subst, Some, slice_get, nat_lt}
 use Rattle.std.specs.Prelude.{List}
 use Rattle.std.proofs.lemmas.Option.{same_Some}
@@ -8,7 +8,7 @@ use Rattle.heap_model.specs.Kinds.{HasWord}
 use Rattle.heap_model.specs.Showing.{ShowsField}
 use Rattle.write_barrier.specs.MutatorState.{heap_of}
 use Rattle.object_cells.proofs.PlainFields.{field_slot_there, shape_there, cap_there, field_word_there}
-use Rattle.shape_change.proofs.get_field.value_of_slot.Goals as goal
+use Rattle.shape_change.proofs.get_field.hold_slot.Goals as goal
 
 pub slot_place-place-requires-clause-there : goal.slot_place-place-requires-clause-there
 slot_place-place-requires-clause-there c = field_slot_there c.requires.whole.whole c.requires.there
@@ -18,8 +18,8 @@ slot_place-place-requires-clause-cap c =
     cap_there c.cap.result c.requires.whole.whole c.requires.there
     (c.cap.ensures.cap ∙ ap (λ (paths : List Path). (shape_path paths c.args.shape).cap) c.shapes-shapes.ensures)
 
-pub value_of_field-requires-clause-field : goal.value_of_field-requires-clause-field
-value_of_field-requires-clause-field c =
+pub hold_field-requires-clause-field : goal.hold_field-requires-clause-field
+hold_field-requires-clause-field c =
     let whole = c.requires.whole.whole in
     let there = field_slot_there whole c.requires.there in
     let own : c.is_own.result ≡ nat_lt c.args.slot (shape_path c.args.main.now.paths c.args.shape).cap =
@@ -55,4 +55,4 @@ returns c cell words slots field word value has stands are there slot shows =
     let P : Bool → Type 0 = λ o. ShowsField heap o word field.rep value in
     let Q : ℕ → Type 0 = λ w. ShowsField heap c.is_own.result w field.rep value in
     let R : Rep → Type 0 = λ r. ShowsField heap c.is_own.result c.word_of_place-word.result r value in
-    c.value_of_field.ensures value (subst R (ap (λ (f : PathField). f.rep) one) (subst Q read (subst P own shows)))
+    c.hold_field.ensures value (subst R (ap (λ (f : PathField). f.rep) one) (subst Q read (subst P own shows)))

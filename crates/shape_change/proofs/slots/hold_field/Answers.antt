@@ -1,0 +1,47 @@
+-- A variable holds what a field's word stands for, by its representation.
+use Rattle.std.proofs.Common.{ap, ◌∙◌}
+use Rattle.std.specs.Int.{w64, cast_signed, cast_unsigned}
+use Rattle.handle_roots.specs.declared.held.Held.TheVariants as held
+use Rattle.heap_model.proofs.SlotWords.{field_is_slot}
+use Rattle.write_barrier.specs.MutatorState.{heap_of}
+use Rattle.write_barrier.specs.Values.{held_of_class}
+use Rattle.object_cells.proofs.WordsTold.{raw_field_told, raw_back, slot_within}
+use Rattle.shape_change.proofs.HeldFields.{slot_class, field_by_class}
+use Rattle.shape_change.proofs.slots.hold_field.Goals as goal
+
+pub hold_tagged-requires-clause-class : goal.hold_tagged-requires-clause-class
+hold_tagged-requires-clause-class c =
+    let slot = field_is_slot c.args.rep c.args.word c.requires.field (c.is_raw.ensures.tagged c.if-is_raw.false) in
+    let by = slot_class {heap = heap_of c.args.main.now} c.args.word c.addresses_fit.ensures.within
+    c.requires.whole.whole.sized slot in
+    (by.class, by.is_class, by.bits)
+
+pub hold_tagged-requires-clause-within : goal.hold_tagged-requires-clause-within
+hold_tagged-requires-clause-within c = λ at refers.
+    slot_within c.args.word at
+    (field_is_slot c.args.rep c.args.word c.requires.field (c.is_raw.ensures.tagged c.if-is_raw.false)) refers
+
+pub returns-then-is_raw : goal.returns-then-is_raw
+returns-then-is_raw c value shows =
+    let raw = c.is_raw.ensures.raw c.if-is_raw.true in
+    record {
+      held = held.Int (cast_signed w64 (cast_unsigned w64 c.cast_signed.result));
+      shows = raw_field_told c.args.word _ c.args.rep value raw.0 raw.1
+          (ap (λ n. held.Int (cast_signed w64 (cast_unsigned w64 n))) c.cast_signed.ensures
+          ∙ ap (λ n. held.Int n) (raw_back c.args.word c.ranges.word)) shows;
+      fits = c.hold.ensures.holds.fits;
+      is = c.hold.ensures.held;
+      heap = c.hold.ensures.heap;
+    }
+
+pub returns-else-is_raw : goal.returns-else-is_raw
+returns-else-is_raw c value shows =
+    let by = field_by_class c.addresses_fit.ensures.within c.requires.whole.whole.sized
+    (c.is_raw.ensures.tagged c.if-is_raw.false) shows in
+    record {
+      held = held_of_class (heap_of c.args.main.now) by.class;
+      shows = by.shows;
+      fits = c.hold_tagged.ensures.fits by.class by.is_class by.bits;
+      is = c.hold_tagged.ensures.held by.class by.is_class by.bits;
+      heap = c.hold_tagged.ensures.heap by.class by.is_class by.bits;
+    }
