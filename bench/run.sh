@@ -7,7 +7,7 @@ folder=$(mktemp -d) || exit 1
 trap 'rm -rf "$folder"' EXIT
 "$top/heaprun" run <"$top/examples/first.heap" >"$folder/out" || exit 1
 
-# a script, how many of its lines are executed, and words behind `run`
+# a script, how many of its lines are executed, and words behind `run`, or from `check` on
 script() { cat >"$folder/$1"; printf '%s\n' "$*" >>"$folder/names"; }
 
 awk 'BEGIN { for (i = 0; i < 22000; i++) printf "get some_variable_%d  x field_%d # a comment\n", i % 1000, i % 4000
@@ -45,6 +45,11 @@ chain='let p undefined\nrepeat %d\nnew x 2\nset x n p\nlet p x\nend\nrepeat %d\n
 printf "$chain" 180000 20 | script deep_chain 720043 --pages 400
 # shellcheck disable=SC2059
 printf "$chain" 100 20000 | script small_heap 40403
+# The same chain, judged behind each of 21 full collections: the difference is that of 21 judgements of 512 pages.
+# shellcheck disable=SC2059
+printf "$chain" 180000 20 | script chain_of_512_pages 720043 --pages 512
+# shellcheck disable=SC2059
+printf "$chain" 180000 20 | script judged_chain 720043 check --pages 512
 maps='new k 0\nlet f k\nlet p undefined\nrepeat %d\nweak m\nnew j 0\nwput m k j\nnew x 2\nset x m m\nset x n p\nlet p x\n'
 maps+='let k j\nend\ndrop k\ndrop j\ndrop m\nrepeat 20\ngc\nend\ncensus\n'
 # shellcheck disable=SC2059
@@ -63,12 +68,13 @@ printf 'repeat 100\nrepeat 100\nrepeat 100\nrepeat 17\nend\nend\nend\nend\n' | s
 printf 'let n 0\nrepeat 9999999\nadd n 1\nend\n' | script add_in_a_loop 20000000
 
 while read -r name lines words; do
+  case $words in check*) ;; *) words="run $words" ;; esac
   best=
   for _ in 1 2 3 4 5; do
     from=$(date +%s%N)
     # The words are separated by blanks.
     # shellcheck disable=SC2086
-    "$top/heaprun" run $words <"$folder/$name" >"$folder/out"
+    "$top/heaprun" $words <"$folder/$name" >"$folder/out"
     status=$?
     took=$(($(date +%s%N) - from))
     if [ -z "$best" ] || [ "$took" -lt "$best" ]; then best=$took; fi

@@ -239,9 +239,13 @@ class Machine:
         self.heap.collect()
 
     def do_census(self):
+        self.say(self.census())
+
+    def census(self):
+        """What is left behind a full collection."""
         reached = self.heap.collect()
         entries = sum(len(one.entries) for one in reached if isinstance(one, WeakMap))
-        self.say(f"objects {len(reached)} entries {entries}")
+        return f"objects {len(reached)} entries {entries}"
 
 
 def found(value, kind, word):
@@ -327,6 +331,8 @@ def run(words, source):
         return Result(2, f"bad script {number} {reason}\n".encode())
     machine = Machine(sizes, len(reader.variables))
     status, last, executed = run_lines(machine, reader.lines)
+    if words[0] in ("check", b"check") and status == 0:
+        last = f"checked {machine.census()}\n"
     return Result(status, b"".join(machine.output) + last.encode(), executed)
 
 

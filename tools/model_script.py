@@ -25,7 +25,7 @@ LIMITS = {b"pages": (1, 512), b"young": (64, 65536), b"helpers": (0, 7)}
 def sizes_of(words):
     """The sizes that the words give; nothing where they are refused."""
     words = [word if isinstance(word, bytes) else word.encode() for word in words]
-    if words[:1] != [b"run"]:
+    if words[:1] not in ([b"run"], [b"check"]):
         return None
     texts, awaited = {}, None
     for place, word in enumerate(words[1:], 2):

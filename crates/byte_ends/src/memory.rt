@@ -1,5 +1,5 @@
 //! A source and a sink in memory, which give and take in pieces and fail where they are told to.
-ghost use Rattle.std.specs.Prelude.{◌≡◌, ◌≤◌, ℕ, [], length, Some, IfOk, OnOk, OnErr};
+ghost use Rattle.std.specs.Prelude.{◌≡◌, ◌≤◌, [], length, Some, IfOk, OnOk, OnErr};
 ghost use Rattle.byte_ends.specs.Faults.{Rose};
 ghost use Rattle.byte_ends.specs.Memory.{HasBytes, ReadsMemory, WritesMemory};
 ghost use Rattle.byte_ends.specs.Sink.{TakesNothing, Takes};

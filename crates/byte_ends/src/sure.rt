@@ -1,5 +1,5 @@
 //! A source and a sink that never fail. The sink keeps no bytes.
-ghost use Rattle.std.specs.Prelude.{◌≡◌, ◌+◌, ◌≤◌, ℕ, List, [], drop, length, min, sum, Ok, Some, IfOk};
+ghost use Rattle.std.specs.Prelude.{◌≡◌, ◌+◌, ◌≤◌, ℕ, List, drop, length, min, sum, Ok, Some, IfOk};
 ghost use Rattle.byte_ends.specs.Sink.{Takes};
 ghost use Rattle.byte_ends.specs.Source.{Gives};
 ghost use Rattle.byte_ends.specs.Sure.{HasSums, Sums, with_piece, wrapped};

@@ -6,33 +6,33 @@ use Rattle.heap_model.specs.Images.{image_heap}
 use Rattle.write_barrier.specs.MutatorState.{Mutator, heap_of, MainShows}
 use Rattle.scavenger.specs.Laws.{KeepsGraphs}
 use Rattle.collector.specs.Images.{IsImageOf}
-use Rattle.collector.specs.States.{HeapState, HeapShows, Spare, IsReady}
+use Rattle.collector.specs.States.{HeapState, HeapShows, Rest, IsReady}
 
 -- a heap with the same parts is the same
-pub same_heap : (heap after : HeapState) → after.main ≡ heap.main → after.spare ≡ heap.spare → after ≡ heap
-same_heap heap after main spare =
-    ap (λ (m : Mutator). record { main = m; spare = after.spare }) main
-    ∙ ap (λ (s : Spare). record { main = heap.main; spare = s }) spare
+pub same_heap : (heap after : HeapState) → after.main ≡ heap.main → after.rest ≡ heap.rest → after ≡ heap
+same_heap heap after main rest =
+    ap (λ (m : Mutator). record { main = m; rest = after.rest }) main
+    ∙ ap (λ (s : Rest). record { main = heap.main; rest = s }) rest
 
 -- where the mutator's side shows a graph, and the regions, the memory for an image and the number of rows of free runs
 -- are the same, the heap shows it
 pub still_shows : (heap after : HeapState) (graph : Graph) {before : Graph} → HeapShows heap before
-    → after.spare ≡ heap.spare → after.main.seat.space ≡ heap.main.seat.space
+    → after.rest ≡ heap.rest → after.main.seat.space ≡ heap.main.seat.space
     → length after.main.free ≡ length heap.main.free → MainShows after.main graph → HeapShows after graph
-still_shows heap after graph shown spare space rows shows = record {
+still_shows heap after graph shown rest space rows shows = record {
   main = shows;
   rows = rows ∙ shown.rows ∙ ap (λ (one : Space). one.sizes.pages) (sym space);
-  regions = ap (λ (s : Spare). s.image.regions) spare ∙ shown.regions ∙ sym space;
-  ready = subst (λ (s : Spare). IsReady s (marks_start after.main.seat.space)) (sym spare)
-      (subst (λ (regions : Space). IsReady heap.spare (marks_start regions)) (sym space) shown.ready);
-  listed = rw (spare, space) shown.listed;
-  marks = ap (λ (s : Spare). s.marks) spare ∙ shown.marks ∙ ap roots_start (sym space);
+  regions = ap (λ (s : Rest). s.image.regions) rest ∙ shown.regions ∙ sym space;
+  ready = subst (λ (s : Rest). IsReady s (marks_start after.main.seat.space)) (sym rest)
+      (subst (λ (regions : Space). IsReady heap.rest (marks_start regions)) (sym space) shown.ready);
+  listed = rw (rest, space) shown.listed;
+  marks = ap (λ (s : Rest). s.marks) rest ∙ shown.marks ∙ ap roots_start (sym space);
 }
 
 -- where only the image was made, of the heap, each graph that was shown is shown
 pub imaged_shows : (heap after : HeapState) (graph : Graph) → HeapShows heap graph → after.main ≡ heap.main
-    → IsImageOf (heap_of heap.main) (image_heap after.spare.image) → after.spare.places ≡ heap.spare.places
-    → after.spare.marks ≡ heap.spare.marks → HeapShows after graph
+    → IsImageOf (heap_of heap.main) (image_heap after.rest.image) → after.rest.places ≡ heap.rest.places
+    → after.rest.marks ≡ heap.rest.marks → HeapShows after graph
 imaged_shows heap after graph shown main image places marks =
     let space : after.main.seat.space ≡ heap.main.seat.space = ap (λ (one : Mutator). one.seat.space) main in
     record {

@@ -8,7 +8,7 @@ use Rattle.collector.specs.States.{HeapState}
 abbrev pub state_of : Inside → HeapState
 state_of heap = record {
   main = heap.main;
-  spare = record {
+  rest = record {
     image = heap.spare;
     reserved = vec_capacity heap.memory;
     places = vec_capacity heap.list;

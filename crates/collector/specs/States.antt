@@ -5,22 +5,22 @@ use Rattle.page_space.specs.Extents.{marks_start, roots_start}
 use Rattle.heap_model.specs.declared.image.HeapImage.{HeapImage}
 use Rattle.write_barrier.specs.MutatorState.{Mutator, MainShows}
 
--- the image that was made last, for how many words memory is reserved beside it, how many places the list of a scavenge
--- has, and below which bound addresses of cells can be marked
-pub record Spare : Type 0 where
+-- What the heap has beside the mutator's side: the image that was made last, for how many words memory is reserved
+-- beside it, how many places the list of a scavenge has, and below which bound addresses of cells can be marked.
+pub record Rest : Type 0 where
   pub image : HeapImage
   pub reserved : ℕ
   pub places : ℕ
   pub marks : ℕ
 
--- the mutator's side, and the memory that an image of it is copied into
+-- the mutator's side, and the rest
 pub record HeapState : Type 0 where
   pub main : Mutator
-  pub spare : Spare
+  pub rest : Rest
 
 -- there is memory for an image of so many words: the last image has as many, or they are reserved
-abbrev pub IsReady : Spare → ℕ → Type 0
-IsReady spare count = (length spare.image.words ≡ count) ⊎ (count ≤ spare.reserved)
+abbrev pub IsReady : Rest → ℕ → Type 0
+IsReady rest count = (length rest.image.words ≡ count) ⊎ (count ≤ rest.reserved)
 
 -- The mutator's side shows the graph, and each page has a row of free runs; there is memory for an image of the same
 -- regions, with a word for each address before the marks; the list of a scavenge has a place for each word of the young
@@ -28,7 +28,7 @@ IsReady spare count = (length spare.image.words ≡ count) ⊎ (count ≤ spare.
 pub record HeapShows (heap : HeapState) (graph : Graph) : Type 0 where
   pub main : MainShows heap.main graph
   pub rows : length heap.main.free ≡ heap.main.seat.space.sizes.pages
-  pub regions : heap.spare.image.regions ≡ heap.main.seat.space
-  pub ready : IsReady heap.spare (marks_start heap.main.seat.space)
-  pub listed : heap.main.seat.space.sizes.young ≤ heap.spare.places
-  pub marks : heap.spare.marks ≡ roots_start heap.main.seat.space
+  pub regions : heap.rest.image.regions ≡ heap.main.seat.space
+  pub ready : IsReady heap.rest (marks_start heap.main.seat.space)
+  pub listed : heap.main.seat.space.sizes.young ≤ heap.rest.places
+  pub marks : heap.rest.marks ≡ roots_start heap.main.seat.space

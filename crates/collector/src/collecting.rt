@@ -13,6 +13,7 @@ use heap_census::{Census, count_cells};
 use live_cells::laws_of_counts;
 use mark_sweep::mark_sweep;
 use scavenger::scavenge;
+use std::mem;
 
 impl Heap {
     /// Copies the live cells of the young generation, so that eden is empty: a survivor to a page, if a
@@ -22,7 +23,7 @@ impl Heap {
         ensures scavenged { Scavenges self.old.main self.new.main promote_all }
         ensures shows { (graph : Graph) → HeapShows self.old graph → HeapShows self.new graph }
         ensures rooms { KeepsGraphs self.old.main self.new.main }
-        ensures spare { self.new.spare ≡ self.old.spare }
+        ensures rest { self.new.rest ≡ self.old.rest }
     {
         scavenge(&mut self.main, &mut self.list, promote_all);
     }
@@ -34,7 +35,7 @@ impl Heap {
         ensures scavenged { Scavenges self.old.main self.new.main false }
         ensures shows { (graph : Graph) → HeapShows self.old graph → HeapShows self.new graph }
         ensures rooms { KeepsGraphs self.old.main self.new.main }
-        ensures spare { self.new.spare ≡ self.old.spare }
+        ensures rest { self.new.rest ≡ self.old.rest }
     {
         self.collect(false);
     }
@@ -47,11 +48,19 @@ impl Heap {
         ensures collected { (graph : Graph) → HeapShows self.old graph →
             CollectsAll self.old.main self.new.main graph }
         ensures shows { (graph : Graph) → HeapShows self.old graph → HeapShows self.new graph }
-        ensures spare { self.new.spare ≡ self.old.spare }
+        ensures rest { self.new.rest ≡ self.old.rest }
     {
         laws_of_collections();
+        self.collected = true;
         mark_sweep(&mut self.main, &mut self.marking);
         self.collect(true);
+    }
+
+    /// Whether the heap was fully collected since this was asked last.
+    pub fn take_collected(&mut self) -> bool
+        ensures same { self.new ≡ self.old }
+    {
+        mem::replace(&mut self.collected, false)
     }
 
     /// Collects fully, and counts what is kept: the objects that can be reached, and the entries of weak
@@ -63,7 +72,7 @@ impl Heap {
         ensures collected { (graph : Graph) → HeapShows self.old graph →
             CollectsAll self.old.main self.new.main graph }
         ensures shows { (graph : Graph) → HeapShows self.old graph → HeapShows self.new graph }
-        ensures spare { self.new.spare ≡ self.old.spare }
+        ensures rest { self.new.rest ≡ self.old.rest }
     {
         self.collect_all();
         laws_of_counts();

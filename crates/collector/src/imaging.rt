@@ -60,10 +60,10 @@ impl Heap {
     /// Makes the spare image one of the heap.
     fn make_image(&mut self)
         requires { (graph : Graph) × HeapShows self.old graph }
-        ensures image { IsImageOf (heap_of self.old.main) (image_heap self.new.spare.image) }
+        ensures image { IsImageOf (heap_of self.old.main) (image_heap self.new.rest.image) }
         ensures main { self.new.main ≡ self.old.main }
-        ensures places { self.new.spare.places ≡ self.old.spare.places }
-        ensures marks { self.new.spare.marks ≡ self.old.spare.marks }
+        ensures places { self.new.rest.places ≡ self.old.rest.places }
+        ensures marks { self.new.rest.marks ≡ self.old.rest.marks }
     {
         self.spare.used = self.main.used();
         self.spare.survivors = self.main.nursery_mut().survivors();
@@ -99,6 +99,7 @@ impl Heap {
             memory: _,
             list: _,
             marking: _,
+            collected: _,
             alloc: _,
         } = self;
         spare

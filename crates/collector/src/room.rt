@@ -27,7 +27,7 @@ impl Heap {
         ensures same { result ≡ false → self.new ≡ self.old }
         ensures shows { (graph : Graph) → HeapShows self.old graph → HeapShows self.new graph }
         ensures rooms { KeepsGraphs self.old.main self.new.main }
-        ensures spare { self.new.spare ≡ self.old.spare }
+        ensures rest { self.new.rest ≡ self.old.rest }
     {
         self.main.can_reserve(n) || grant_run(&mut self.main, n)
     }
@@ -44,7 +44,7 @@ impl Heap {
         ensures out { result ≡ false → IsOutOfRoom self.new.main n }
         ensures shows { (graph : Graph) → HeapShows self.old graph → HeapShows self.new graph }
         ensures rooms { KeepsGraphs self.old.main self.new.main }
-        ensures spare { self.new.spare ≡ self.old.spare }
+        ensures rest { self.new.rest ≡ self.old.rest }
     {
         self.collect(false);
         self.serve(n)

@@ -1,6 +1,6 @@
 //! The heap that a script runs on. Collections of it are in `collecting.rt`, room in it in `room.rt`, images of it in
 //! `imaging.rt`.
-ghost use Rattle.std.specs.Prelude.{◌≡◌, IfOk, length};
+ghost use Rattle.std.specs.Prelude.{◌≡◌, IfOk};
 ghost use Rattle.std.specs.Borrow.{sem};
 ghost use Rattle.object_graph.specs.Graphs.{start};
 ghost use Rattle.page_space.specs.Extents.{roots_start};
@@ -31,6 +31,8 @@ pub struct Heap {
     pub(crate) list: Vec<u32>,
     // What a full collection marks, and which pairs of weak maps wait for their keys.
     pub(crate) marking: Marking,
+    // Whether a full collection came since this was asked last. No contract speaks of it.
+    pub(crate) collected: bool,
     // What an empty list of words is made with. It gives no memory after the heap is opened.
     pub(crate) alloc: Global,
 }
@@ -95,6 +97,7 @@ impl Heap {
             memory,
             list,
             marking,
+            collected: false,
             alloc,
         })
     }

@@ -1,51 +1,60 @@
--- Which command words ask that ask for something that is built.
-use Rattle.std.proofs.Common.{◌≡◌, ◌⊎◌, inl, inr, Bool, true, false, not, ◌&&◌, List, [], ◌∷◌, Option, Some, None}
-use Rattle.std.proofs.Common.{drop, refl}
+-- Words that ask for something that is built: they begin with a command that is, and ask what it does.
+use Rattle.std.proofs.Common.{◌≡◌, Bool, true, false, List, [], ◌∷◌, Option, Some, None}
+use Rattle.std.proofs.Common.{drop, find, cond, refl}
 use Rattle.std.specs.Option.{option_and_then}
-use Rattle.std.specs.Prelude.{◌||◌, if◌then◌else◌, bytes_eq}
+use Rattle.std.specs.Prelude.{◌||◌, bytes_eq}
+use Rattle.std.specs.List.{list_any}
+use Rattle.std.proofs.lemmas.Option.{option_and_then_some}
 use Rattle.command_line.specs.declared.invocation.Invocation.{Invocation}
 use Rattle.command_line.specs.Given.{Text, given_of}
-use Rattle.command_line.specs.Invocations.{Command, run, check, soak, gen, command_text, invocation_by}
-use Rattle.command_line.specs.Invocations.{built_invocation_of, unbuilt_commands, BeginsBuilt}
+use Rattle.command_line.specs.Invocations.{Command, command_text, commands, command_of, invocation_by, invocation_of}
+use Rattle.command_line.specs.Invocations.{begins_with_any, built_invocation_of, unbuilt_commands, BeginsBuilt}
 
--- where a command is one of four by these tests, and not `check` or `soak`, the words ask what `run` or `gen` does
-asked_by : (r k s g : Bool) (next : Command → Option Invocation) (invocation : Invocation)
-    → (if (k || (s || false)) then None else option_and_then next
-    (if r then Some run else (if k then Some check else (if s then Some soak else (if g then Some gen else None)))))
-    ≡ Some invocation → (next run ≡ Some invocation) ⊎ (next gen ≡ Some invocation)
-asked_by r true s g next invocation e = cc
-asked_by r false true g next invocation e = cc
-asked_by true false false g next invocation e = inl e
-asked_by false false false true next invocation e = inr e
-asked_by false false false false next invocation e = cc
+-- what is asked for where no command that is not built is asked
+record Asks (unbuilt : Bool) (asked : Option Invocation) (invocation : Invocation) : Type 0 where
+  built : unbuilt ≡ false
+  asks : asked ≡ Some invocation
 
--- words that ask for something that is built ask for a run, or for a generated script
+-- words that ask for something that is built begin with no other command
+asks_built : (unbuilt : Bool) (asked : Option Invocation) (invocation : Invocation)
+    → cond unbuilt None asked ≡ Some invocation → Asks unbuilt asked invocation
+asks_built true asked invocation e = cc
+asks_built false asked invocation e = record { built = refl; asks = e }
+
+-- a command, and that this is what it asks for with the words after the first
+abbrev pub AskedByOne : List Text → Invocation → Type 0
+AskedByOne words invocation = (command : Command)
+    × (option_and_then (invocation_by command) (given_of (drop 1 words)) ≡ Some invocation)
+
+-- what words ask for is what their command asks for
 pub asked_of : (words : List Text) (invocation : Invocation)
-    → built_invocation_of unbuilt_commands words ≡ Some invocation
-    → (option_and_then (invocation_by run) (given_of (drop 1 words)) ≡ Some invocation)
-    ⊎ (option_and_then (invocation_by gen) (given_of (drop 1 words)) ≡ Some invocation)
+    → built_invocation_of unbuilt_commands words ≡ Some invocation → AskedByOne words invocation
 asked_of [] invocation asks = absurd (cc)
 asked_of (first ∷ words) invocation asks =
-    let test : Command → Bool = λ command. bytes_eq (command_text command) first in
-    let next : Command → Option Invocation = λ command. option_and_then (invocation_by command) (given_of words) in
-    asked_by (test run) (test check) (test soak) (test gen) next invocation asks
+    option_and_then_some (λ command. option_and_then (invocation_by command) (given_of words)) (command_of first)
+    invocation (asks_built (begins_with_any unbuilt_commands (first ∷ words)) (invocation_of (first ∷ words))
+    invocation asks).asks (λ command is asked. (command, asked))
 
--- where a command is one of four by these tests, and not `check` or `soak`, it is one that is built
-built_by : (r k s g : Bool) (next : Command → Option Invocation) (invocation : Invocation)
-    → (if (k || (s || false)) then None else option_and_then next
-    (if r then Some run else (if k then Some check else (if s then Some soak else (if g then Some gen else None)))))
-    ≡ Some invocation → ((r || (k || (s || (g || false)))) && not (k || (s || false))) ≡ true
-built_by r true s g next invocation e = cc
-built_by r false true g next invocation e = cc
-built_by true false false g next invocation e = refl
-built_by false false false true next invocation e = refl
-built_by false false false false next invocation e = cc
+-- an item that is found passes the test
+found_any : {A : Type 0} (test : A → Bool) (items : List A) (item : A) → find test items ≡ Some item
+    → list_any test items ≡ true
+found_any test [] item e = cc
+found_any test (first ∷ items) item e = go (test first) e (found_any test items item)
+  where
+    go : (passes : Bool) → cond passes (Some first) (find test items) ≡ Some item
+        → (find test items ≡ Some item → list_any test items ≡ true) → (passes || list_any test items) ≡ true
+    go true e later = refl
+    go false e later = later e
 
 -- words that ask for something that is built begin with a command that is
 pub begins_built : (words : List Text) (invocation : Invocation)
     → built_invocation_of unbuilt_commands words ≡ Some invocation → BeginsBuilt words
 begins_built [] invocation asks = absurd (cc)
 begins_built (first ∷ words) invocation asks =
-    let test : Command → Bool = λ command. bytes_eq (command_text command) first in
-    built_by (test run) (test check) (test soak) (test gen)
-    (λ command. option_and_then (invocation_by command) (given_of words)) invocation asks
+    let whole = asks_built (begins_with_any unbuilt_commands (first ∷ words)) (invocation_of (first ∷ words))
+    invocation asks in
+    let known : begins_with_any commands (first ∷ words) ≡ true =
+    option_and_then_some (λ command. option_and_then (invocation_by command) (given_of words)) (command_of first)
+    invocation whole.asks
+    (λ command is asked. found_any (λ c. bytes_eq (command_text c) first) commands command is) in
+    rw (known, whole.built) refl

@@ -1,21 +1,33 @@
 -- How many forms words ask for.
-use Rattle.std.proofs.Common.{◌≡◌, inl, inr, ℕ, ◌≤◌, List, [], ◌∷◌, Option, Some, None, drop}
+use Rattle.std.proofs.Common.{◌≡◌, ℕ, ◌≤◌, List, [], ◌∷◌, Option, Some, None, drop}
 use Rattle.std.specs.Option.{option_map}
 use Rattle.std.proofs.lemmas.Option.{option_and_then_some}
 use Rattle.page_space.specs.declared.sizes.Sizes.{Sizes}
-use Rattle.command_line.specs.declared.invocation.Invocation.TheVariants.{Run, Gen}
-use Rattle.command_line.specs.Given.{Text, Setting, given_of}
+use Rattle.command_line.specs.declared.invocation.Invocation.TheVariants.{Run, Check, Soak, Gen}
+use Rattle.command_line.specs.Given.{Text, Setting, Given, given_of}
 use Rattle.command_line.specs.Numbers.{decimal_value, within, number_in}
-use Rattle.command_line.specs.Sizes.{sizes_alone}
-use Rattle.command_line.specs.Invocations.{run, gen, plan_from, plan_of, if_no_setting, invocation_by, forms_most}
+use Rattle.command_line.specs.Sizes.{sizes_of, sizes_alone}
+use Rattle.command_line.specs.Invocations.{Command, run, check, soak, gen, Plan, plan_from, plan_of, if_no_setting}
+use Rattle.command_line.specs.Invocations.{invocation_by, forms_most}
 use Rattle.command_line.specs.SizeLaws.{AskedFormsAreFew}
 use Rattle.command_line.proofs.AskedCommands.{asked_of}
 use Rattle.command_line.proofs.AskedSizes.{within_limits}
 
 -- what a run asks for is no generated script
-no_generation : (sizes : Option Sizes) (seed forms : ℕ) → option_map Run sizes ≡ Some (Gen seed forms) → ⊥
-no_generation None seed forms e = cc
-no_generation (Some sizes) seed forms e = cc
+no_run : (sizes : Option Sizes) (seed forms : ℕ) → option_map Run sizes ≡ Some (Gen seed forms) → ⊥
+no_run None seed forms e = cc
+no_run (Some sizes) seed forms e = cc
+
+-- nor is what a run that is checked asks for
+no_check : (sizes : Option Sizes) (seed forms : ℕ) → option_map Check sizes ≡ Some (Gen seed forms) → ⊥
+no_check None seed forms e = cc
+no_check (Some sizes) seed forms e = cc
+
+-- nor is what the run of one asks for
+no_soaked : (plan : Option Plan) (sizes : Sizes) (seed forms : ℕ)
+    → option_map (λ plan. Soak sizes plan.seed plan.forms) plan ≡ Some (Gen seed forms) → ⊥
+no_soaked None sizes seed forms e = cc
+no_soaked (Some plan) sizes seed forms e = cc
 
 -- a number within limits is no more than the most
 number_few : (least most : ℕ) (text : List ℕ) (number : ℕ) → number_in least most text ≡ Some number → number ≤ most
@@ -46,14 +58,20 @@ generation_few : (settings : List Setting) (words : List Text) (seed forms : ℕ
 generation_few [] words seed forms e = plan_few words seed forms e
 generation_few (setting ∷ settings) words seed forms e = cc
 
+-- a command that asks for a generated script asks for few forms
+few_by : (command : Command) (given : Given) (seed forms : ℕ) → invocation_by command given ≡ Some (Gen seed forms)
+    → forms ≤ forms_most
+few_by run given seed forms e = absurd (no_run (sizes_alone given) seed forms e)
+few_by check given seed forms e = absurd (no_check (sizes_alone given) seed forms e)
+few_by soak given seed forms e =
+    option_and_then_some (λ sizes. option_map (λ plan. Soak sizes plan.seed plan.forms) (plan_of given.positional))
+    (sizes_of given.settings) (Gen seed forms) e
+    (λ sizes is f. absurd (no_soaked (plan_of given.positional) sizes seed forms f))
+few_by gen given seed forms e = generation_few given.settings given.positional seed forms e
+
 -- where words ask for a generated script, it has no more forms than it may have
 pub asked_forms_are_few : AskedFormsAreFew
 asked_forms_are_few words seed forms asks =
-    elim (asked_of words (Gen seed forms) asks) [
-      | inl ran ↦
-          option_and_then_some (invocation_by run) (given_of (drop 1 words)) (Gen seed forms) ran
-          (λ given is f. absurd (no_generation (sizes_alone given) seed forms f))
-      | inr made ↦
-          option_and_then_some (invocation_by gen) (given_of (drop 1 words)) (Gen seed forms) made
-          (λ given is f. generation_few given.settings given.positional seed forms f)
-    ]
+    let asked = asked_of words (Gen seed forms) asks in
+    option_and_then_some (invocation_by asked.0) (given_of (drop 1 words)) (Gen seed forms) asked.1
+    (λ given is f. few_by asked.0 given seed forms f)

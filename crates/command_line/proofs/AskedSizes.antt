@@ -1,6 +1,6 @@
 -- The sizes that words ask for are within their limits.
 use Rattle.std.proofs.Common.{◌≡◌, ℕ, ◌≤◌, List, [], ◌∷◌, Option, Some, None, Bool, true, false, IsTrue}
-use Rattle.std.proofs.Common.{◌&&◌, nat_le, cond, arith, refl, subst, drop, inl, inr}
+use Rattle.std.proofs.Common.{◌&&◌, nat_le, cond, arith, refl, subst, drop}
 use Rattle.std.proofs.lemmas.Bool.Decides.{nat_tests}
 use Rattle.std.proofs.lemmas.Option.{option_and_then_some, same_Some}
 use Rattle.std.specs.Option.{option_map}
@@ -8,12 +8,14 @@ use Rattle.std.specs.Prelude.{codes}
 use Rattle.page_space.specs.declared.sizes.Sizes.{Sizes}
 use Rattle.page_space.specs.Sizes.{AreWithin, variables_most}
 use Rattle.command_line.specs.declared.number.Limits.{Limits}
-use Rattle.command_line.specs.declared.invocation.Invocation.TheVariants.{Run, Gen}
+use Rattle.command_line.specs.declared.invocation.Invocation.{Invocation}
+use Rattle.command_line.specs.declared.invocation.Invocation.TheVariants.{Run, Check, Soak, Gen}
 use Rattle.command_line.specs.Given.{Text, Given, given_of}
 use Rattle.command_line.specs.Numbers.{decimal_value, within, number_or_default}
 use Rattle.command_line.specs.Sizes.{pages_limits, young_limits, helpers_limits, sizes_from, text_in, sizes_of}
 use Rattle.command_line.specs.Sizes.{if_no_word, sizes_alone}
-use Rattle.command_line.specs.Invocations.{Plan, run, gen, plan_of, if_no_setting, invocation_by}
+use Rattle.command_line.specs.Invocations.{Command, run, check, soak, gen, Plan, plan_of, if_no_setting}
+use Rattle.command_line.specs.Invocations.{invocation_by, asked_run}
 use Rattle.command_line.specs.SizeLaws.{AskedSizesAreWithin}
 use Rattle.command_line.proofs.AskedCommands.{asked_of}
 
@@ -85,26 +87,58 @@ alone : (positional : List Text) (found : Option Sizes) (sizes : Sizes) → if_n
 alone [] found sizes e = e
 alone (word ∷ words) found sizes e = cc
 
--- an invocation that runs with sizes is made of them
-run_of : (found : Option Sizes) (sizes : Sizes) → option_map Run found ≡ Some (Run sizes) → found ≡ Some sizes
-run_of None sizes e = cc
-run_of (Some found) sizes e = cc
+-- sizes that a run is asked for with are those that it is made of
+run_of : (checks : Bool) (found : Option Sizes) (sizes : Sizes) → option_map Run found ≡ Some (asked_run checks sizes)
+    → found ≡ Some sizes
+run_of checks None sizes e = cc
+run_of false (Some found) sizes e = cc
+run_of true (Some found) sizes e = cc
 
--- what the words of `gen` ask for is no run
-no_run : (plan : Option Plan) (sizes : Sizes)
-    → option_map (λ plan. Gen plan.seed plan.forms) plan ≡ Some (Run sizes) → ⊥
-no_run None sizes e = cc
-no_run (Some plan) sizes e = cc
+-- so it is with a run that is checked
+check_of : (checks : Bool) (found : Option Sizes) (sizes : Sizes)
+    → option_map Check found ≡ Some (asked_run checks sizes) → found ≡ Some sizes
+check_of checks None sizes e = cc
+check_of false (Some found) sizes e = cc
+check_of true (Some found) sizes e = cc
 
--- where words ask for the run of a script, its sizes are within their limits
+-- what a plan makes is no run
+no_run : (plan : Option Plan) (make : Plan → Invocation) (checks : Bool) (sizes : Sizes)
+    → ((made : Plan) → make made ≡ asked_run checks sizes → ⊥)
+    → option_map make plan ≡ Some (asked_run checks sizes) → ⊥
+no_run None make checks sizes differs e = cc
+no_run (Some plan) make checks sizes differs e =
+    differs plan (same_Some (make plan) (asked_run checks sizes) e)
+
+-- a generated script is no run
+no_generated : (checks : Bool) (sizes : Sizes) (plan : Plan) → Gen plan.seed plan.forms ≡ asked_run checks sizes → ⊥
+no_generated false sizes plan e = cc
+no_generated true sizes plan e = cc
+
+-- nor is the run of one
+no_soaked : (checks : Bool) (sizes found : Sizes) (plan : Plan)
+    → Soak found plan.seed plan.forms ≡ asked_run checks sizes → ⊥
+no_soaked false sizes found plan e = cc
+no_soaked true sizes found plan e = cc
+
+-- a command that asks for a run, checked or not, asks for it with the sizes of the settings
+settings_of : (command : Command) (given : Given) (checks : Bool) (sizes : Sizes)
+    → invocation_by command given ≡ Some (asked_run checks sizes) → sizes_of given.settings ≡ Some sizes
+settings_of run given checks sizes e =
+    alone given.positional (sizes_of given.settings) sizes (run_of checks (sizes_alone given) sizes e)
+settings_of check given checks sizes e =
+    alone given.positional (sizes_of given.settings) sizes (check_of checks (sizes_alone given) sizes e)
+settings_of soak given checks sizes e =
+    option_and_then_some (λ found. option_map (λ plan. Soak found plan.seed plan.forms) (plan_of given.positional))
+    (sizes_of given.settings) (asked_run checks sizes) e
+    (λ found is f. absurd (no_run (plan_of given.positional) (λ plan. Soak found plan.seed plan.forms) checks sizes
+    (no_soaked checks sizes found) f))
+settings_of gen given checks sizes e =
+    absurd (no_run (if_no_setting given.settings (plan_of given.positional)) (λ plan. Gen plan.seed plan.forms)
+    checks sizes (no_generated checks sizes) e)
+
+-- where words ask for the run of a script, checked or not, its sizes are within their limits
 pub asked_sizes_are_within : AskedSizesAreWithin
-asked_sizes_are_within words sizes variables asks few =
-    elim (asked_of words (Run sizes) asks) [
-      | inl ran ↦
-          option_and_then_some (invocation_by run) (given_of (drop 1 words)) (Run sizes) ran
-          (λ given is f. settings_within given sizes variables
-          (alone given.positional (sizes_of given.settings) sizes (run_of (sizes_alone given) sizes f)) few)
-      | inr made ↦
-          option_and_then_some (invocation_by gen) (given_of (drop 1 words)) (Run sizes) made
-          (λ given is f. absurd (no_run (if_no_setting given.settings (plan_of given.positional)) sizes f))
-    ]
+asked_sizes_are_within words checks sizes variables asks few =
+    let asked = asked_of words (asked_run checks sizes) asks in
+    option_and_then_some (invocation_by asked.0) (given_of (drop 1 words)) (asked_run checks sizes) asked.1
+    (λ given is f. settings_within given sizes variables (settings_of asked.0 given checks sizes f) few)

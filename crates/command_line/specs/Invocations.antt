@@ -1,8 +1,9 @@
 -- What a command line asks for.
-use Rattle.std.specs.Prelude.{ℕ, ◌-◌, ◌^◌, Bool, false, not, ◌&&◌, IsTrue, List, [], ◌∷◌, Option}
+use Rattle.std.specs.Prelude.{ℕ, ◌-◌, ◌^◌, Bool, true, false, not, ◌&&◌, IsTrue, List, [], ◌∷◌, Option}
 use Rattle.std.specs.Prelude.{Some, None, option_map}
 use Rattle.std.specs.Prelude.{option_and_then, find, codes, bytes_eq, if◌then◌else◌}
 use Rattle.std.specs.List.{list_any}
+use Rattle.page_space.specs.declared.sizes.Sizes.{Sizes}
 use Rattle.command_line.specs.declared.invocation.Invocation.{Invocation}
 use Rattle.command_line.specs.declared.invocation.Invocation.TheVariants.{Run, Check, Soak, Gen}
 use Rattle.command_line.specs.Given.{Text, Setting, Given, given_of}
@@ -82,8 +83,13 @@ built_invocation_of unbuilt words = if begins_with_any unbuilt words then None e
 
 -- the commands that are not built
 abbrev pub unbuilt_commands : List Command
-unbuilt_commands = check ∷ soak ∷ []
+unbuilt_commands = soak ∷ []
 
 -- the first word is a command that is built
 abbrev pub BeginsBuilt : List Text → Type 0
 BeginsBuilt words = IsTrue (begins_with_any commands words && not (begins_with_any unbuilt_commands words))
+
+-- what a run asks for, or a run that is checked
+abbrev pub asked_run : Bool → Sizes → Invocation
+asked_run false sizes = Run sizes
+asked_run true sizes = Check sizes

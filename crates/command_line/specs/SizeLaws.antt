@@ -1,15 +1,16 @@
 -- The sizes and the forms that a command line asks for.
-use Rattle.std.specs.Prelude.{◌≡◌, ℕ, ◌≤◌, List, Some}
+use Rattle.std.specs.Prelude.{◌≡◌, ℕ, ◌≤◌, Bool, List, Some}
 use Rattle.page_space.specs.declared.sizes.Sizes.{Sizes}
 use Rattle.page_space.specs.Sizes.{AreWithin, variables_most}
-use Rattle.command_line.specs.declared.invocation.Invocation.TheVariants.{Run, Gen}
+use Rattle.command_line.specs.declared.invocation.Invocation.TheVariants.{Gen}
 use Rattle.command_line.specs.Given.{Text}
-use Rattle.command_line.specs.Invocations.{built_invocation_of, unbuilt_commands, forms_most}
+use Rattle.command_line.specs.Invocations.{built_invocation_of, unbuilt_commands, asked_run, forms_most}
 
--- where words ask for the run of a script, the sizes are within their limits
+-- where words ask for the run of a script, checked or not, the sizes are within their limits
 abbrev pub AskedSizesAreWithin : Type 0
 AskedSizesAreWithin =
-    (words : List Text) (sizes : Sizes) (variables : ℕ) → built_invocation_of unbuilt_commands words ≡ Some (Run sizes)
+    (words : List Text) (checks : Bool) (sizes : Sizes) (variables : ℕ)
+    → built_invocation_of unbuilt_commands words ≡ Some (asked_run checks sizes)
     → variables ≤ variables_most → AreWithin sizes variables
 
 -- where words ask for a generated script, it has no more forms than it may have

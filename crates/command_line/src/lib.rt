@@ -18,4 +18,6 @@ pub use invocation::{Invocation, WordsStop};
 pub use laws::laws_of_sizes;
 pub use page_space::Sizes;
 pub use reading::read_words;
-pub use rows::{generated_rows, refused_number_rows, refused_word_rows, run_rows, unbuilt_rows};
+pub use rows::{
+    checked_rows, generated_rows, refused_number_rows, refused_word_rows, run_rows, unbuilt_rows,
+};

@@ -1,4 +1,4 @@
-//! The options of `run`.
+//! The options of `run` and `check`.
 ghost use Rattle.std.specs.Prelude.{◌≡◌, false, Err, Some, None, IfOk, drop, map};
 ghost use Rattle.std.specs.Prelude.{option_and_then, string_bytes};
 ghost use Rattle.clap.specs.Words.{app_of, first_value, found_of, rows_of, rule_of};

@@ -1,5 +1,5 @@
 //! What `gen` is asked for: a seed, and how many forms.
-ghost use Rattle.std.specs.Prelude.{◌≡◌, ◌==◌, option_and_then, map, string_bytes, codes, bytes_eq};
+ghost use Rattle.std.specs.Prelude.{◌≡◌, ◌==◌, option_and_then, map, string_bytes};
 ghost use Rattle.std.specs.Prelude.{if◌then◌else◌, None};
 ghost use Rattle.command_line.specs.Given.{given_of};
 ghost use Rattle.command_line.specs.Invocations.{invocation_by, gen as gen_command};

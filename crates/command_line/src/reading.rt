@@ -24,6 +24,7 @@ pub fn read_words(alloc: Global, words: &[String]) -> Result<Invocation, WordsSt
     };
     match first.as_str() {
         "run" => Ok(Invocation::Run(sizes_of(alloc, words)?)),
+        "check" => Ok(Invocation::Check(sizes_of(alloc, words)?)),
         "gen" => generation_of(rest).ok_or(WordsStop::BadWords),
         _ => Err(WordsStop::BadWords),
     }

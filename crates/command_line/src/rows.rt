@@ -34,10 +34,19 @@ pub fn generated_rows()
         ≡ Some (Invocation.Gen 5 0) }
 {}
 
+/// Lines that ask for a run that is checked.
+pub fn checked_rows()
+    ensures checked { built_invocation_of unbuilt_commands (words_of (codes "check"))
+        ≡ Some (Invocation.Check (record { pages = 64; young = 8192; helpers = 2 })) }
+    ensures pages { built_invocation_of unbuilt_commands (words_of (codes "check --pages 3"))
+        ≡ Some (Invocation.Check (record { pages = 3; young = 8192; helpers = 2 })) }
+    ensures both_forms { built_invocation_of unbuilt_commands
+        (words_of (codes "check --young=64 --helpers 0")) ≡ Some
+        (Invocation.Check (record { pages = 64; young = 64; helpers = 0 })) }
+{}
+
 /// Lines that ask for what is not built.
 pub fn unbuilt_rows()
-    ensures checked { invocation_of (words_of (codes "check --pages 3"))
-        ≡ Some (Invocation.Check (record { pages = 3; young = 8192; helpers = 2 })) }
     ensures soaked { invocation_of (words_of (codes "soak 7 30000 --helpers 0")) ≡ Some
         (Invocation.Soak (record { pages = 64; young = 8192; helpers = 0 }) 7 30000) }
     ensures options_between { invocation_of (words_of (codes "soak 7 --pages 5 1")) ≡ Some
@@ -53,6 +62,7 @@ pub fn refused_word_rows()
     ensures no_command { invocation_of (words_of (codes "--pages 1 run")) ≡ None }
     ensures help_command { invocation_of (words_of (codes "help")) ≡ None }
     ensures positional { invocation_of (words_of (codes "run x")) ≡ None }
+    ensures checked_word { invocation_of (words_of (codes "check x")) ≡ None }
     ensures after_dashes { invocation_of (words_of (codes "run -- --pages 1")) ≡ None }
     ensures hyphen { invocation_of (words_of (codes "run -")) ≡ None }
     ensures abbreviated { invocation_of (words_of (codes "run --page 1")) ≡ None }

@@ -1,5 +1,5 @@
 //! The pairs of weak maps as ephemerons: a value is marked where its table and its key are.
-ghost use Rattle.std.specs.Prelude.{◌≡◌, ℕ, ◌+◌, Contains};
+ghost use Rattle.std.specs.Prelude.{ℕ, ◌+◌, Contains};
 ghost use Rattle.live_cells.specs.Live.{HasEntry};
 ghost use Rattle.write_barrier.specs.MutatorState.{heap_of};
 ghost use Rattle.ephemeron_mark.specs.Progress.{HoldsReference, IsMarking, HasGrown, IsCellOf, IsMarkedPair};

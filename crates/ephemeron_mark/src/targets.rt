@@ -1,5 +1,5 @@
 //! Marking what words refer to: those of variables, and those of the slots of a cell.
-ghost use Rattle.std.specs.Prelude.{◌≡◌, ℕ, ◌<◌, Contains};
+ghost use Rattle.std.specs.Prelude.{ℕ, ◌<◌, Contains};
 ghost use Rattle.page_space.specs.Extents.{marks_start};
 ghost use Rattle.live_cells.specs.Live.{HasSlotTo};
 ghost use Rattle.live_cells.specs.Marked.{HasRootTargets};

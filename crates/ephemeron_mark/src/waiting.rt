@@ -1,5 +1,5 @@
 //! The pairs that wait for their keys, found by key.
-ghost use Rattle.std.specs.Prelude.{◌≡◌, ℕ, ◌+◌, ◌<◌, ◌⊎◌, [], IfOk, length, slice_get, Some};
+ghost use Rattle.std.specs.Prelude.{◌≡◌, ℕ, ◌<◌, ◌⊎◌, [], IfOk, length, slice_get, Some};
 ghost use Rattle.std.specs.Vec.{vec_capacity};
 ghost use Rattle.ephemeron_mark.specs.Pairs.{WaitsFor, IsLastOf, none_waits};
 ghost use Rattle.ephemeron_mark.specs.Kept.{AreTold};

@@ -1,6 +1,5 @@
 //! The call `get`.
-ghost use Rattle.std.specs.Prelude.{◌≡◌, ℕ, ◌+◌, ◌<◌, List};
-ghost use Rattle.page_space.specs.Extents.{marks_start};
+ghost use Rattle.std.specs.Prelude.{ℕ, ◌+◌, List};
 ghost use Rattle.object_graph.specs.Graphs.{Graph, WeakObject};
 ghost use Rattle.heap_model.specs.Kinds.{Pair};
 ghost use Rattle.write_barrier.specs.MutatorState.{MainShows, heap_of};

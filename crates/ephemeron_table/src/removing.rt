@@ -4,7 +4,7 @@ ghost use Rattle.heap_table.specs.Seats.{heap_words};
 ghost use Rattle.heap_table.specs.declared.phase.Phase.TheVariants.{Quiet};
 ghost use Rattle.linear_probing.specs.Tables.{steps_to};
 ghost use Rattle.page_space.specs.Extents.{marks_start};
-ghost use Rattle.heap_model.specs.Kinds.{Pair, count_offset};
+ghost use Rattle.heap_model.specs.Kinds.{count_offset};
 ghost use Rattle.heap_model.specs.Needs.{count_at};
 ghost use Rattle.write_barrier.specs.MutatorState.{heap_of};
 ghost use Rattle.write_barrier.specs.Recording.{Touches};

@@ -1,8 +1,7 @@
 //! Whether each variable holds something.
 ghost use Rattle.std.specs.Prelude.{◌≡◌, ◌<◌, ◌↔◌, ℕ, false, IsTrue};
-ghost use Rattle.std.specs.Int.{cast_signed, w64};
+ghost use Rattle.std.specs.Int.{cast_signed};
 ghost use Rattle.tagged_word.specs.declared.layout.Kind.{Kind};
-ghost use Rattle.tagged_word.specs.Words.{small};
 ghost use Rattle.heap_model.specs.Images.{image_heap};
 ghost use Rattle.heap_model.specs.Slots.{is_object_kind, IsPlace};
 ghost use Rattle.heap_model.specs.Wholeness.{HasSizes, HasRows, HasRoot};

@@ -1,5 +1,5 @@
 //! Whether cells stand in rows everywhere, and what stands behind them.
-ghost use Rattle.std.specs.Prelude.{◌≡◌, ◌≤◌, ◌↔◌, IsTrue, MatchOption};
+ghost use Rattle.std.specs.Prelude.{◌↔◌, IsTrue, MatchOption};
 ghost use Rattle.heap_model.specs.Images.{image_heap};
 ghost use Rattle.heap_model.specs.Wholeness.{HasSizes, HasRows};
 ghost use Rattle.heap_check.specs.Walks.{HasWords};

@@ -20,13 +20,16 @@ use page_space::Regions;
 use std::alloc::Global;
 use std::marker::Model;
 use tagged_word::NoMemory;
+use thiserror::Error;
 
 /// Why a check did not end well.
-#[derive(Clone, Copy, Debug, PartialEq, Eq)]
+#[derive(Clone, Copy, Debug, PartialEq, Eq, Error)]
 pub enum CheckStop {
     /// The image is no whole heap: this is the first word that breaks it.
+    #[error(transparent)]
     Flaw(Flaw),
     /// There is no memory for the check.
+    #[error("no memory")]
     NoMemory,
 }
 

@@ -3,9 +3,11 @@ ghost use Rattle.std.specs.Prelude.{◌≡◌};
 ghost use Rattle.heap_checker.specs.Firsts.{asked_of};
 
 use tagged_word::{Word, odd};
+use thiserror::Error;
 
 /// A word of an image that breaks a whole heap.
-#[derive(Clone, Copy, Debug, PartialEq, Eq)]
+#[derive(Clone, Copy, Debug, PartialEq, Eq, Error)]
+#[error("word {at} is {found}, and {wanted} is asked for")]
 pub struct Flaw {
     /// Its address. What is no word of a heap has the number of a heap's words here: how many words of eden are used, how
     /// many words the survivors have, and how many words there are.

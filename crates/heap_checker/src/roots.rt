@@ -1,5 +1,5 @@
 //! Flaws of root words.
-ghost use Rattle.std.specs.Prelude.{◌≡◌, ◌↔◌, ◌<◌, ℕ, IsTrue};
+ghost use Rattle.std.specs.Prelude.{◌↔◌, ◌<◌, ℕ, IsTrue};
 ghost use Rattle.heap_model.specs.Images.{image_heap};
 ghost use Rattle.heap_model.specs.Slots.{IsPlace};
 ghost use Rattle.heap_model.specs.Wholeness.{HasRows, HasRoot};

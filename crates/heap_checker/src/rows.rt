@@ -1,5 +1,5 @@
 //! Flaws of the rows of cells and of what is blank behind them. The flags of the cells that are come to are set.
-ghost use Rattle.std.specs.Prelude.{◌≡◌, ◌≤◌, ◌↔◌, IsTrue, length, slice_get, Some, Option, None, IfOk, IfErr};
+ghost use Rattle.std.specs.Prelude.{◌≡◌, ◌≤◌, ◌↔◌, IsTrue, length, Some, Option, None, IfOk, IfErr};
 ghost use Rattle.heap_model.specs.Images.{image_heap};
 ghost use Rattle.heap_model.specs.RegionRows.{StandsBetween};
 ghost use Rattle.heap_model.specs.Wholeness.{HasRows};

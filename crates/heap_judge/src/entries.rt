@@ -1,5 +1,5 @@
 //! Whether the pairs of a weak table show the entries of a weak map.
-ghost use Rattle.std.specs.Prelude.{◌≡◌, ◌↔◌, IsTrue};
+ghost use Rattle.std.specs.Prelude.{◌↔◌, IsTrue};
 ghost use Rattle.heap_model.specs.Images.{image_heap};
 ghost use Rattle.heap_model.specs.Showing.{IsKnownKey};
 ghost use Rattle.heap_model.specs.Wholeness.{HasRows};

@@ -1,6 +1,5 @@
 //! Whether so many words fit into a heap.
 ghost use Rattle.std.specs.Prelude.{◌↔◌, ◌+◌, ◌≤◌, ◌<◌, IsTrue};
-ghost use Rattle.page_space.specs.Extents.{words_count};
 ghost use Rattle.heap_model.specs.Images.{image_heap};
 ghost use Rattle.heap_model.specs.Wholeness.{HasRows};
 ghost use Rattle.live_cells.specs.Exact.{Fits};

@@ -1,5 +1,5 @@
 //! Whether each cell that stays stands in another heap, moved, and each cell there is from one.
-ghost use Rattle.std.specs.Prelude.{◌≡◌, ◌+◌, ◌↔◌, IsTrue, MatchOption};
+ghost use Rattle.std.specs.Prelude.{◌+◌, ◌↔◌, IsTrue, MatchOption};
 ghost use Rattle.heap_model.specs.Images.{image_heap};
 ghost use Rattle.heap_model.specs.Heaps.{words_of_cell};
 ghost use Rattle.heap_model.specs.Wholeness.{HasRows};

@@ -1,5 +1,5 @@
 //! Whether the objects that can be reached have one place each, which shows them.
-ghost use Rattle.std.specs.Prelude.{◌≡◌, ◌↔◌, IsTrue};
+ghost use Rattle.std.specs.Prelude.{◌↔◌, IsTrue};
 ghost use Rattle.heap_model.specs.Images.{image_heap};
 ghost use Rattle.heap_model.specs.Heaps.{words_of_cell};
 ghost use Rattle.heap_model.specs.Showing.{ShowsObject, ShowsReached};

@@ -1,5 +1,5 @@
 //! The pairs of a weak table by their keys.
-ghost use Rattle.std.specs.Prelude.{◌≡◌, ◌↔◌, IsTrue, MatchOption};
+ghost use Rattle.std.specs.Prelude.{◌↔◌, IsTrue, MatchOption};
 ghost use Rattle.heap_model.specs.Images.{image_heap};
 ghost use Rattle.heap_model.specs.Showing.{ShowsOnce};
 ghost use Rattle.heap_model.specs.Wholeness.{HasRows};

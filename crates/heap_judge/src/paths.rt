@@ -1,5 +1,5 @@
 //! Whether shapes have the paths of a graph.
-ghost use Rattle.std.specs.Prelude.{◌≡◌, ◌<◌, ◌↔◌, IsTrue, length, slice_get, Some, map};
+ghost use Rattle.std.specs.Prelude.{◌≡◌, ◌<◌, ◌↔◌, IsTrue, length, map};
 ghost use Rattle.object_graph.specs.Paths.{path_of};
 ghost use Rattle.shape_tree.specs.Shapes.{IsPathShape, shape_path};
 ghost use Rattle.heap_judge.specs.PathFields.{known_field, IsFieldAt};

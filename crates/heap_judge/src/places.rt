@@ -1,5 +1,5 @@
 //! Where the objects of a heap stand.
-ghost use Rattle.std.specs.Prelude.{◌≡◌, ◌↔◌, ◌+◌, ◌≤◌, IsTrue, MatchOption, IfSome};
+ghost use Rattle.std.specs.Prelude.{◌↔◌, ◌+◌, ◌≤◌, IsTrue, MatchOption, IfSome};
 ghost use Rattle.heap_model.specs.Images.{image_heap};
 ghost use Rattle.heap_model.specs.Slots.{IsPlace};
 ghost use Rattle.heap_model.specs.Wholeness.{HasRows};

@@ -1,5 +1,5 @@
 //! Whether addresses are those of the slots of pages that refer to young cells.
-ghost use Rattle.std.specs.Prelude.{◌≡◌, ◌↔◌, ◌<◌, IsTrue, MatchOption};
+ghost use Rattle.std.specs.Prelude.{◌↔◌, ◌<◌, IsTrue, MatchOption};
 ghost use Rattle.page_space.specs.Extents.{eden_start};
 ghost use Rattle.heap_model.specs.Images.{image_heap};
 ghost use Rattle.heap_model.specs.Remembered.{AreRemembered, RefersToYoung};

@@ -1,10 +1,13 @@
 -- What follows of a run from what it comes to and what the sink took.
-use Rattle.std.proofs.Common.{arith, ◌≡◌, ◌≢◌, ℕ, List, [], ◌∷◌, Option, Some}
+use Rattle.std.proofs.Common.{arith, ◌≡◌, ◌≢◌, ℕ, Bool, List, [], ◌∷◌, Option, Some}
 use Rattle.std.proofs.Common.{None, IfSome, Err, refl, sym, ap, subst, lit<, ◌⊎◌, inl, inr}
 use Rattle.std.specs.Prelude.{Contains}
-use Rattle.heap_model.specs.Types.{Sizes}
-use Rattle.command_line.specs.declared.invocation.Invocation.TheVariants.{Run}
-use Rattle.command_line.specs.Invocations.{BeginsBuilt}
+use Rattle.object_graph.specs.Run.{Told}
+use Rattle.script_text.specs.Scripts.{ScriptText}
+use Rattle.heap_model.specs.Types.{Sizes, Run}
+use Rattle.heap_model.specs.Heaps.{Heap}
+use Rattle.heap_model.specs.Images.{image_heap}
+use Rattle.command_line.specs.Invocations.{BeginsBuilt, asked_run}
 use Rattle.command_line.proofs.AskedCommands.{begins_built}
 use Rattle.script_text.specs.declared.script.BadScript.{BadScript}
 use Rattle.script_text.specs.declared.script.BadScript.TheVariants as bad
@@ -14,6 +17,8 @@ use Rattle.byte_ends.specs.Source.{IsInput}
 use Rattle.byte_ends.specs.Sink.{Appends, AppendsSome}
 use Rattle.heap_script.specs.declared.finished.How.{How}
 use Rattle.heap_script.specs.declared.finished.How.TheVariants as how
+use Rattle.heap_script.specs.Stages.{Collections}
+use Rattle.heap_script.specs.Runs.{EndsRun}
 use Rattle.heap_run.specs.declared.ended.Kept.{Kept}
 use Rattle.heap_run.specs.declared.ended.Ended.{Ended}
 use Rattle.heap_run.specs.declared.last_line.LastLine.{LastLine}
@@ -34,21 +39,23 @@ status-apart last.SourceTooLong e = cc
 status-apart last.NoMemory e = cc
 status-apart (last.LineLimit line) e = cc
 status-apart last.BadWords e = cc
+status-apart (last.Checked counts) e = cc
+status-apart (last.Flawed flaw) e = cc
 
 -- a kept heap shows the graph of the bytes that the source had left
 pub keeps-comes : (words : List (List ℕ)) (input : Input) (answer : Answer) → Comes words input answer
     → IfSome answer.kept
-    (λ kept. (sizes : Sizes) × (bytes : List ℕ) × AsksToRun words sizes × IsInput input.before bytes
+    (λ kept. (checks : Bool) × (sizes : Sizes) × (bytes : List ℕ) × AsksToRun words checks sizes × IsInput input.before bytes
     × KeepsGraph sizes (reading bytes) kept)
 keeps-comes words input _ (Comes.bad_words refused unread steady) = tt
 keeps-comes words input _ (Comes.no_memory begins read) = tt
-keeps-comes words input _ (Comes.read_fault sizes asks rose) = tt
-keeps-comes words input _ (Comes.too_long sizes asks many) = tt
-keeps-comes words input _ (Comes.no_script sizes bytes stop line asks reads is refusal) = tt
-keeps-comes words input _ (Comes.ended sizes bytes script kept came asks reads is keeps comes need) =
-    (sizes, bytes, asks, reads.all, subst (λ r. KeepsGraph sizes r kept) (sym is) keeps)
-keeps-comes words input _ (Comes.cut_short sizes bytes script kept asks reads is keeps line need none due) =
-    (sizes, bytes, asks, reads.all, subst (λ r. KeepsGraph sizes r kept) (sym is) keeps)
+keeps-comes words input _ (Comes.read_fault checks sizes asks rose) = tt
+keeps-comes words input _ (Comes.too_long checks sizes asks many) = tt
+keeps-comes words input _ (Comes.no_script checks sizes bytes stop line asks reads is refusal) = tt
+keeps-comes words input _ (Comes.ended checks sizes bytes script kept came asks reads is keeps comes need) =
+    (checks, sizes, bytes, asks, reads.all, subst (λ r. KeepsGraph sizes r kept) (sym is) keeps)
+keeps-comes words input _ (Comes.cut_short checks sizes bytes script kept asks reads is keeps line need none due) =
+    (checks, sizes, bytes, asks, reads.all, subst (λ r. KeepsGraph sizes r kept) (sym is) keeps)
 keeps-comes words input _ (Comes.generated seed forms asks unread steady) = tt
 keeps-comes words input _ (Comes.generated_in_part seed forms count asks unread steady) = tt
 
@@ -57,23 +64,26 @@ pub reads-comes : (words : List (List ℕ)) (input : Input) (answer : Answer) �
     → IfSome answer.kept (λ _. IfSome input.before (λ _. input.after ≡ Some []))
 reads-comes words input _ (Comes.bad_words refused unread steady) = tt
 reads-comes words input _ (Comes.no_memory begins read) = tt
-reads-comes words input _ (Comes.read_fault sizes asks rose) = tt
-reads-comes words input _ (Comes.too_long sizes asks many) = tt
-reads-comes words input _ (Comes.no_script sizes bytes stop line asks reads is refusal) = tt
-reads-comes words input _ (Comes.ended sizes bytes script kept came asks reads is keeps comes need) = reads.none_left
+reads-comes words input _ (Comes.read_fault checks sizes asks rose) = tt
+reads-comes words input _ (Comes.too_long checks sizes asks many) = tt
+reads-comes words input _ (Comes.no_script checks sizes bytes stop line asks reads is refusal) = tt
+reads-comes words input _ (Comes.ended checks sizes bytes script kept came asks reads is keeps comes need) = reads.none_left
 reads-comes words input _
-    (Comes.cut_short sizes bytes script kept asks reads is keeps line need none due) = reads.none_left
+    (Comes.cut_short checks sizes bytes script kept asks reads is keeps line need none due) = reads.none_left
 reads-comes words input _ (Comes.generated seed forms asks unread steady) = tt
 reads-comes words input _ (Comes.generated_in_part seed forms count asks unread steady) = tt
 
 -- the status of the end of a script
-opened-ended : (came : How) (line : ℕ)
+opened-ended : (checks : Bool) (script : ScriptText) (heap : Heap) (rows : List (List Run)) (collections : Collections)
+    (n : ℕ) (so_far : Told) (came : How) (line : ℕ) → EndsRun checks script heap rows collections n so_far came line
     → Contains (0 ∷ 1 ∷ 3 ∷ sink_fault_status ∷ 8 ∷ []) (status_of (last_line_of came line))
-opened-ended how.End line = (0, lit< tt, refl)
-opened-ended (how.Fault word) line = (1, lit< tt, refl)
-opened-ended (how.HeapFull need) line = (2, lit< tt, refl)
-opened-ended (how.SinkFault need) line = (0, lit< tt, refl)
-opened-ended how.LineLimit line = (4, lit< tt, refl)
+opened-ended checks script heap rows collections n so_far how.End line comes = (0, lit< tt, refl)
+opened-ended checks script heap rows collections n so_far (how.Counted counts) line comes = (0, lit< tt, refl)
+opened-ended checks script heap rows collections n so_far (how.Fault word) line comes = (1, lit< tt, refl)
+opened-ended checks script heap rows collections n so_far (how.HeapFull need) line comes = (2, lit< tt, refl)
+opened-ended checks script heap rows collections n so_far (how.SinkFault need) line comes = absurd (comes)
+opened-ended checks script heap rows collections n so_far how.LineLimit line comes = (4, lit< tt, refl)
+opened-ended checks script heap rows collections n so_far (how.Flawed flaw) line comes = absurd (comes)
 
 -- the status of a source that is no script
 opened-refused : (stop : BadScript) (line : LastLine) → refusal_of stop ≡ Some line
@@ -95,19 +105,21 @@ opened-line words input _ (Comes.bad_words refused unread steady) line e =
 opened-line words input _ (Comes.no_memory begins read) line e =
     let is : last.NoMemory ≡ line = cc in
     inl (subst (λ l. IsKeptAt (status_of l) None) is (4, lit< tt, refl))
-opened-line words input _ (Comes.read_fault sizes asks rose) line e =
+opened-line words input _ (Comes.read_fault checks sizes asks rose) line e =
     let is : last.ReadFault ≡ line = cc in
     inl (subst (λ l. IsKeptAt (status_of l) None) is (1, lit< tt, refl))
-opened-line words input _ (Comes.too_long sizes asks many) line e =
+opened-line words input _ (Comes.too_long checks sizes asks many) line e =
     let is : last.SourceTooLong ≡ line = cc in
     inl (subst (λ l. IsKeptAt (status_of l) None) is (3, lit< tt, refl))
-opened-line words input _ (Comes.no_script sizes bytes stop at asks reads is refusal) line e =
+opened-line words input _ (Comes.no_script checks sizes bytes stop at asks reads is refusal) line e =
     let same : at ≡ line = cc in
     inl (subst (λ l. IsKeptAt (status_of l) None) same (opened-refused stop at refusal))
-opened-line words input _ (Comes.ended sizes bytes script kept came asks reads is keeps comes need) line e =
+opened-line words input _ (Comes.ended checks sizes bytes script kept came asks reads is keeps comes need) line e =
     let same : last_line_of came kept.line ≡ line = cc in
-    inl (subst (λ l. IsKeptAt (status_of l) (Some kept)) same (opened-ended came kept.line))
-opened-line words input _ (Comes.cut_short sizes bytes script kept asks reads is keeps at need none due) line e = cc
+    inl (subst (λ l. IsKeptAt (status_of l) (Some kept)) same
+    (opened-ended checks script (image_heap kept.image) keeps.spent.last.rows keeps.spent.collections kept.executed
+    keeps.reached.so_far came kept.line comes))
+opened-line words input _ (Comes.cut_short checks sizes bytes script kept asks reads is keeps at need none due) line e = cc
 opened-line words input _ (Comes.generated seed forms asks unread steady) line e =
     let same : last.Nothing ≡ line = cc in
     inr (record { seed = seed; forms = forms; asks = asks; whole = ap status_of (sym same); none = refl })
@@ -144,11 +156,11 @@ Taken-unopened old new faults_old faults_new status line written failed (inr oth
 -- what answers, by its parts
 pub Answers-keeps : (words : List (List ℕ)) (input : Input) (old new : List ℕ → Type 0) (faults_old faults_new : ℕ)
     (ended : Ended) → Answers words input old new faults_old faults_new ended
-    → IfSome ended.kept (λ kept. (sizes : Sizes) × (bytes : List ℕ) × AsksToRun words sizes × IsInput input.before bytes
+    → IfSome ended.kept (λ kept. (checks : Bool) × (sizes : Sizes) × (bytes : List ℕ) × AsksToRun words checks sizes × IsInput input.before bytes
     × KeepsGraph sizes (reading bytes) kept)
 Answers-keeps words input old new faults_old faults_new ended a =
     let P : Option Kept → Type 0 =
-    λ kept. IfSome kept (λ kept. (sizes : Sizes) × (bytes : List ℕ) × AsksToRun words sizes × IsInput input.before bytes
+    λ kept. IfSome kept (λ kept. (checks : Bool) × (sizes : Sizes) × (bytes : List ℕ) × AsksToRun words checks sizes × IsInput input.before bytes
     × KeepsGraph sizes (reading bytes) kept) in
     subst P a.kept (keeps-comes words input a.answer a.comes)
 
@@ -177,36 +189,36 @@ Answers-unopened words input old new faults_old faults_new ended line none comes
     record { answer = unopened line; kept = sym none; comes = comes; taken = taken }
 
 -- the same of a source that was read
-pub Runs-unopened : (sizes : Sizes) (bytes : List ℕ) (old new : List ℕ → Type 0) (faults_old faults_new : ℕ)
+pub Runs-unopened : (checks : Bool) (sizes : Sizes) (bytes : List ℕ) (old new : List ℕ → Type 0) (faults_old faults_new : ℕ)
     (ended : Ended)
     (line : LastLine) → ended.kept ≡ None
-    → ((words : List (List ℕ)) (input : Input) → AsksToRun words sizes → ReadsAll input bytes
+    → ((words : List (List ℕ)) (input : Input) → AsksToRun words checks sizes → ReadsAll input bytes
     → Comes words input (unopened line))
     → Taken old new faults_old faults_new (unopened line) ended.status
-    → Runs sizes bytes old new faults_old faults_new ended
-Runs-unopened sizes bytes old new faults_old faults_new ended line none comes taken =
+    → Runs checks sizes bytes old new faults_old faults_new ended
+Runs-unopened checks sizes bytes old new faults_old faults_new ended line none comes taken =
     record { answer = unopened line; kept = sym none; comes = comes; taken = taken }
 
 -- words that ask for a run begin with a command that is built
-pub begins : (words : List (List ℕ)) (sizes : Sizes) → AsksToRun words sizes → BeginsBuilt words
-begins words sizes asks = begins_built words (Run sizes) asks
+pub begins : (words : List (List ℕ)) (checks : Bool) (sizes : Sizes) → AsksToRun words checks sizes → BeginsBuilt words
+begins words checks sizes asks = begins_built words (asked_run checks sizes) asks
 
 -- want of memory once the source was read
-pub Comes-memory : (sizes : Sizes) (bytes : List ℕ) (words : List (List ℕ)) (input : Input) → AsksToRun words sizes
+pub Comes-memory : (checks : Bool) (sizes : Sizes) (bytes : List ℕ) (words : List (List ℕ)) (input : Input) → AsksToRun words checks sizes
     → ReadsAll input bytes → Comes words input (unopened last.NoMemory)
-Comes-memory sizes bytes words input asks reads = Comes.no_memory (begins words sizes asks) (inr (bytes, reads))
+Comes-memory checks sizes bytes words input asks reads = Comes.no_memory (begins words checks sizes asks) (inr (bytes, reads))
 
 -- a source that is no script
-pub Comes-refused : (sizes : Sizes) (bytes : List ℕ) (stop : BadScript) (line : LastLine) → reading bytes ≡ Err stop
-    → refusal_of stop ≡ Some line → (words : List (List ℕ)) (input : Input) → AsksToRun words sizes
+pub Comes-refused : (checks : Bool) (sizes : Sizes) (bytes : List ℕ) (stop : BadScript) (line : LastLine) → reading bytes ≡ Err stop
+    → refusal_of stop ≡ Some line → (words : List (List ℕ)) (input : Input) → AsksToRun words checks sizes
     → ReadsAll input bytes → Comes words input (unopened line)
-Comes-refused sizes bytes stop line is refusal words input asks reads =
-    Comes.no_script sizes bytes stop line asks reads is refusal
+Comes-refused checks sizes bytes stop line is refusal words input asks reads =
+    Comes.no_script checks sizes bytes stop line asks reads is refusal
 
 -- a run whose source was read, under the words that ask for it
-pub Answers-runs : (words : List (List ℕ)) (input : Input) (bytes : List ℕ) (sizes : Sizes)
-    (old new : List ℕ → Type 0) (faults_old faults_new : ℕ) (ended : Ended) → AsksToRun words sizes
+pub Answers-runs : (words : List (List ℕ)) (input : Input) (bytes : List ℕ) (checks : Bool) (sizes : Sizes)
+    (old new : List ℕ → Type 0) (faults_old faults_new : ℕ) (ended : Ended) → AsksToRun words checks sizes
     → ReadsAll input bytes
-    → Runs sizes bytes old new faults_old faults_new ended → Answers words input old new faults_old faults_new ended
-Answers-runs words input bytes sizes old new faults_old faults_new ended asks reads r =
+    → Runs checks sizes bytes old new faults_old faults_new ended → Answers words input old new faults_old faults_new ended
+Answers-runs words input bytes checks sizes old new faults_old faults_new ended asks reads r =
     record { answer = r.answer; kept = r.kept; comes = r.comes words input asks reads; taken = r.taken }

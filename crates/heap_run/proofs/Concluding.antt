@@ -1,5 +1,5 @@
 -- What a run on a heap comes to, once its last line is written.
-use Rattle.std.proofs.Common.{◌≡◌, ◌≢◌, ℕ, ◌+◌, ◌≤◌, ◌⊎◌, inl, inr, List, [], length}
+use Rattle.std.proofs.Common.{◌≡◌, ◌≢◌, ℕ, Bool, ◌+◌, ◌≤◌, ◌⊎◌, inl, inr, List, [], length}
 use Rattle.std.proofs.Common.{arith, Some, None, Ok, refl, subst, ◌∙◌}
 use Rattle.script_text.specs.Scripts.{ScriptText}
 use Rattle.script_text.specs.Grammar.{reading}
@@ -11,7 +11,7 @@ use Rattle.byte_ends.specs.Faults.{Rose}
 use Rattle.byte_ends.specs.Sink.{Appends, AppendsSome}
 use Rattle.byte_ends.proofs.Appending.{Appends-append}
 use Rattle.heap_script.specs.declared.finished.How.{How}
-use Rattle.heap_script.specs.declared.finished.How.TheVariants.{End, Fault, HeapFull, SinkFault, LineLimit}
+use Rattle.heap_script.specs.declared.finished.How.TheVariants.{End, Counted, Fault, HeapFull, SinkFault, LineLimit, Flawed}
 use Rattle.heap_script.specs.declared.finished.Finished.{Finished}
 use Rattle.heap_script.specs.Reached.{RanTo}
 use Rattle.heap_script.specs.Spending.{HasSpent}
@@ -55,15 +55,15 @@ keeps how line n is reached spent =
     record { regions = is.regions; blank = is.blank; reached = reached; spent = spent }
 
 -- a run that came to an end, and its last line
-Runs-ended : (sizes : Sizes) (bytes : List ℕ) (script : ScriptText) (image : HeapImage) (how : How) (line n status : ℕ)
+Runs-ended : (checks : Bool) (sizes : Sizes) (bytes : List ℕ) (script : ScriptText) (image : HeapImage) (how : How) (line n status : ℕ)
     (old mid new : List ℕ → Type 0) (faults_old faults_mid faults_new : ℕ) → reading bytes ≡ Ok script
     → IsKeepable sizes script image → (reached : RanTo script (image_heap image) n)
     → (spent : HasSpent script (image_heap image) n)
-    → EndsRun script (image_heap image) spent.last.rows spent.collections n reached.so_far how line
+    → EndsRun checks script (image_heap image) spent.last.rows spent.collections n reached.so_far how line
     → Appends old mid reached.so_far.bytes → faults_mid ≡ faults_old
     → Lasts how line mid new faults_mid faults_new status → (status ≡ sink_fault_status) ⊎ (status ≢ sink_fault_status)
-    → Runs sizes bytes old new faults_old faults_new (ended_by image how line n status)
-Runs-ended sizes bytes script image how line n status old mid new faults_old faults_mid faults_new
+    → Runs checks sizes bytes old new faults_old faults_new (ended_by image how line n status)
+Runs-ended checks sizes bytes script image how line n status old mid new faults_old faults_mid faults_new
     is keepable reached spent
     comes told steady lasts (inl five) =
     let (some, rose) = lasts.failed five in
@@ -77,10 +77,10 @@ Runs-ended sizes bytes script image how line n status old mid new faults_old fau
       answer = answer;
       kept = refl;
       comes = λ words input asks reads.
-          Comes.ended sizes bytes script kept how asks reads is (keeps how line n keepable reached spent) comes refl;
+          Comes.ended checks sizes bytes script kept how asks reads is (keeps how line n keepable reached spent) comes refl;
       taken = rw five (Taken.front answer all near (subst (λ f. Rose f faults_new) steady rose));
     }
-Runs-ended sizes bytes script image how line n status old mid new faults_old faults_mid faults_new
+Runs-ended checks sizes bytes script image how line n status old mid new faults_old faults_mid faults_new
     is keepable reached spent
     comes told steady lasts (inr other) =
     let (status-is, appends, same) = lasts.written other in
@@ -89,19 +89,19 @@ Runs-ended sizes bytes script image how line n status old mid new faults_old fau
       answer = record { told = reached.so_far.bytes; last = Some (last_line_of how line); kept = Some kept };
       kept = refl;
       comes = λ words input asks reads.
-          Comes.ended sizes bytes script kept how asks reads is (keeps how line n keepable reached spent) comes refl;
+          Comes.ended checks sizes bytes script kept how asks reads is (keeps how line n keepable reached spent) comes refl;
       taken = rw status-is
           (Taken.all reached.so_far.bytes (last_line_of how line) (Some kept)
           (Appends-append told appends) (same ∙ steady));
     }
 
 -- a run that the sink cut short: between two lines, or at an end
-Runs-cut : (sizes : Sizes) (bytes : List ℕ) (script : ScriptText) (image : HeapImage) (need line n : ℕ)
+Runs-cut : (checks : Bool) (sizes : Sizes) (bytes : List ℕ) (script : ScriptText) (image : HeapImage) (need line n : ℕ)
     (old new : List ℕ → Type 0) (faults_old faults_new : ℕ) → reading bytes ≡ Ok script
     → IsKeepable sizes script image
-    → (f : Finishes script (image_heap image) (finished_by (SinkFault need) line n) old new faults_old faults_new)
-    → Runs sizes bytes old new faults_old faults_new (ended_by image (SinkFault need) line n sink_fault_status)
-Runs-cut sizes bytes script image need line n old new faults_old faults_new is keepable f =
+    → (f : Finishes checks script (image_heap image) (finished_by (SinkFault need) line n) old new faults_old faults_new)
+    → Runs checks sizes bytes old new faults_old faults_new (ended_by image (SinkFault need) line n sink_fault_status)
+Runs-cut checks sizes bytes script image need line n old new faults_old faults_new is keepable f =
     let (at, cut, rose) = f.writes in
     let told = f.reached.so_far.bytes in
     let kept = kept_by image (SinkFault need) line n in
@@ -114,7 +114,7 @@ Runs-cut sizes bytes script image need line n old new faults_old faults_new is k
             answer = record { told = told; last = None; kept = Some kept };
             kept = refl;
             comes = λ words input asks reads.
-                Comes.cut_short sizes bytes script kept asks reads is kept_is none nothing uncollected due;
+                Comes.cut_short checks sizes bytes script kept asks reads is kept_is none nothing uncollected due;
             taken = Taken.front (record { told = told; last = None; kept = Some kept }) some near rose;
           }
       | inr (came, comes, same) ↦
@@ -125,39 +125,46 @@ Runs-cut sizes bytes script image need line n old new faults_old faults_new is k
             answer = record { told = told; last = Some last; kept = Some kept };
             kept = refl;
             comes = λ words input asks reads.
-                Comes.ended sizes bytes script kept came asks reads is kept_is comes same;
+                Comes.ended checks sizes bytes script kept came asks reads is kept_is comes same;
             taken = Taken.front (record { told = told; last = Some last; kept = Some kept }) some near rose;
           }
     ]
 
 -- a run on a heap, by how it finished and what the last line came to
-pub Runs-finished : (sizes : Sizes) (bytes : List ℕ) (script : ScriptText) (image : HeapImage)
+pub Runs-finished : (checks : Bool) (sizes : Sizes) (bytes : List ℕ) (script : ScriptText) (image : HeapImage)
     (how : How) (line n status : ℕ)
     (old mid new : List ℕ → Type 0) (faults_old faults_mid faults_new : ℕ) → reading bytes ≡ Ok script
     → IsKeepable sizes script image
-    → Finishes script (image_heap image) (finished_by how line n) old mid faults_old faults_mid
+    → Finishes checks script (image_heap image) (finished_by how line n) old mid faults_old faults_mid
     → (IsCut how → status ≡ sink_fault_status)
-    → (IsCut how → Finishes script (image_heap image) (finished_by how line n) old new faults_old faults_new)
+    → (IsCut how → Finishes checks script (image_heap image) (finished_by how line n) old new faults_old faults_new)
     → (¬ IsCut how → Lasts how line mid new faults_mid faults_new status)
     → (status ≡ sink_fault_status) ⊎ (status ≢ sink_fault_status)
-    → Runs sizes bytes old new faults_old faults_new (ended_by image how line n status)
-Runs-finished sizes bytes script image End line n status old mid new fo fm fn is keepable f five cut lasts dec =
-    Runs-ended sizes bytes script image End line n status old mid new fo fm fn is keepable f.reached f.spent
+    → Runs checks sizes bytes old new faults_old faults_new (ended_by image how line n status)
+Runs-finished checks sizes bytes script image End line n status old mid new fo fm fn is keepable f five cut lasts dec =
+    Runs-ended checks sizes bytes script image End line n status old mid new fo fm fn is keepable f.reached f.spent
     f.writes.0 f.writes.1 f.writes.2
     (lasts (λ no. no)) dec
-Runs-finished sizes bytes script image (Fault word) line n status old mid new fo fm fn is
+Runs-finished checks sizes bytes script image (Fault word) line n status old mid new fo fm fn is
     keepable f five cut lasts dec =
-    Runs-ended sizes bytes script image (Fault word) line n status old mid new fo fm fn is keepable f.reached f.spent
+    Runs-ended checks sizes bytes script image (Fault word) line n status old mid new fo fm fn is keepable f.reached f.spent
     f.writes.0 f.writes.1 f.writes.2
     (lasts (λ no. no)) dec
-Runs-finished sizes bytes script image (HeapFull need) line n status old mid new fo fm fn is
+Runs-finished checks sizes bytes script image (Counted counts) line n status old mid new fo fm fn is
     keepable f five cut lasts dec =
-    Runs-ended sizes bytes script image (HeapFull need) line n status old mid new fo fm fn is keepable f.reached f.spent
+    Runs-ended checks sizes bytes script image (Counted counts) line n status old mid new fo fm fn is keepable f.reached
+    f.spent f.writes.0 f.writes.1 f.writes.2 (lasts (λ no. no)) dec
+Runs-finished checks sizes bytes script image (Flawed flaw) line n status old mid new fo fm fn is
+    keepable f five cut lasts dec =
+    absurd (f.writes.0)
+Runs-finished checks sizes bytes script image (HeapFull need) line n status old mid new fo fm fn is
+    keepable f five cut lasts dec =
+    Runs-ended checks sizes bytes script image (HeapFull need) line n status old mid new fo fm fn is keepable f.reached f.spent
     f.writes.0 f.writes.1 f.writes.2 (lasts (λ no. no)) dec
-Runs-finished sizes bytes script image (SinkFault need) line n status old mid new fo fm fn is
+Runs-finished checks sizes bytes script image (SinkFault need) line n status old mid new fo fm fn is
     keepable f five cut lasts dec =
-    rw (five tt) (Runs-cut sizes bytes script image need line n old new fo fn is keepable (cut tt))
-Runs-finished sizes bytes script image LineLimit line n status old mid new fo fm fn is keepable f five cut lasts dec =
-    Runs-ended sizes bytes script image LineLimit line n status old mid new fo fm fn is keepable f.reached f.spent
+    rw (five tt) (Runs-cut checks sizes bytes script image need line n old new fo fn is keepable (cut tt))
+Runs-finished checks sizes bytes script image LineLimit line n status old mid new fo fm fn is keepable f five cut lasts dec =
+    Runs-ended checks sizes bytes script image LineLimit line n status old mid new fo fm fn is keepable f.reached f.spent
     f.writes.0 f.writes.1 f.writes.2
     (lasts (λ no. no)) dec

@@ -1,5 +1,5 @@
 -- What holds of a run on a heap holds of its image.
-use Rattle.std.proofs.Common.{◌≡◌, ℕ, zero, suc, ◌+◌, ◌≤◌, List, [], ◌∷◌, Option, Some, None, ap, ◌∙◌, sym}
+use Rattle.std.proofs.Common.{◌≡◌, ℕ, Bool, zero, suc, ◌+◌, ◌≤◌, List, [], ◌∷◌, Option, Some, None, ap, ◌∙◌, sym}
 use Rattle.std.proofs.Common.{subst, inl, inr, IsTrue, arith}
 use Rattle.std.proofs.Common.{nat_lt}
 use Rattle.std.proofs.lemmas.Bool.Decides.{nat_tests}
@@ -90,6 +90,7 @@ rows_apart (Spends.one_more old new n before line spends next reached after allo
 rows_apart (Spends.once old new n spends reached wants after collected) is = absurd (cc)
 rows_apart (Spends.twice old new n spends reached lacks after collected) is = collected.apart
 rows_apart (Spends.cleared old new n spends reached wants after collected) is = collected.apart
+rows_apart (Spends.finally old new n spends reached ends after collected) is = absurd (cc)
 
 -- where no word more is wanted, a whole heap does not lack it
 none_lacks : {heap : Heap} → Whole heap → IsTrue (lacks_room heap 0) → ⊥
@@ -147,13 +148,13 @@ full_at {heap = heap} {image = image} rows graph line need (next ∷ more) laws 
     (number-is, full_for {heap = heap} {image = image} rows graph need next.command laws shows apart is full)
 
 -- a run comes to the same on the image
-comes_imaged : {script : ScriptText} {heap image : Heap} {n : ℕ} (rows : List (List Run)) (collections : Collections)
+comes_imaged : (checks : Bool) {script : ScriptText} {heap image : Heap} {n : ℕ} (rows : List (List Run)) (collections : Collections)
     (came : How) (line : ℕ) → Laws → IsImageOf heap image → (collections ≡ fully_collected → AreFree rows)
-    → (r : RanTo script heap n) → EndsRun script heap rows collections n r.so_far came line
-    → EndsRun script image rows collections n r.so_far came line
-comes_imaged rows collections how.End line laws is apart r comes = comes
-comes_imaged rows collections (how.Fault word) line laws is apart r comes = comes
-comes_imaged {script = script} {heap = heap} {image = image} {n = n} rows collections (how.HeapFull need) line laws is
+    → (r : RanTo script heap n) → EndsRun checks script heap rows collections n r.so_far came line
+    → EndsRun checks script image rows collections n r.so_far came line
+comes_imaged checks rows collections how.End line laws is apart r comes = comes
+comes_imaged checks rows collections (how.Fault word) line laws is apart r comes = comes
+comes_imaged checks {script = script} {heap = heap} {image = image} {n = n} rows collections (how.HeapFull need) line laws is
     apart r comes =
     record {
       goes_on = comes.goes_on;
@@ -161,45 +162,51 @@ comes_imaged {script = script} {heap = heap} {image = image} {n = n} rows collec
           r.shown (apart comes.collected) is comes.full;
       collected = comes.collected;
     }
-comes_imaged rows collections (how.SinkFault need) line laws is apart r comes = comes
-comes_imaged rows collections how.LineLimit line laws is apart r comes = comes
+comes_imaged checks rows collections (how.SinkFault need) line laws is apart r comes = comes
+comes_imaged checks rows collections how.LineLimit line laws is apart r comes = comes
+comes_imaged checks rows collections (how.Counted counts) line laws is apart r comes = comes
+comes_imaged checks rows collections (how.Flawed flaw) line laws is apart r comes = comes
 
 -- the sink failed where it failed
-failed_imaged : {script : ScriptText} {heap image : Heap} {n : ℕ} (rows : List (List Run)) (collections : Collections)
+failed_imaged : (checks : Bool) {script : ScriptText} {heap image : Heap} {n : ℕ} (rows : List (List Run)) (collections : Collections)
     (line need : ℕ)
     → Laws → IsImageOf heap image → (collections ≡ fully_collected → AreFree rows) → (r : RanTo script heap n)
-    → FailedAt script heap rows collections n r.so_far line need
-    → FailedAt script image rows collections n r.so_far line need
-failed_imaged rows collections line need laws is apart r (inl between) = inl between
-failed_imaged rows collections line need laws is apart r (inr (came, comes, same)) =
-    inr (came, comes_imaged rows collections came line laws is apart r comes, same)
+    → FailedAt checks script heap rows collections n r.so_far line need
+    → FailedAt checks script image rows collections n r.so_far line need
+failed_imaged checks rows collections line need laws is apart r (inl between) = inl between
+failed_imaged checks rows collections line need laws is apart r (inr (came, comes, same)) =
+    inr (came, comes_imaged checks rows collections came line laws is apart r comes, same)
 
 -- what was written was written
-writes_imaged : {script : ScriptText} {heap image : Heap} (rows : List (List Run)) (collections : Collections)
+writes_imaged : (checks : Bool) {script : ScriptText} {heap image : Heap} (rows : List (List Run)) (collections : Collections)
     (came : How) (finished : Finished) (old new : List ℕ → Type 0) (faults_old faults_new : ℕ) → Laws
     → IsImageOf heap image
     → (collections ≡ fully_collected → AreFree rows) → (r : RanTo script heap finished.executed)
-    → Writes script heap rows collections finished r.so_far old new faults_old faults_new came
-    → Writes script image rows collections finished r.so_far old new faults_old faults_new came
-writes_imaged rows collections how.End finished old new fo fn laws is apart r (comes, appends, steady) =
-    (comes_imaged rows collections how.End finished.line laws is apart r comes, appends, steady)
-writes_imaged rows collections (how.Fault word) finished old new fo fn laws is apart r (comes, appends, steady) =
-    (comes_imaged rows collections (how.Fault word) finished.line laws is apart r comes, appends, steady)
-writes_imaged rows collections (how.HeapFull need) finished old new fo fn laws is apart r (comes, appends, steady) =
-    (comes_imaged rows collections (how.HeapFull need) finished.line laws is apart r comes, appends, steady)
-writes_imaged rows collections (how.SinkFault need) finished old new fo fn laws is apart r (failed, cut, rose) =
-    (failed_imaged rows collections finished.line need laws is apart r failed, cut, rose)
-writes_imaged rows collections how.LineLimit finished old new fo fn laws is apart r (comes, appends, steady) =
-    (comes_imaged rows collections how.LineLimit finished.line laws is apart r comes, appends, steady)
+    → Writes checks script heap rows collections finished r.so_far old new faults_old faults_new came
+    → Writes checks script image rows collections finished r.so_far old new faults_old faults_new came
+writes_imaged checks rows collections how.End finished old new fo fn laws is apart r (comes, appends, steady) =
+    (comes_imaged checks rows collections how.End finished.line laws is apart r comes, appends, steady)
+writes_imaged checks rows collections (how.Fault word) finished old new fo fn laws is apart r (comes, appends, steady) =
+    (comes_imaged checks rows collections (how.Fault word) finished.line laws is apart r comes, appends, steady)
+writes_imaged checks rows collections (how.HeapFull need) finished old new fo fn laws is apart r (comes, appends, steady) =
+    (comes_imaged checks rows collections (how.HeapFull need) finished.line laws is apart r comes, appends, steady)
+writes_imaged checks rows collections (how.SinkFault need) finished old new fo fn laws is apart r (failed, cut, rose) =
+    (failed_imaged checks rows collections finished.line need laws is apart r failed, cut, rose)
+writes_imaged checks rows collections how.LineLimit finished old new fo fn laws is apart r (comes, appends, steady) =
+    (comes_imaged checks rows collections how.LineLimit finished.line laws is apart r comes, appends, steady)
+writes_imaged checks rows collections (how.Counted counts) finished old new fo fn laws is apart r (comes, appends, steady) =
+    (comes_imaged checks rows collections (how.Counted counts) finished.line laws is apart r comes, appends, steady)
+writes_imaged checks rows collections (how.Flawed flaw) finished old new fo fn laws is apart r (comes, appends, steady) =
+    absurd (comes)
 
 -- the run finishes on the image as on the heap
-pub finishes_imaged : {script : ScriptText} {heap image : Heap} (finished : Finished) (old new : List ℕ → Type 0)
+pub finishes_imaged : (checks : Bool) {script : ScriptText} {heap image : Heap} (finished : Finished) (old new : List ℕ → Type 0)
     (faults_old faults_new : ℕ) → Laws → IsImageOf heap image
-    → Finishes script heap finished old new faults_old faults_new
-    → Finishes script image finished old new faults_old faults_new
-finishes_imaged finished old new fo fn laws is f = record {
+    → Finishes checks script heap finished old new faults_old faults_new
+    → Finishes checks script image finished old new faults_old faults_new
+finishes_imaged checks finished old new fo fn laws is f = record {
   reached = reached_imaged laws is f.reached;
   spent = spent_imaged laws f.reached is f.spent;
-  writes = writes_imaged f.spent.last.rows f.spent.collections finished.how finished old new fo fn laws is
+  writes = writes_imaged checks f.spent.last.rows f.spent.collections finished.how finished old new fo fn laws is
       (rows_apart f.spent.spends) f.reached f.writes;
 }

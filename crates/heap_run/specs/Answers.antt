@@ -1,9 +1,9 @@
 -- What a run comes to, and what of it the sink took.
-use Rattle.std.specs.Prelude.{◌≡◌, ◌⊎◌, ℕ, ◌+◌, ◌<◌, ◌≤◌, List, [], ◌∷◌, ◌++◌}
+use Rattle.std.specs.Prelude.{◌≡◌, ◌⊎◌, ℕ, ◌+◌, ◌<◌, ◌≤◌, Bool, List, [], ◌∷◌, ◌++◌}
 use Rattle.std.specs.Prelude.{length, take, drop, Option, Some, None, IfSome, MatchOption, Contains, Result, Ok, Err}
 use Rattle.heap_model.specs.Types.{Sizes}
-use Rattle.command_line.specs.declared.invocation.Invocation.TheVariants.{Run, Gen}
-use Rattle.command_line.specs.Invocations.{built_invocation_of, unbuilt_commands, BeginsBuilt}
+use Rattle.command_line.specs.declared.invocation.Invocation.TheVariants.{Gen}
+use Rattle.command_line.specs.Invocations.{built_invocation_of, unbuilt_commands, BeginsBuilt, asked_run}
 use Rattle.script_text.specs.declared.script.BadScript.{BadScript}
 use Rattle.script_text.specs.declared.script.BadScript.TheVariants as bad
 use Rattle.script_text.specs.Scripts.{ScriptText}
@@ -31,9 +31,9 @@ use Rattle.heap_run.specs.Texts.{last_bytes, status_of, sink_fault_status}
 abbrev pub source_most : ℕ
 source_most = 1048576
 
--- the words ask for the run of a script with these sizes
-abbrev pub AsksToRun : List (List ℕ) → Sizes → Type 0
-AsksToRun words sizes = built_invocation_of unbuilt_commands words ≡ Some (Run sizes)
+-- the words ask for the run of a script with these sizes, or for one that is checked
+abbrev pub AsksToRun : List (List ℕ) → Bool → Sizes → Type 0
+AsksToRun words checks sizes = built_invocation_of unbuilt_commands words ≡ Some (asked_run checks sizes)
 
 -- the words ask for the generated script of a seed, with so many forms
 abbrev pub AsksToGenerate : List (List ℕ) → ℕ → ℕ → Type 0
@@ -81,10 +81,12 @@ refusal_of bad.NoMemory = None
 -- the last line of a script that came to this at a line; a sink that failed is no end of a script
 abbrev pub last_line_of : How → ℕ → LastLine
 last_line_of how.End line = last.Nothing
+last_line_of (how.Counted counts) line = last.Checked counts
 last_line_of (how.Fault word) line = last.Fault line word
 last_line_of (how.HeapFull need) line = last.HeapFull line
 last_line_of (how.SinkFault need) line = last.Nothing
 last_line_of how.LineLimit line = last.LineLimit line
+last_line_of (how.Flawed flaw) line = last.Flawed flaw
 
 -- nothing was read, or all was
 abbrev pub ReadsNoneOrAll : Input → Type 0
@@ -119,20 +121,20 @@ pub data Comes (words : List (List ℕ)) (input : Input) : Answer → Type 0 whe
   -- reads
   no_memory : BeginsBuilt words → ReadsNoneOrAll input → Comes words input (unopened last.NoMemory)
   -- a read failed
-  read_fault : (sizes : Sizes) → AsksToRun words sizes → Rose input.faults_before input.faults_after
+  read_fault : (checks : Bool) (sizes : Sizes) → AsksToRun words checks sizes → Rose input.faults_before input.faults_after
       → Comes words input (unopened last.ReadFault)
   -- the source is too long
-  too_long : (sizes : Sizes) → AsksToRun words sizes → ReadsTooMany input
+  too_long : (checks : Bool) (sizes : Sizes) → AsksToRun words checks sizes → ReadsTooMany input
       → Comes words input (unopened last.SourceTooLong)
   -- the source is no script
-  no_script : (sizes : Sizes) (bytes : List ℕ) (stop : BadScript) (line : LastLine)
-      → AsksToRun words sizes → ReadsAll input bytes → reading bytes ≡ Err stop → refusal_of stop ≡ Some line
+  no_script : (checks : Bool) (sizes : Sizes) (bytes : List ℕ) (stop : BadScript) (line : LastLine)
+      → AsksToRun words checks sizes → ReadsAll input bytes → reading bytes ≡ Err stop → refusal_of stop ≡ Some line
       → Comes words input (unopened line)
-  -- the source is a script, and its run came to an end
-  ended : (sizes : Sizes) (bytes : List ℕ) (script : ScriptText) (kept : Kept) (came : How)
-      → AsksToRun words sizes → ReadsAll input bytes → reading bytes ≡ Ok script
+  -- the source is a script, and its run, which is checked or not, came to an end
+  ended : (checks : Bool) (sizes : Sizes) (bytes : List ℕ) (script : ScriptText) (kept : Kept) (came : How)
+      → AsksToRun words checks sizes → ReadsAll input bytes → reading bytes ≡ Ok script
       → (keeps : IsKeptHeapOf sizes script kept)
-      → EndsRun script (image_heap kept.image) keeps.spent.last.rows keeps.spent.collections kept.executed
+      → EndsRun checks script (image_heap kept.image) keeps.spent.last.rows keeps.spent.collections kept.executed
       keeps.reached.so_far came kept.line
       → kept.need ≡ need_at came
       → Comes words input (record {
@@ -142,8 +144,8 @@ pub data Comes (words : List (List ℕ)) (input : Input) : Answer → Type 0 whe
       })
   -- the source is a script, and the sink failed between two of its lines, just where an output was due, and before the
   -- heap was collected for the next line
-  cut_short : (sizes : Sizes) (bytes : List ℕ) (script : ScriptText) (kept : Kept)
-      → AsksToRun words sizes → ReadsAll input bytes → reading bytes ≡ Ok script
+  cut_short : (checks : Bool) (sizes : Sizes) (bytes : List ℕ) (script : ScriptText) (kept : Kept)
+      → AsksToRun words checks sizes → ReadsAll input bytes → reading bytes ≡ Ok script
       → (keeps : IsKeptHeapOf sizes script kept) → kept.line ≡ 0 → kept.need ≡ 0 → keeps.spent.collections ≡ uncollected
       → IsDue script kept.executed
       → Comes words input (record { told = keeps.reached.so_far.bytes; last = None; kept = Some kept })
@@ -204,12 +206,13 @@ pub record Answers (words : List (List ℕ)) (input : Input) (old new : List ℕ
   pub comes : Comes words input answer
   pub taken : Taken old new faults_old faults_new answer ended.status
 
--- the same of a run whose source was read as these bytes, for all words that ask for a run with these sizes
-pub record Runs (sizes : Sizes) (bytes : List ℕ) (old new : List ℕ → Type 0) (faults_old faults_new : ℕ)
+-- the same of a run, checked or not, whose source was read as these bytes, for all words that ask for it with these
+-- sizes
+pub record Runs (checks : Bool) (sizes : Sizes) (bytes : List ℕ) (old new : List ℕ → Type 0) (faults_old faults_new : ℕ)
     (ended : Ended) : Type 0 where
   pub answer : Answer
   pub kept : answer.kept ≡ ended.kept
-  pub comes : (words : List (List ℕ)) (input : Input) → AsksToRun words sizes → ReadsAll input bytes
+  pub comes : (words : List (List ℕ)) (input : Input) → AsksToRun words checks sizes → ReadsAll input bytes
       → Comes words input answer
   pub taken : Taken old new faults_old faults_new answer ended.status
 

@@ -6,19 +6,34 @@ use Rattle.script_text.specs.Grammar.{why_text}
 use Rattle.heap_run.specs.declared.last_line.LastLine.{LastLine}
 use Rattle.heap_run.specs.declared.last_line.LastLine.TheVariants.{Nothing, Fault, BadScript, TooManyNames, HeapFull}
 use Rattle.heap_run.specs.declared.last_line.LastLine.TheVariants.{ReadFault, SourceTooLong, NoMemory, LineLimit}
-use Rattle.heap_run.specs.declared.last_line.LastLine.TheVariants.{BadWords}
+use Rattle.heap_run.specs.declared.last_line.LastLine.TheVariants.{BadWords, Checked, Flawed}
 
 -- a head, the number of a line, and a reason
 abbrev pub reason_line : List ℕ → ℕ → List ℕ → List ℕ
 reason_line head number reason = line (head ++ decimal number ++ codes " " ++ reason)
 
+-- a head and a number
+abbrev pub numbered : List ℕ → ℕ → List ℕ
+numbered head number = head ++ decimal number
+
 -- a head and the number of a line
 abbrev pub numbered_line : List ℕ → ℕ → List ℕ
-numbered_line head number = line (head ++ decimal number)
+numbered_line head number = line (numbered head number)
+
+-- how many objects and entries were counted of a heap that was checked
+abbrev pub counts_line : ℕ → ℕ → List ℕ
+counts_line objects entries =
+    line (numbered (codes "checked objects ") objects ++ numbered (codes " entries ") entries)
+
+-- the address of a word that breaks the heap, what stands there, and what is asked for
+abbrev pub flaw_line : ℕ → ℕ → ℕ → List ℕ
+flaw_line at found wanted =
+    line (numbered (codes "flaw ") at ++ numbered (codes " ") found ++ numbered (codes " ") wanted)
 
 -- the bytes of a last line
 abbrev pub last_bytes : LastLine → List ℕ
 last_bytes Nothing = []
+last_bytes (Checked counts) = counts_line counts.objects counts.entries
 last_bytes (Fault at word) = reason_line (codes "fault ") at (fault_text word)
 last_bytes (BadScript at why) = reason_line (codes "bad script ") at (why_text why)
 last_bytes (TooManyNames at) = reason_line (codes "bad script ") at (codes "names")
@@ -28,6 +43,7 @@ last_bytes SourceTooLong = line (codes "source too long")
 last_bytes NoMemory = line (codes "no memory")
 last_bytes (LineLimit at) = numbered_line (codes "line limit ") at
 last_bytes BadWords = line (codes "bad words")
+last_bytes (Flawed flaw) = flaw_line flaw.at flaw.found flaw.wanted
 
 -- the status of a run whose sink failed
 abbrev pub sink_fault_status : ℕ
@@ -36,6 +52,7 @@ sink_fault_status = 5
 -- the status of a run that has this last line
 abbrev pub status_of : LastLine → ℕ
 status_of Nothing = 0
+status_of (Checked counts) = 0
 status_of (Fault at word) = 1
 status_of (BadScript at why) = 2
 status_of (TooManyNames at) = 2
@@ -45,3 +62,4 @@ status_of SourceTooLong = 6
 status_of NoMemory = 7
 status_of (LineLimit at) = 8
 status_of BadWords = 64
+status_of (Flawed flaw) = 70

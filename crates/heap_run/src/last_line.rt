@@ -1,13 +1,13 @@
 //! The last line of a run and its status. It is written without taking memory.
-ghost use Rattle.std.specs.Prelude.{◌≡◌, ◌≢◌, ◌++◌, codes, decimal, OnOk, OnErr};
+ghost use Rattle.std.specs.Prelude.{◌≡◌, ◌≢◌, OnOk, OnErr};
 ghost use Rattle.byte_ends.specs.Faults.{Rose};
 ghost use Rattle.byte_ends.specs.Sink.{Appends, AppendsSome};
-ghost use Rattle.heap_script.specs.declared.finished.How.TheVariants.{SinkFault as FailedSink};
-ghost use Rattle.heap_run.specs.Texts.{reason_line, numbered_line, last_bytes, status_of};
+ghost use Rattle.heap_run.specs.Texts.{reason_line, numbered, numbered_line, counts_line, flaw_line, last_bytes, status_of};
 ghost use Rattle.heap_run.specs.Texts.{sink_fault_status};
 ghost use Rattle.heap_run.specs.Answers.{last_line_of};
 
 use byte_ends::{Failed, Sink, write_all};
+use heap_checker::{Counts, Flaw};
 use heap_command::FaultWord;
 use heap_script::{Finished, How};
 use itoa::Buffer;
@@ -21,6 +21,8 @@ pub(crate) const SINK_FAULT: u8 = 5;
 pub enum LastLine {
     /// The script came to its end.
     Nothing,
+    /// The script came to its end, and so much the checker counted of the heap that is left.
+    Checked(Counts),
     /// The command of the line is a fault.
     Fault { line: u32, word: FaultWord },
     /// The line of the source is refused.
@@ -39,6 +41,8 @@ pub enum LastLine {
     LineLimit { line: u32 },
     /// The words of the command line are refused.
     BadWords,
+    /// The checker found a word that breaks the heap.
+    Flawed(Flaw),
 }
 
 impl LastLine {
@@ -49,9 +53,11 @@ impl LastLine {
         let line = finished.line;
         match finished.how {
             How::End | How::SinkFault { .. } => LastLine::Nothing,
+            How::Counted(counts) => LastLine::Checked(counts),
             How::Fault(word) => LastLine::Fault { line, word },
             How::HeapFull { .. } => LastLine::HeapFull { line },
             How::LineLimit => LastLine::LineLimit { line },
+            How::Flawed(flaw) => LastLine::Flawed(flaw),
         }
     }
 
@@ -60,7 +66,7 @@ impl LastLine {
         ensures { result ≡ status_of self }
     {
         match self {
-            LastLine::Nothing => 0,
+            LastLine::Nothing | LastLine::Checked(_) => 0,
             LastLine::Fault { .. } => 1,
             LastLine::BadScript { .. } | LastLine::TooManyNames { .. } => 2,
             LastLine::HeapFull { .. } => 3,
@@ -69,6 +75,8 @@ impl LastLine {
             LastLine::NoMemory => 7,
             LastLine::LineLimit { .. } => 8,
             LastLine::BadWords => 64,
+            // An internal error of the software, as sysexits.h has it.
+            LastLine::Flawed(_) => 70,
         }
     }
 
@@ -97,6 +105,7 @@ impl LastLine {
     {
         match self {
             LastLine::Nothing => write_all(sink, b""),
+            LastLine::Checked(counts) => write_counts(sink, counts),
             LastLine::Fault { line, word } => write_reason(sink, "fault ", line, word.text()),
             LastLine::BadScript { line, why } => write_reason(
                 sink,
@@ -111,6 +120,7 @@ impl LastLine {
             LastLine::NoMemory => write_all(sink, b"no memory\n"),
             LastLine::LineLimit { line } => write_numbered(sink, "line limit ", line),
             LastLine::BadWords => write_all(sink, b"bad words\n"),
+            LastLine::Flawed(flaw) => write_flaw(sink, flaw),
         }
     }
 }
@@ -124,7 +134,7 @@ fn write_reason<K: Sink>(sink: &mut K, head: &str, line: u32, reason: &str) -> R
     ensures failed { OnErr result (Rose (K.faults sink.old) (K.faults sink.new)) }
     ensures steady { OnOk result (K.faults sink.new ≡ K.faults sink.old) }
 {
-    write_head(sink, head, line)?;
+    write_head(sink, head, line as u64)?;
     write_all(sink, b" ")?;
     write_all(sink, reason.as_bytes())?;
     write_all(sink, b"\n")
@@ -139,19 +149,48 @@ fn write_numbered<K: Sink>(sink: &mut K, head: &str, line: u32) -> Result<(), Fa
     ensures failed { OnErr result (Rose (K.faults sink.old) (K.faults sink.new)) }
     ensures steady { OnOk result (K.faults sink.new ≡ K.faults sink.old) }
 {
-    write_head(sink, head, line)?;
+    write_head(sink, head, line as u64)?;
+    write_all(sink, b"\n")
+}
+
+/// Writes the counts of a heap that was checked.
+fn write_counts<K: Sink>(sink: &mut K, counts: Counts) -> Result<(), Failed>
+    ensures appended { OnOk result (Appends (K.HasTaken sink.old) (K.HasTaken sink.new)
+        (counts_line counts.objects counts.entries)) }
+    ensures stopped { OnErr result (AppendsSome (K.HasTaken sink.old) (K.HasTaken sink.new)
+        (counts_line counts.objects counts.entries)) }
+    ensures failed { OnErr result (Rose (K.faults sink.old) (K.faults sink.new)) }
+    ensures steady { OnOk result (K.faults sink.new ≡ K.faults sink.old) }
+{
+    write_head(sink, "checked objects ", counts.objects)?;
+    write_head(sink, " entries ", counts.entries)?;
+    write_all(sink, b"\n")
+}
+
+/// Writes the address of a word that breaks the heap, what stands there, and what is asked for.
+fn write_flaw<K: Sink>(sink: &mut K, flaw: Flaw) -> Result<(), Failed>
+    ensures appended { OnOk result (Appends (K.HasTaken sink.old) (K.HasTaken sink.new)
+        (flaw_line flaw.at flaw.found flaw.wanted)) }
+    ensures stopped { OnErr result (AppendsSome (K.HasTaken sink.old) (K.HasTaken sink.new)
+        (flaw_line flaw.at flaw.found flaw.wanted)) }
+    ensures failed { OnErr result (Rose (K.faults sink.old) (K.faults sink.new)) }
+    ensures steady { OnOk result (K.faults sink.new ≡ K.faults sink.old) }
+{
+    write_head(sink, "flaw ", flaw.at as u64)?;
+    write_head(sink, " ", flaw.found)?;
+    write_head(sink, " ", flaw.wanted)?;
     write_all(sink, b"\n")
 }
 
 /// Writes a head and a number.
-fn write_head<K: Sink>(sink: &mut K, head: &str, line: u32) -> Result<(), Failed>
+fn write_head<K: Sink>(sink: &mut K, head: &str, number: u64) -> Result<(), Failed>
     ensures appended { OnOk result
-        (Appends (K.HasTaken sink.old) (K.HasTaken sink.new) (head.now ++ decimal line)) }
+        (Appends (K.HasTaken sink.old) (K.HasTaken sink.new) (numbered head.now number)) }
     ensures stopped { OnErr result
-        (AppendsSome (K.HasTaken sink.old) (K.HasTaken sink.new) (head.now ++ decimal line)) }
+        (AppendsSome (K.HasTaken sink.old) (K.HasTaken sink.new) (numbered head.now number)) }
     ensures failed { OnErr result (Rose (K.faults sink.old) (K.faults sink.new)) }
     ensures steady { OnOk result (K.faults sink.new ≡ K.faults sink.old) }
 {
     write_all(sink, head.as_bytes())?;
-    write_all(sink, Buffer::new().format(line).as_bytes())
+    write_all(sink, Buffer::new().format(number).as_bytes())
 }

@@ -1,14 +1,15 @@
 //! The program as one call. Its last line stands in `last_line`, the run of a script in `heap_script`.
 ghost use Rattle.std.specs.Prelude.{◌≡◌, ◌≢◌, ℕ, List, [], map, length, string_bytes};
-ghost use Rattle.std.specs.Prelude.{Some, None, Ok, IfSome, IfOk};
+ghost use Rattle.std.specs.Prelude.{Bool, Some, None, Ok, IfSome, IfOk};
 ghost use Rattle.object_graph.specs.Graphs.{start};
 ghost use Rattle.script_text.specs.Grammar.{reading};
 ghost use Rattle.page_space.specs.Sizes.{AreWithin};
 ghost use Rattle.write_barrier.specs.MutatorState.{IsOpened};
-ghost use Rattle.collector.specs.States.{HeapShows};
+ghost use Rattle.collector.specs.States.{HeapState, HeapShows};
 ghost use Rattle.byte_ends.specs.Faults.{Rose};
 ghost use Rattle.byte_ends.specs.Source.{IsInput};
 ghost use Rattle.byte_ends.specs.Sink.{Appends, AppendsSome};
+ghost use Rattle.heap_script.specs.Inspecting.{counts_at_end, IsFor};
 ghost use Rattle.heap_script.specs.Runs.{AreBuilt, IsCut};
 ghost use Rattle.heap_run.specs.Texts.{last_bytes, status_of, sink_fault_status};
 ghost use Rattle.heap_run.specs.Answers.{Answers, Runs, KeepsGraph, AsksToRun, IsKeptFor, Taken};
@@ -22,7 +23,8 @@ use byte_ends::{Sink, Source};
 use collector::Heap;
 use command_line::{Invocation, WordsStop, read_words};
 use crew::Gate;
-use heap_script::{Finished, How, Output, run_script};
+use heap_checker::Checker;
+use heap_script::{Finished, How, Inspection, Output, run_script};
 use heap_table::HeapTable;
 use page_space::{Regions, Sizes};
 use script_text::{BadScript, Script, parse};
@@ -32,8 +34,9 @@ use tagged_word::NoMemory;
 
 /// Runs the program. `words` are the words of the command line without the program's name, `source`
 /// is the script, and `sink` takes what it writes and the last line. The heap has the sizes that the
-/// words give; threads and gates are not used. Where the words ask for a generated script, `sink`
-/// takes that, nothing is read, and there is no heap.
+/// words give; threads and gates are not used. Where the words ask for a check, the heap is judged
+/// behind each full collection, and once more at the script's end, with what is left counted. Where
+/// they ask for a generated script, `sink` takes that, nothing is read, and there is no heap.
 ///
 /// Where a heap is kept, it shows the graph after the executed lines, whatever became of the bytes.
 pub fn run<S: Source, K: Sink, G: Gate, R: Threads + Sync>(
@@ -49,8 +52,8 @@ pub fn run<S: Source, K: Sink, G: Gate, R: Threads + Sync>(
         (K.HasTaken sink.old) (K.HasTaken sink.new) (K.faults sink.old) (K.faults sink.new) result }
 
     // The heap that is kept, of every run.
-    ensures kept { IfSome result.kept (λ kept. (sizes : Sizes) × (input : List ℕ)
-        × AsksToRun (map string_bytes words.now) sizes × IsInput (S.left source.old) input
+    ensures kept { IfSome result.kept (λ kept. (checks : Bool) × (sizes : Sizes) × (input : List ℕ)
+        × AsksToRun (map string_bytes words.now) checks sizes × IsInput (S.left source.old) input
         × KeepsGraph sizes (reading input) kept) }
     ensures whole { IfSome result.kept (λ _.
         IfSome (S.left source.old) (λ _. S.left source.new ≡ Some [])) }
@@ -81,15 +84,33 @@ fn run_words<S: Source, K: Sink, G: Gate, R: Threads + Sync>(
         (input_of (S.left source.old) (S.left source.new) (S.faults source.old) (S.faults source.new))
         (K.HasTaken sink.old) (K.HasTaken sink.new) (K.faults sink.old) (K.faults sink.new) result }
 {
-    let sizes = match read_words(alloc, words) {
-        Ok(Invocation::Run(sizes)) => sizes,
-        Ok(Invocation::Gen { seed, forms }) => return write_generated(alloc, seed, forms, sink),
+    match read_words(alloc, words) {
+        Ok(Invocation::Run(sizes)) => run_read(rt, alloc, false, sizes, source, sink, gate),
+        Ok(Invocation::Check(sizes)) => run_read(rt, alloc, true, sizes, source, sink, gate),
+        Ok(Invocation::Gen { seed, forms }) => write_generated(alloc, seed, forms, sink),
         Ok(_) => unreachable!(),
-        Err(WordsStop::BadWords) => return give_up(sink, LastLine::BadWords),
-        Err(WordsStop::NoMemory) => return give_up(sink, LastLine::NoMemory),
-    };
+        Err(WordsStop::BadWords) => give_up(sink, LastLine::BadWords),
+        Err(WordsStop::NoMemory) => give_up(sink, LastLine::NoMemory),
+    }
+}
+
+/// Reads a source, and runs it as a script, which is checked or not.
+fn run_read<S: Source, K: Sink, G: Gate, R: Threads + Sync>(
+    rt: &R,
+    alloc: Global,
+    checks: bool,
+    sizes: Sizes,
+    source: &mut S,
+    sink: &mut K,
+    gate: &G,
+) -> Ended
+    requires { AreWithin sizes 0 }
+    ensures { (words : List (List ℕ)) → AsksToRun words checks sizes → Answers words
+        (input_of (S.left source.old) (S.left source.new) (S.faults source.old) (S.faults source.new))
+        (K.HasTaken sink.old) (K.HasTaken sink.new) (K.faults sink.old) (K.faults sink.new) result }
+{
     match read_source(alloc, source) {
-        Ok(bytes) => run_source(rt, alloc, sizes, &bytes, sink, gate),
+        Ok(bytes) => run_source(rt, alloc, checks, sizes, &bytes, sink, gate),
         Err(ReadStop::Fault) => give_up(sink, LastLine::ReadFault),
         Err(ReadStop::TooLong) => give_up(sink, LastLine::SourceTooLong),
         Err(ReadStop::NoMemory) => give_up(sink, LastLine::NoMemory),
@@ -110,13 +131,14 @@ pub(crate) fn give_up<K: Sink>(sink: &mut K, last: LastLine) -> Ended
 fn run_source<K: Sink, G: Gate, R: Threads + Sync>(
     rt: &R,
     alloc: Global,
+    checks: bool,
     sizes: Sizes,
     source: &[u8],
     sink: &mut K,
     gate: &G,
 ) -> Ended
     requires { AreWithin sizes 0 }
-    ensures { Runs sizes source.now (K.HasTaken sink.old) (K.HasTaken sink.new)
+    ensures { Runs checks sizes source.now (K.HasTaken sink.old) (K.HasTaken sink.new)
         (K.faults sink.old) (K.faults sink.new) result }
 {
     let script = match parse(alloc, source) {
@@ -129,13 +151,17 @@ fn run_source<K: Sink, G: Gate, R: Threads + Sync>(
         }
         Err(BadScript::NoMemory) => return give_up(sink, LastLine::NoMemory),
     };
-    let Ok(heap) = open_heap(alloc, Regions::new(sizes, script.variables())) else {
+    let regions = Regions::new(sizes, script.variables());
+    let Ok(heap) = open_heap(alloc, regions) else {
+        return give_up(sink, LastLine::NoMemory);
+    };
+    let Ok(inspection) = open_inspection(alloc, checks, regions) else {
         return give_up(sink, LastLine::NoMemory);
     };
     let Ok(out) = Output::new(alloc) else {
         return give_up(sink, LastLine::NoMemory);
     };
-    run_on_heap(rt, heap, out, &script, sink, gate)
+    run_on_heap(rt, heap, inspection, out, &script, sink, gate)
 }
 
 /// A heap over these regions, in which there is no object and no variable is bound.
@@ -147,10 +173,22 @@ fn open_heap(alloc: Global, regions: Regions) -> Result<Heap, NoMemory>
     Heap::open_new(alloc, seat, regions)
 }
 
-/// Runs a script on a heap that was just opened, and keeps an image of the heap.
+/// The inspection of a run on a heap over these regions: by a checker, where the run is to be checked.
+fn open_inspection(alloc: Global, checks: bool, regions: Regions) -> Result<Inspection, NoMemory>
+    ensures { IfOk result (λ inspection. (counts_at_end inspection ≡ checks)
+        × ((heap : HeapState) → heap.main.seat.space ≡ regions → IsFor heap inspection)) }
+{
+    if !checks {
+        return Ok(Inspection::Nothing);
+    }
+    Ok(Inspection::Checks(Checker::new(alloc, regions)?))
+}
+
+/// Runs a script on a heap that was just opened, which is inspected so, and keeps an image of the heap.
 fn run_on_heap<K: Sink, G: Gate, R: Threads + Sync>(
     rt: &R,
     mut heap: Heap,
+    mut inspection: Inspection,
     mut out: Output,
     script: &Script<'_>,
     sink: &mut K,
@@ -159,15 +197,16 @@ fn run_on_heap<K: Sink, G: Gate, R: Threads + Sync>(
     requires shown { HeapShows heap start }
     requires opened { IsOpened heap.main }
     requires variables { heap.main.seat.space.variables ≡ length script.now.variables }
+    requires for_heap { IsFor heap inspection }
     requires built { AreBuilt script.now.lines }
     requires empty { out ≡ [] }
     ensures { (bytes : List ℕ) → reading bytes ≡ Ok script.now →
-        Runs heap.main.seat.space.sizes bytes (K.HasTaken sink.old) (K.HasTaken sink.new)
+        Runs (counts_at_end inspection) heap.main.seat.space.sizes bytes (K.HasTaken sink.old) (K.HasTaken sink.new)
         (K.faults sink.old) (K.faults sink.new) result }
 {
     // Tells that the lines name what the script has.
     let _lines = script.lines();
-    let finished = run_script(rt, &mut heap, script, &mut out, sink, false, gate);
+    let finished = run_script(rt, &mut heap, script, &mut out, sink, &mut inspection, gate);
     let status = conclude(&finished, sink);
     let kept = Kept {
         image: heap.into_image(),
@@ -196,8 +235,6 @@ fn conclude<K: Sink>(finished: &Finished, sink: &mut K) -> u8
     match finished.how {
         // Nothing is written behind a write that failed: the sink has a front of the bytes, and no more.
         How::SinkFault { .. } => SINK_FAULT,
-        How::End | How::Fault(_) | How::HeapFull { .. } | How::LineLimit => {
-            LastLine::of(finished).conclude(sink)
-        }
+        _ => LastLine::of(finished).conclude(sink),
     }
 }

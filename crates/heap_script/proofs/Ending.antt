@@ -1,6 +1,6 @@
 -- How a run that goes no further has ended.
 use Rattle.std.proofs.Common.{◌≡◌, ℕ, ◌<◌, List, [], ◌∷◌, Option, inl, inr}
-use Rattle.std.proofs.Common.{Some, None, Err, refl, sym, ap, subst, ◌∙◌}
+use Rattle.std.proofs.Common.{Some, None, Err, false, refl, sym, ap, subst, ◌∙◌}
 use Rattle.std.specs.Prelude.{slice_get}
 use Rattle.heap_model.specs.Types.{Command, FaultWord}
 use Rattle.heap_command.specs.Executed.{Executed}
@@ -24,8 +24,8 @@ use Rattle.heap_script.specs.declared.finished.How.{How}
 use Rattle.heap_script.specs.declared.finished.How.TheVariants as how
 use Rattle.heap_script.specs.Collecting.{IsSound, CollectsFully, HasNoPlace, FaultsOn, StopsAt}
 use Rattle.heap_script.specs.Stages.{Stage, Collections, uncollected, fully_collected, stage_of}
-use Rattle.heap_script.specs.Reached.{left_after, RanTo}
-use Rattle.heap_script.specs.Runs.{EndsAs, EndsRun, FaultsBehind, IsFull, IsFullAt}
+use Rattle.heap_script.specs.Reached.{left_after, RanTo, EndsAs}
+use Rattle.heap_script.specs.Runs.{EndsRun, FaultsBehind, IsFull, IsFullAt}
 use Rattle.heap_script.specs.Progress.{how_of, CarriesLine, Pauses}
 use Rattle.heap_script.proofs.Lacking.{full_for}
 use Rattle.heap_script.proofs.Retrying.{fully_collects}
@@ -46,19 +46,19 @@ EndsAs-reached script heap n how r ends = record { within = r.within; said = r.s
 -- no line is left
 pub EndsRun-end : (script : ScriptText) (stage : Stage) (at n : ℕ) (ts : List ℕ)
     → (r : RanTo script stage.heap n) → IsLeft script.lines at ts (left_after script n)
-    → slice_get script.lines at ≡ None → EndsRun script stage.heap stage.rows uncollected n r.so_far how.End 0
+    → slice_get script.lines at ≡ None → EndsRun false script stage.heap stage.rows uncollected n r.so_far how.End 0
 EndsRun-end script stage at n ts r left none =
     let ended = at_end script.lines at ts (left_after script n) left none in
     let ends : ending ideal_limits script.fields r.so_far.graph n (left_after script n) ≡ Some end =
     ap (ending ideal_limits script.fields r.so_far.graph n) ended.1
     ∙ ending-within script.fields r.so_far.graph n [] r.few in
-    (refl, refl, EndsAs-reached script stage.heap n end r ends)
+    (refl, refl, refl, EndsAs-reached script stage.heap n end r ends)
 
 -- a line is left, and no more may be executed
 pub EndsRun-limit : (script : ScriptText) (stage : Stage) (at' n number : ℕ) (ts' : List ℕ)
     (command : Option Command) → (r : RanTo script stage.heap n)
     → Goes script.lines at' ts' (left_after script n) (executed number command) → n ≡ lines_most
-    → EndsRun script stage.heap stage.rows uncollected n r.so_far how.LineLimit number
+    → EndsRun false script stage.heap stage.rows uncollected n r.so_far how.LineLimit number
 EndsRun-limit script stage at' n number ts' command r goes most =
     let ends : ending ideal_limits script.fields r.so_far.graph n (left_after script n) ≡ Some (limit_at number) =
     ap (ending ideal_limits script.fields r.so_far.graph n) goes.is
@@ -72,7 +72,7 @@ EndsRun-faulted : (script : ScriptText) (stage : Stage) (at' n number : ℕ) (ts
     → (r : RanTo script stage.heap n) → n < lines_most
     → Goes script.lines at' ts' (left_after script n) (executed number (Some command))
     → does ideal_limits script.fields r.so_far.graph command ≡ fault word
-    → EndsRun script stage.heap stage.rows collections n r.so_far (how.Fault word) number
+    → EndsRun false script stage.heap stage.rows collections n r.so_far (how.Fault word) number
 EndsRun-faulted script stage at' n number ts' command word collections behind r below goes does-is =
     let graph = r.so_far.graph in
     let ends : ending ideal_limits script.fields graph n (left_after script n) ≡ Some (fault_at number word) =
@@ -86,7 +86,7 @@ EndsRun-full : (script : ScriptText) (old main : Mutator) (at' n number : ℕ) (
     (need : ℕ) (r : RanTo script (heap_of main) n) → CollectsAll old main r.so_far.graph → n < lines_most
     → Goes script.lines at' ts' (left_after script n) (executed number (Some command))
     → IsSound script.fields r.so_far.graph command → HasNoPlace main r.so_far.graph command need
-    → EndsRun script (heap_of main) main.free fully_collected n r.so_far (how.HeapFull need) number
+    → EndsRun false script (heap_of main) main.free fully_collected n r.so_far (how.HeapFull need) number
 EndsRun-full script old main at' n number ts' command need r collects below goes sound place =
     let graph = r.so_far.graph in
     let leaves = collects.leaves in
@@ -112,33 +112,33 @@ pub record Stopped (script : ScriptText) (heap : HeapState) (objects : ℕ) (wai
     (old new : List ℕ → Type 0) (at : ℕ) (ts : List ℕ) (n : ℕ) (came : How) (line : ℕ) : Type 0 where
   pub collections : Collections
   pub running : Running script heap objects waiting old new at ts n collections
-  pub comes : EndsRun script (heap_of heap.main) heap.main.free collections n running.reached.so_far came line
+  pub comes : EndsRun false script (heap_of heap.main) heap.main.free collections n running.reached.so_far came line
 
 -- it halts there
 pub Pauses-stopped : {script : ScriptText} {heap : HeapState} {objects : ℕ} {waiting : List ℕ}
     {old new : List ℕ → Type 0} {at : ℕ} {ts : List ℕ} {n line : ℕ} (stop : Stop) {faults_old faults_new : ℕ}
     → Stopped script heap objects waiting old new at ts n (how_of stop) line → faults_new ≡ faults_old
-    → Pauses script (stage_of heap.main) waiting (record { how = how_of stop; line = line; executed = n }) old new
+    → Pauses false script heap waiting (record { how = how_of stop; line = line; executed = n }) old new
     faults_old faults_new
 Pauses-stopped (Fault word) s steady = record {
   reached = s.running.reached;
   collections = s.collections;
   spends = s.running.spends;
-  free = s.running.shown.main.free;
+  shown = s.running.shown;
   halts = (s.comes, s.running.handed, steady);
 }
 Pauses-stopped (NoRoom need) s steady = record {
   reached = s.running.reached;
   collections = s.collections;
   spends = s.running.spends;
-  free = s.running.shown.main.free;
+  shown = s.running.shown;
   halts = (s.comes, s.running.handed, steady);
 }
 Pauses-stopped (NoClear entries) s steady = record {
   reached = s.running.reached;
   collections = s.collections;
   spends = s.running.spends;
-  free = s.running.shown.main.free;
+  shown = s.running.shown;
   halts = (s.comes, s.running.handed, steady);
 }
 
@@ -202,14 +202,14 @@ pub Stopped-line : (script : ScriptText) (heap after : HeapState) (objects : ℕ
     (old new : List ℕ → Type 0) (at at' : ℕ) (ts ts' : List ℕ) (n number : ℕ) (command : Option Command)
     (text : List ℕ) (stop : Stop) → (r : Running script heap objects waiting old new at ts n uncollected)
     → n < lines_most
-    → Goes script.lines at' ts' (left_after script n) (executed number command) → after.spare ≡ heap.spare
+    → Goes script.lines at' ts' (left_after script n) (executed number command) → after.rest ≡ heap.rest
     → CarriesLine script.fields heap.main after.main r.reached.so_far.graph command text (Err stop)
     → Stopped script after objects waiting old new at ts n (how_of stop) number
-Stopped-line script heap after objects waiting old new at at' ts ts' n number None text stop r below goes spare
+Stopped-line script heap after objects waiting old new at at' ts ts' n number None text stop r below goes rest
     (same, nothing, is) =
     absurd (cc)
 Stopped-line script heap after objects waiting old new at at' ts ts' n number (Some command) text stop r below goes
-    spare stops =
+    rest stops =
     subst (λ one. Stopped script one objects waiting old new at ts n (how_of stop) number)
-    (same_heap after (heap_with heap after.main) refl (sym spare))
+    (same_heap after (heap_with heap after.main) refl (sym rest))
     (Stopped-command number command after.main r below goes stop stops)

@@ -15,3 +15,5 @@ mod LineCarried
 mod Passing
 mod Ending
 mod Finishing
+mod Judging
+mod Judged

@@ -36,15 +36,15 @@ Running-served : (script : ScriptText) (heap after : HeapState) (found : Mutator
     (old new : List ℕ → Type 0) (at at' : ℕ) (ts ts' : List ℕ) (n number : ℕ) (command : Command) (text : List ℕ)
     {collections : Collections} → (r : Running script heap objects waiting old new at ts n collections) → n < lines_most
     → Goes script.lines at' ts' (left_after script n) (executed number (Some command))
-    → after.spare ≡ heap.spare → AsksForNone command → Served heap.main found r.reached.so_far.graph collections command
+    → after.rest ≡ heap.rest → AsksForNone command → Served heap.main found r.reached.so_far.graph collections command
     → FindsMapNotFull found r.reached.so_far.graph command
     → Carries script.fields found after.main r.reached.so_far.graph command text (Ok tt)
     → Running script after (objects + objects_made command) (waiting ++ text) old new at' ts' (n + 1) uncollected
-Running-served script heap after found objects waiting old new at at' ts ts' n number command text r below goes spare
+Running-served script heap after found objects waiting old new at at' ts ts' n number command text r below goes rest
     apart served_so unfull (graph, does-is, shown, takes) =
     let done = allocated command r.shown.main r.ungranted served_so unfull takes in
     Running-carried script heap after objects waiting old new at at' ts ts' n number command text graph r below goes
-    spare done.allocates.space does-is shown (LineAllocates.allocates command apart done.allocates) done.ungranted
+    rest done.allocates.space does-is shown (LineAllocates.allocates command apart done.allocates) done.ungranted
     done.rows
 
 -- it was carried out once a scavenge had made room for the words that it lacked
@@ -52,18 +52,18 @@ Running-scavenged : (script : ScriptText) (heap after : HeapState) (found : Muta
     (old new : List ℕ → Type 0) (at at' : ℕ) (ts ts' : List ℕ) (n number : ℕ) (command : Command) (text : List ℕ)
     (need : ℕ) → (r : Running script heap objects waiting old new at ts n uncollected) → n < lines_most
     → Goes script.lines at' ts' (left_after script n) (executed number (Some command))
-    → after.spare ≡ heap.spare → AsksForNone command → Wants script n r.reached.so_far command
+    → after.rest ≡ heap.rest → AsksForNone command → Wants script n r.reached.so_far command
     → IsSound script.fields r.reached.so_far.graph command
     → LacksWords heap.main r.reached.so_far.graph command need → MakesRoom heap.main found false need
     → FindsMapNotFull found r.reached.so_far.graph command
     → Carries script.fields found after.main r.reached.so_far.graph command text (Ok tt)
     → Running script after (objects + objects_made command) (waiting ++ text) old new at' ts' (n + 1) uncollected
 Running-scavenged script heap after found objects waiting old new at at' ts ts' n number command text need r below goes
-    spare apart wanted sound lacks makes unfull carries =
+    rest apart wanted sound lacks makes unfull carries =
     let behind = Running-once r wanted sound lacks makes.scavenges makes.keeps in
     let empty = ap (λ (young : Young). young.used) makes.scavenges.young in
     Running-served script (heap_with heap makes.mid) after found objects waiting old new at at' ts ts' n number command
-    text behind below goes spare apart
+    text behind below goes rest apart
     (served makes.serves (λ (is : scavenged ≡ uncollected). cc)
     (λ rooms has. lacks.needs rooms ((makes.keeps.rooms r.reached.so_far.graph rooms r.shown.main).1 has))
     (unfull_behind makes.keeps r.shown.main lacks.unfull) empty)
@@ -74,17 +74,17 @@ Running-granted : (script : ScriptText) (heap after : HeapState) (last found : M
     (waiting : List ℕ) (old new : List ℕ → Type 0) (at at' : ℕ) (ts ts' : List ℕ) (n number : ℕ) (command : Command)
     (text : List ℕ) (need : ℕ) → (r : Running script heap objects waiting old new at ts n uncollected) → n < lines_most
     → Goes script.lines at' ts' (left_after script n) (executed number (Some command))
-    → after.spare ≡ heap.spare → AsksForNone command → Wants script n r.reached.so_far command
+    → after.rest ≡ heap.rest → AsksForNone command → Wants script n r.reached.so_far command
     → CollectsFully script.fields heap.main last r.reached.so_far.graph command
     → LacksWords last r.reached.so_far.graph command need → Serves last found need
     → FindsMapNotFull found r.reached.so_far.graph command
     → Carries script.fields found after.main r.reached.so_far.graph command text (Ok tt)
     → Running script after (objects + objects_made command) (waiting ++ text) old new at' ts' (n + 1) uncollected
 Running-granted script heap after last found objects waiting old new at at' ts ts' n number command text need r below
-    goes spare apart wanted fully lacks serves unfull carries =
+    goes rest apart wanted fully lacks serves unfull carries =
     let (mid, collects) = fully_collects fully in
     Running-served script (heap_with heap last) after found objects waiting old new at at' ts ts' n number command text
-    (Running-fully r wanted fully) below goes spare apart
+    (Running-fully r wanted fully) below goes rest apart
     (served serves (λ (is : fully_collected ≡ uncollected). cc) lacks.needs lacks.unfull collects.leaves.emptied) unfull
     carries
 
@@ -93,38 +93,38 @@ Running-found : (script : ScriptText) (heap after : HeapState) (found : Mutator)
     (old new : List ℕ → Type 0) (at at' : ℕ) (ts ts' : List ℕ) (n number : ℕ) (command : Command) (text : List ℕ)
     → (r : Running script heap objects waiting old new at ts n uncollected) → n < lines_most
     → Goes script.lines at' ts' (left_after script n) (executed number (Some command))
-    → after.spare ≡ heap.spare → AsksForNone command
+    → after.rest ≡ heap.rest → AsksForNone command
     → Collects script.fields heap.main found r.reached.so_far.graph command
     → FindsMapNotFull found r.reached.so_far.graph command
     → Carries script.fields found after.main r.reached.so_far.graph command text (Ok tt)
     → Running script after (objects + objects_made command) (waiting ++ text) old new at' ts' (n + 1) uncollected
-Running-found script heap after found objects waiting old new at at' ts ts' n number command text r below goes spare
+Running-found script heap after found objects waiting old new at at' ts ts' n number command text r below goes rest
     apart (Collects.unchanged same) unfull carries =
     Running-served script heap after found objects waiting old new at at' ts ts' n number command text r below goes
-    spare apart (Served.as_it_is same) unfull carries
-Running-found script heap after found objects waiting old new at at' ts ts' n number command text r below goes spare
+    rest apart (Served.as_it_is same) unfull carries
+Running-found script heap after found objects waiting old new at at' ts ts' n number command text r below goes rest
     apart (Collects.scavenged need sound lacks makes) unfull carries =
     Running-scavenged script heap after found objects waiting old new at at' ts ts' n number command text need r below
-    goes spare apart (wants r.reached.so_far below goes) sound lacks makes unfull carries
-Running-found script heap after found objects waiting old new at at' ts ts' n number command text r below goes spare
+    goes rest apart (wants r.reached.so_far below goes) sound lacks makes unfull carries
+Running-found script heap after found objects waiting old new at at' ts ts' n number command text r below goes rest
     apart (Collects.collected fully) unfull carries =
     Running-served script (heap_with heap found) after found objects waiting old new at at' ts ts' n number command text
-    (Running-fully r (wants r.reached.so_far below goes) fully) below goes spare apart (Served.as_it_is refl) unfull
+    (Running-fully r (wants r.reached.so_far below goes) fully) below goes rest apart (Served.as_it_is refl) unfull
     carries
-Running-found script heap after found objects waiting old new at at' ts ts' n number command text r below goes spare
+Running-found script heap after found objects waiting old new at at' ts ts' n number command text r below goes rest
     apart (Collects.granted last need fully lacks serves) unfull carries =
     Running-granted script heap after last found objects waiting old new at at' ts ts' n number command text need r
-    below goes spare apart (wants r.reached.so_far below goes) fully lacks serves unfull carries
+    below goes rest apart (wants r.reached.so_far below goes) fully lacks serves unfull carries
 
 -- a command was carried out that asks for a collection
 Running-asked : (script : ScriptText) (heap after : HeapState) (objects : ℕ) (waiting : List ℕ)
     (old new : List ℕ → Type 0) (at at' : ℕ) (ts ts' : List ℕ) (n number : ℕ) (command : Command) (text : List ℕ)
     → (r : Running script heap objects waiting old new at ts n uncollected) → n < lines_most
     → Goes script.lines at' ts' (left_after script n) (executed number (Some command))
-    → after.spare ≡ heap.spare
+    → after.rest ≡ heap.rest
     → CarriesAsked script.fields heap.main after.main r.reached.so_far.graph command text
     → Running script after (objects + objects_made command) (waiting ++ text) old new at' ts' (n + 1) uncollected
-Running-asked script heap after objects waiting old new at at' ts ts' n number command text r below goes spare
+Running-asked script heap after objects waiting old new at at' ts ts' n number command text r below goes rest
     (CarriesAsked.scavenges is scavenges keeps (graph, does-is, shown, takes)) =
     let before = r.reached.so_far.graph in
     let Uses : Command → Type 0 =
@@ -132,11 +132,11 @@ Running-asked script heap after objects waiting old new at at' ts ts' n number c
     let uses : Uses command =
     subst Uses (sym is) (LineAllocates.collects (collected_by scavenges keeps r.shown.main)) in
     Running-carried script heap after objects waiting old new at at' ts ts' n number command text graph r below goes
-    spare scavenges.seat.space does-is shown uses (ungranted_by scavenges) scavenges.rows
-Running-asked script heap after objects waiting old new at at' ts ts' n number command text r below goes spare
+    rest scavenges.seat.space does-is shown uses (ungranted_by scavenges) scavenges.rows
+Running-asked script heap after objects waiting old new at at' ts ts' n number command text r below goes rest
     (CarriesAsked.collects asks collects (graph, does-is, shown, takes)) =
     Running-carried script heap after objects waiting old new at at' ts ts' n number command text graph r below goes
-    spare collects.seat.space does-is shown (LineAllocates.collects_all command asks collects.leaves) collects.ungranted
+    rest collects.seat.space does-is shown (LineAllocates.collects_all command asks collects.leaves) collects.ungranted
     collects.rows
 
 -- whichever the command asks for
@@ -144,15 +144,15 @@ Running-by : (script : ScriptText) (heap after : HeapState) (objects : ℕ) (wai
     (old new : List ℕ → Type 0) (at at' : ℕ) (ts ts' : List ℕ) (n number : ℕ) (command : Command) (text : List ℕ)
     → (r : Running script heap objects waiting old new at ts n uncollected) → n < lines_most
     → Goes script.lines at' ts' (left_after script n) (executed number (Some command))
-    → after.spare ≡ heap.spare
+    → after.rest ≡ heap.rest
     → IsCarriedOut script.fields heap.main after.main r.reached.so_far.graph command text
     → Running script after (objects + objects_made command) (waiting ++ text) old new at' ts' (n + 1) uncollected
-Running-by script heap after objects waiting old new at at' ts ts' n number command text r below goes spare
+Running-by script heap after objects waiting old new at at' ts ts' n number command text r below goes rest
     (IsCarriedOut.asked asked) =
-    Running-asked script heap after objects waiting old new at at' ts ts' n number command text r below goes spare asked
-Running-by script heap after objects waiting old new at at' ts ts' n number command text r below goes spare
+    Running-asked script heap after objects waiting old new at at' ts ts' n number command text r below goes rest asked
+Running-by script heap after objects waiting old new at at' ts ts' n number command text r below goes rest
     (IsCarriedOut.unasked found apart collects shows unfull carries) =
-    Running-found script heap after found objects waiting old new at at' ts ts' n number command text r below goes spare
+    Running-found script heap after found objects waiting old new at at' ts ts' n number command text r below goes rest
     apart collects unfull carries
 
 -- a line was executed
@@ -161,16 +161,16 @@ pub Running-line : (script : ScriptText) (heap after : HeapState) (objects : ℕ
     (text : List ℕ)
     → (r : Running script heap objects waiting old new at ts n uncollected) → n < lines_most
     → Goes script.lines at' ts' (left_after script n) (executed number command)
-    → after.spare ≡ heap.spare
+    → after.rest ≡ heap.rest
     → CarriesLine script.fields heap.main after.main r.reached.so_far.graph command text (Ok tt)
     → Running script after (objects + made_by command) (waiting ++ text) old new at' ts' (n + 1) uncollected
-Running-line script heap after objects waiting old new at at' ts ts' n number None text r below goes spare
+Running-line script heap after objects waiting old new at at' ts ts' n number None text r below goes rest
     (same, nothing, is) =
     let passed = Running-passed script heap objects waiting old new at at' ts ts' n number r below goes in
-    rw (same_heap heap after same spare, nothing, append-nil, add-zero) passed
-Running-line script heap after objects waiting old new at at' ts ts' n number (Some command) text r below goes spare
+    rw (same_heap heap after same rest, nothing, append-nil, add-zero) passed
+Running-line script heap after objects waiting old new at at' ts ts' n number (Some command) text r below goes rest
     carries =
-    Running-by script heap after objects waiting old new at at' ts ts' n number command text r below goes spare carries
+    Running-by script heap after objects waiting old new at at' ts ts' n number command text r below goes rest carries
 
 -- a command that was carried out is no fault, and told its text
 carried_means : {names : List (List ℕ)} {old new : Mutator} {graph : Graph} {command : Command} {text : List ℕ}

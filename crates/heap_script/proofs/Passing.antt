@@ -1,7 +1,7 @@
 -- A line that comes through without a look at why another would not: what its command did, and the run behind it.
 use Rattle.std.proofs.Common.{◌≡◌, ◌∙◌, ℕ, ◌+◌, ◌≤◌, Bool, true, false, List, [], ◌++◌, length, Result, Ok, Err}
 use Rattle.std.proofs.Common.{is_ok, refl, sym, ap, subst, cond, arith}
-use Rattle.std.specs.Prelude.{nat_lt, if◌then◌else◌}
+use Rattle.std.specs.Prelude.{nat_lt}
 use Rattle.std.proofs.lemmas.Bool.Decides.{nat_tests}
 use Rattle.heap_model.specs.Types.{Command}
 use Rattle.object_graph.specs.Graphs.{Graph}
@@ -28,7 +28,7 @@ tried_well (Err stop) well tries = absurd (cc)
 
 -- a heap with another mutator's side
 abbrev pub with_main : Mutator → HeapState → HeapState
-with_main main heap = record { main = main; spare = heap.spare }
+with_main main heap = record { main = main; rest = heap.rest }
 
 -- one that stopped left the heap as it was
 pub tried_ill : (names : List (List ℕ)) (heap : HeapState) {new : Mutator} (graph : Graph) (command : Command)
@@ -39,15 +39,9 @@ tried_ill names heap {new} graph command text (Err stop) ill tries =
     let (none, carries, asks) = stopped_there tries in
     same_heap heap (with_main new heap) (same_stopped names heap.main new graph command text stop carries) refl
 
--- the output of a command that was carried out has its text
-pub wrote_well : (result : Result (Unit {0}) Stop) (old text : List ℕ) {new : List ℕ} → is_ok result ≡ true
-    → new ≡ (if is_ok result then old ++ text else old) → new ≡ old ++ text
-wrote_well result old text well is = is ∙ ap (λ (test : Bool). if test then old ++ text else old) well
-
--- that of one that stopped is as it was
-pub wrote_ill : (result : Result (Unit {0}) Stop) (old text : List ℕ) {new : List ℕ} → is_ok result ≡ false
-    → new ≡ (if is_ok result then old ++ text else old) → new ≡ old
-wrote_ill result old text ill is = is ∙ ap (λ (test : Bool). if test then old ++ text else old) ill
+-- nor did one that left the mutator's side, which it was lent, as it was
+pub lent_still : (heap : HeapState) {lent new : Mutator} → lent ≡ heap.main → new ≡ lent → with_main new heap ≡ heap
+lent_still heap {new = new} lent same = same_heap heap (with_main new heap) (same ∙ lent) refl
 
 -- what a run told was handed on or waits: the first was taken
 pub as_taken : {script : ScriptText} {heap : HeapState} {objects at n : ℕ} {waiting : List ℕ}

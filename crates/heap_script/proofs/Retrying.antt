@@ -15,7 +15,7 @@ use Rattle.write_barrier.specs.MutatorState.{Mutator, heap_of, MainShows}
 use Rattle.scavenger.specs.Laws.{KeepsGraphs}
 use Rattle.exact_heaps.specs.Collected.{CollectsAll}
 use Rattle.collector.specs.Making.{IsOutOfRoom, Serves, MakesRoom}
-use Rattle.collector.specs.States.{HeapState, HeapShows, Spare}
+use Rattle.collector.specs.States.{HeapState, HeapShows, Rest}
 use Rattle.heap_script.specs.declared.making_way.Tried.{Tried}
 use Rattle.heap_script.specs.declared.making_way.Tried.TheVariants.{Once, Scavenged, Collected, Granted}
 use Rattle.heap_script.specs.Collecting.{AsksForNone, IsSound, LacksWords, FindsPairs, CollectsFully, Collects, Tries}
@@ -39,7 +39,7 @@ pub data Stands (names : List (List ℕ)) (old now : Mutator) (graph : Graph) (c
 pub record IsReady (names : List (List ℕ)) (old now : HeapState) (objects : ℕ) (command : Command) (tried : Tried)
     : Type 0 where
   pub shows : (graph : Graph) → HeapShows old graph → HeapShows now graph
-  pub spare : now.spare ≡ old.spare
+  pub rest : now.rest ≡ old.rest
   pub stands : (graph : Graph) → HeapShows old graph → objects ≡ length graph.objects
       → Stands names old.main now.main graph command tried
 
@@ -55,15 +55,15 @@ pub ready_first : (names : List (List ℕ)) (heap : HeapState) (objects : ℕ) (
     → IsReady names heap heap objects command Once
 ready_first names heap objects command = record {
   shows = λ graph shown. shown;
-  spare = refl;
+  rest = refl;
   stands = λ graph shown made. Stands.once refl;
 }
 
 -- a heap that shows a graph has the regions of one that shows one, with the same memory for an image
 pub same_regions : (heap after : HeapState) {graph other : Graph} → HeapShows heap graph → HeapShows after other
-    → after.spare ≡ heap.spare → after.main.seat.space ≡ heap.main.seat.space
-same_regions heap after shown shows spare =
-    sym shows.regions ∙ ap (λ (s : Spare). s.image.regions) spare ∙ shown.regions
+    → after.rest ≡ heap.rest → after.main.seat.space ≡ heap.main.seat.space
+same_regions heap after shown shows rest =
+    sym shows.regions ∙ ap (λ (s : Rest). s.image.regions) rest ∙ shown.regions
 
 -- a heap at a try has the regions that there were
 pub ready_space : {names : List (List ℕ)} {old now : HeapState} {objects : ℕ} {command : Command} {tried : Tried}
@@ -71,7 +71,7 @@ pub ready_space : {names : List (List ℕ)} {old now : HeapState} {objects : ℕ
     → (graph : Graph) × HeapShows old graph × (objects ≡ length graph.objects)
     → now.main.seat.space ≡ old.main.seat.space
 ready_space {old = old} {now} ready (graph, shown, made) =
-    same_regions old now shown (ready.shows graph shown) ready.spare
+    same_regions old now shown (ready.shows graph shown) ready.rest
 
 -- a full collection came last
 pub fully_collects : {names : List (List ℕ)} {old new : Mutator} {graph : Graph} {command : Command}

@@ -161,13 +161,13 @@ pub Running-carried : (script : ScriptText) (heap after : HeapState) (objects : 
     (graph : Graph) {collections : Collections} → (r : Running script heap objects waiting old new at ts n collections)
     → n < lines_most
     → Goes script.lines at' ts' (left_after script n) (executed number (Some command))
-    → after.spare ≡ heap.spare → after.main.seat.space ≡ heap.main.seat.space
+    → after.rest ≡ heap.rest → after.main.seat.space ≡ heap.main.seat.space
     → does ideal_limits script.fields r.reached.so_far.graph command ≡ done graph text → MainShows after.main graph
     → LineAllocates (stage_of heap.main) (stage_of after.main) r.reached.so_far.graph graph collections (Some command)
     → in_eden after.main.young ≡ true → length after.main.free ≡ length heap.main.free
     → Running script after (objects + objects_made command) (waiting ++ text) old new at' ts' (n + 1) uncollected
 Running-carried script heap after objects waiting old new at at' ts ts' n number command text graph {collections} r
-    below goes spare space does-is shown uses ungranted rows =
+    below goes rest space does-is shown uses ungranted rows =
     let so_far = r.reached.so_far in
     let later : Told = record { graph = graph; bytes = so_far.bytes ++ text } in
     let line = executed number (Some command) in
@@ -185,7 +185,7 @@ Running-carried script heap after objects waiting old new at at' ts ts' n number
       spends = Spends.one_more (stage_of heap.main) (stage_of after.main) n collections line r.spends
           (next_at (executed_lines script.lines) n line goes.rest goes.is) r.reached reached uses;
       ungranted = ungranted;
-      shown = still_shows heap after graph r.shown spare space rows shown;
+      shown = still_shows heap after graph r.shown rest space rows shown;
       left = subst (IsLeft script.lines at' ts') (sym (dropped-next script n next)) goes.left;
       handed = Handed-told text r.handed;
       made = ap (λ m. m + objects_made command) r.made

@@ -172,7 +172,7 @@ no_way now made Granted (NoClear entries) way = way.1
 -- objects it had, and what was told of the try on whichever graph.
 module _ (names : List (List ℕ)) {old now : HeapState} (after : HeapState) {objects counted : ℕ} {command : Command}
     {stop : Stop} {tried : Tried} {Rest : Type 0} (ready : IsReady names old now objects command tried)
-    (same : counted ≡ objects) (spare : after.spare ≡ now.spare)
+    (same : counted ≡ objects) (rest : after.rest ≡ now.rest)
     (some : (graph : Graph) × HeapShows old graph × (objects ≡ length graph.objects))
     (carried : (graph : Graph) → HeapShows now graph → counted ≡ length graph.objects
     → (text : List ℕ) × Tries names now.main after.main graph command text (Err stop) × Rest) where
@@ -190,7 +190,7 @@ module _ (names : List (List ℕ)) {old now : HeapState} (after : HeapState) {ob
   unchanged =
       let (graph, shown, made) = some in
       let (text, apart, carries, asks) = stopped_on graph shown made in
-      same_heap now after (same_stopped names now.main after.main graph command text stop carries) spare
+      same_heap now after (same_stopped names now.main after.main graph command text stop carries) rest
 
   -- it may be made way for
   pub servable : IsWithin old.main.seat.space.variables field_numbers command → IsServable stop
@@ -211,14 +211,14 @@ module _ (names : List (List ℕ)) {old now : HeapState} (after : HeapState) {ob
       (subst (Stands names old.main now.main graph command) scavenged (ready.stands graph shown made)) finds
 
   module _ {made : HeapState} (space : (graph : Graph) → HeapShows after graph → HeapShows made graph)
-      (kept : made.spare ≡ after.spare) where
+      (kept : made.rest ≡ after.rest) where
     -- so the heap is at a try again, where way was made
     pub ready_next : {next : Tried} → MakesWay after made tried stop (Some next)
         → IsReady names old made objects command next
     ready_next {next} way = record {
       shows = λ graph shown.
           space graph (subst (λ one. HeapShows one graph) (sym unchanged) (ready.shows graph shown));
-      spare = kept ∙ spare ∙ ready.spare;
+      rest = kept ∙ rest ∙ ready.rest;
       stands = λ graph shown counted_so.
           let (text, apart, carries, asks) = stopped_on graph shown counted_so in
           stands_next names old now made after.main graph command text shown (ready.shows graph shown) apart tried stop

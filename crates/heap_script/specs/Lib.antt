@@ -2,6 +2,7 @@ pub mod Stages
 pub mod Reached
 pub mod Spending
 pub mod Runs
+pub mod Inspecting
 pub mod LoopCounters
 pub mod Collecting
 pub mod MakingWay

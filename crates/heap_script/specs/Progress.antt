@@ -1,5 +1,5 @@
 -- How far a run has come between two of its lines.
-use Rattle.std.specs.Prelude.{◌≡◌, ℕ, List, [], ◌++◌, Option, Some, None, Result, Ok, Err}
+use Rattle.std.specs.Prelude.{◌≡◌, ℕ, Bool, List, [], ◌++◌, Option, Some, None, Result, Ok, Err}
 use Rattle.heap_model.specs.Types.{Command}
 use Rattle.heap_command.specs.declared.command.Command.TheVariants as command
 use Rattle.heap_command.specs.declared.command.FaultWord.TheVariants.{WeakFull}
@@ -10,15 +10,15 @@ use Rattle.script_text.specs.declared.script.What.TheVariants.{Run}
 use Rattle.script_text.specs.Scripts.{ScriptText}
 use Rattle.mutator.specs.declared.stop.Stop.{Stop}
 use Rattle.mutator.specs.declared.stop.Stop.TheVariants as stop
-use Rattle.write_barrier.specs.MutatorState.{Mutator}
-use Rattle.heap_model.specs.Collectable.{AreFreeRuns}
+use Rattle.write_barrier.specs.MutatorState.{Mutator, heap_of}
+use Rattle.collector.specs.States.{HeapState, HeapShows}
 use Rattle.byte_ends.specs.Faults.{Rose}
 use Rattle.byte_ends.specs.Sink.{Appends}
 use Rattle.heap_script.specs.declared.finished.How.{How}
 use Rattle.heap_script.specs.declared.finished.How.TheVariants.{Fault, HeapFull, SinkFault}
 use Rattle.heap_script.specs.declared.finished.Finished.{Finished}
 use Rattle.heap_script.specs.Collecting.{CarriesAtLast}
-use Rattle.heap_script.specs.Stages.{Stage, Collections, uncollected}
+use Rattle.heap_script.specs.Stages.{Stage, Collections, uncollected, stage_of}
 use Rattle.heap_script.specs.Reached.{RanTo}
 use Rattle.heap_script.specs.Spending.{Spends}
 use Rattle.heap_script.specs.Runs.{EndsRun, IsDue, CutsOff}
@@ -67,21 +67,22 @@ pub record Handed (old new : List ℕ → Type 0) (waiting all : List ℕ) : Typ
 
 -- The run came to this, and what it told was handed on or waits. Or the sink failed between two lines, where an output
 -- was due and no collection came since the last line, and a front of what was told was written.
-abbrev pub Halts : ScriptText → Stage → Collections → List ℕ → Finished → Told → (List ℕ → Type 0) → (List ℕ → Type 0)
-    → ℕ → ℕ → How → Type 0
-Halts script stage collections waiting finished so_far old new faults_old faults_new (SinkFault need) =
+abbrev pub Halts : Bool → ScriptText → Stage → Collections → List ℕ → Finished → Told → (List ℕ → Type 0)
+    → (List ℕ → Type 0) → ℕ → ℕ → How → Type 0
+Halts counted script stage collections waiting finished so_far old new faults_old faults_new (SinkFault need) =
     ((finished.line ≡ 0) × (need ≡ 0) × (collections ≡ uncollected) × IsDue script finished.executed)
     × CutsOff old new so_far.bytes × Rose faults_old faults_new
-Halts script stage collections waiting finished so_far old new faults_old faults_new came =
-    EndsRun script stage.heap stage.rows collections finished.executed so_far came finished.line
+Halts counted script stage collections waiting finished so_far old new faults_old faults_new came =
+    EndsRun counted script stage.heap stage.rows collections finished.executed so_far came finished.line
     × Handed old new waiting so_far.bytes × (faults_new ≡ faults_old)
 
--- The run before its last bytes are handed on: how far it came, which collections came since the last line, what it
--- spent, and how it halted.
-pub record Pauses (script : ScriptText) (stage : Stage) (waiting : List ℕ) (finished : Finished)
+-- The run before its last bytes are handed on, which is checked or not: how far it came, which collections came since
+-- the last line, what it spent, what the heap shows, and how it halted.
+pub record Pauses (counted : Bool) (script : ScriptText) (heap : HeapState) (waiting : List ℕ) (finished : Finished)
     (old new : List ℕ → Type 0) (faults_old faults_new : ℕ) : Type 0 where
-  pub reached : RanTo script stage.heap finished.executed
+  pub reached : RanTo script (heap_of heap.main) finished.executed
   pub collections : Collections
-  pub spends : Spends script stage finished.executed collections
-  pub free : AreFreeRuns stage.heap stage.rows
-  pub halts : Halts script stage collections waiting finished reached.so_far old new faults_old faults_new finished.how
+  pub spends : Spends script (stage_of heap.main) finished.executed collections
+  pub shown : HeapShows heap reached.so_far.graph
+  pub halts : Halts counted script (stage_of heap.main) collections waiting finished reached.so_far old new faults_old
+      faults_new finished.how

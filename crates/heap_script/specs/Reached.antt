@@ -2,7 +2,7 @@
 use Rattle.std.specs.Prelude.{◌≡◌, ℕ, ◌≤◌, List, length, take, drop, Some}
 use Rattle.heap_command.specs.Executed.{Executed}
 use Rattle.object_graph.specs.Limits.{ideal_limits}
-use Rattle.object_graph.specs.Run.{Told, told, lines_most}
+use Rattle.object_graph.specs.Run.{Told, told, lines_most, Ending, EndsAfter}
 use Rattle.script_text.specs.Scripts.{ScriptText}
 use Rattle.script_text.specs.Unrolled.{executed_lines}
 use Rattle.heap_model.specs.Heaps.{Heap}
@@ -11,6 +11,11 @@ use Rattle.heap_model.specs.Showing.{Shows}
 -- the executed lines of the script that are left after the first so many
 abbrev pub left_after : ScriptText → ℕ → List Executed
 left_after script executed = drop executed (executed_lines script.lines)
+
+-- the run of the script ends after so many lines, with this told, in this way
+abbrev pub EndsAs : ScriptText → ℕ → Told → Ending → Type 0
+EndsAs script executed so_far ended =
+    EndsAfter ideal_limits script.fields (executed_lines script.lines) executed so_far ended
 
 -- The script was run for so many lines, of which none faulted, and the heap, which has a root for each variable of the
 -- script, shows the graph after them.

@@ -1,12 +1,14 @@
 -- How the run of a script on a heap ends, and what its sink takes.
 use Rattle.std.specs.Prelude.{◌≡◌, ◌⊎◌, ℕ, ◌+◌, ◌<◌, ◌≤◌, List, ◌∷◌}
-use Rattle.std.specs.Prelude.{[], ◌++◌, length, take, All, Option, Some, None, IsTrue, nat_lt, if◌then◌else◌}
+use Rattle.std.specs.Prelude.{[], ◌++◌, length, take, All, Option, Some, None, Bool, true, false, IsTrue, nat_lt}
+use Rattle.std.specs.Prelude.{if◌then◌else◌}
 use Rattle.heap_model.specs.Types.{Command, FaultWord, Run}
 use Rattle.heap_command.specs.Executed.{Executed}
 use Rattle.heap_command.specs.declared.command.FaultWord.TheVariants.{WeakFull}
 use Rattle.object_graph.specs.Graphs.{Graph}
 use Rattle.object_graph.specs.Limits.{ideal_limits}
-use Rattle.object_graph.specs.Run.{Told, told, lines_most, Ending, end, fault_at, limit_at, ending, EndsAfter}
+use Rattle.object_graph.specs.Reach.{reached_objects, reached_entries}
+use Rattle.object_graph.specs.Run.{Told, told, lines_most, end, fault_at, limit_at, ending}
 use Rattle.script_text.specs.Scripts.{ScriptText}
 use Rattle.script_text.specs.Table.{unbuilt_keywords}
 use Rattle.script_text.specs.declared.script.Line.{Line}
@@ -20,14 +22,15 @@ use Rattle.free_runs.specs.FreeRuns.{FitsNowhere}
 use Rattle.live_cells.specs.Exact.{Exact, Fits}
 use Rattle.live_cells.specs.Fitting.{DeadIsFree}
 use Rattle.scavenger.specs.Laws.{IsStuck}
+use Rattle.heap_checker.specs.declared.counts.Counts.{Counts}
 use Rattle.mutator.specs.declared.output.TheConstants.{OUTPUT_BYTES, ROOM}
 use Rattle.byte_ends.specs.Faults.{Rose}
 use Rattle.byte_ends.specs.Sink.{Appends, AppendsSome}
 use Rattle.heap_script.specs.declared.finished.How.{How}
 use Rattle.heap_script.specs.declared.finished.How.TheVariants as how
 use Rattle.heap_script.specs.declared.finished.Finished.{Finished}
-use Rattle.heap_script.specs.Stages.{Collections, uncollected, fully_collected}
-use Rattle.heap_script.specs.Reached.{left_after, RanTo}
+use Rattle.heap_script.specs.Stages.{Collections, uncollected, fully_collected, finally_collected}
+use Rattle.heap_script.specs.Reached.{left_after, RanTo, EndsAs}
 use Rattle.heap_script.specs.Spending.{HasSpent}
 
 -- each line is one that is built
@@ -47,11 +50,6 @@ pub record IsFull (heap : Heap) (rows : List (List Run)) (graph : Graph) (need :
   pub dead : DeadIsFree heap rows
   pub runs : FitsNowhere rows need
   pub stuck : IsStuck heap rows
-
--- the run of the script ends after so many lines, with this told, in this way
-abbrev pub EndsAs : ScriptText → ℕ → Told → Ending → Type 0
-EndsAs script executed so_far ended =
-    EndsAfter ideal_limits script.fields (executed_lines script.lines) executed so_far ended
 
 -- the line runs a command that needs so many words, by the rooms of objects, and the heap, which shows this graph and
 -- whose pages have these free runs, is full for them
@@ -79,19 +77,28 @@ pub record FullAt (script : ScriptText) (heap : Heap) (rows : List (List Run)) (
 abbrev pub FaultsBehind : FaultWord → Collections → Type 0
 FaultsBehind word collections = (collections ≡ uncollected) ⊎ ((word ≡ WeakFull) × (collections ≡ fully_collected))
 
+-- these are the counts of what of the graph can be reached: its objects, and the entries whose map and key can
+abbrev pub HasCounts : Graph → Counts → Type 0
+HasCounts graph counts = (counts.objects ≡ reached_objects graph) × (counts.entries ≡ reached_entries graph)
+
 -- After so many lines the run comes to an end, in this way and at this line, on a heap whose pages have these free
--- runs, behind these collections since the last line: none, but where it, or a weak map, is full. A sink that fails is
--- no end of a script.
-abbrev pub EndsRun : ScriptText → Heap → List (List Run) → Collections → ℕ → Told → How → ℕ → Type 0
-EndsRun script heap rows collections executed so_far how.End line =
-    (line ≡ 0) × (collections ≡ uncollected) × EndsAs script executed so_far end
-EndsRun script heap rows collections executed so_far (how.Fault word) line =
+-- runs, behind these collections since the last line: none, but where it, or a weak map, is full. A run that is to count
+-- its heap comes to the end of its script behind one full collection more, with the counts of what can be reached. No
+-- flaw is found, and a sink that fails is no end of a script.
+abbrev pub EndsRun : Bool → ScriptText → Heap → List (List Run) → Collections → ℕ → Told → How → ℕ → Type 0
+EndsRun counted script heap rows collections executed so_far how.End line =
+    (counted ≡ false) × (line ≡ 0) × (collections ≡ uncollected) × EndsAs script executed so_far end
+EndsRun counted script heap rows collections executed so_far (how.Counted counts) line =
+    (counted ≡ true) × (line ≡ 0) × (collections ≡ finally_collected) × EndsAs script executed so_far end
+    × HasCounts so_far.graph counts
+EndsRun counted script heap rows collections executed so_far (how.Fault word) line =
     FaultsBehind word collections × EndsAs script executed so_far (fault_at line word)
-EndsRun script heap rows collections executed so_far (how.HeapFull need) line =
+EndsRun counted script heap rows collections executed so_far (how.HeapFull need) line =
     FullAt script heap rows collections executed so_far line need
-EndsRun script heap rows collections executed so_far (how.SinkFault need) line = ⊥
-EndsRun script heap rows collections executed so_far how.LineLimit line =
+EndsRun counted script heap rows collections executed so_far (how.SinkFault need) line = ⊥
+EndsRun counted script heap rows collections executed so_far how.LineLimit line =
     (collections ≡ uncollected) × EndsAs script executed so_far (limit_at line)
+EndsRun counted script heap rows collections executed so_far (how.Flawed flaw) line = ⊥
 
 -- the words that were wanted where the run came to this, or 0
 abbrev pub need_at : How → ℕ
@@ -144,26 +151,26 @@ IsCut _ = ⊥
 
 -- Where the sink failed: between two lines, which is the line 0 and the need 0, where an output is due just there, and
 -- no collection came since the last line. Or at an end with this line and this need.
-abbrev pub FailedAt : ScriptText → Heap → List (List Run) → Collections → ℕ → Told → ℕ → ℕ → Type 0
-FailedAt script heap rows collections executed so_far line need =
+abbrev pub FailedAt : Bool → ScriptText → Heap → List (List Run) → Collections → ℕ → Told → ℕ → ℕ → Type 0
+FailedAt counted script heap rows collections executed so_far line need =
     ((line ≡ 0) × (need ≡ 0) × (collections ≡ uncollected) × IsDue script executed)
-    ⊎ ((came : How) × EndsRun script heap rows collections executed so_far came line × (need ≡ need_at came))
+    ⊎ ((came : How) × EndsRun counted script heap rows collections executed so_far came line × (need ≡ need_at came))
 
 -- What was told was written, and the run came to this. Or the sink failed, and a front of what was told was written.
-abbrev pub Writes : ScriptText → Heap → List (List Run) → Collections → Finished → Told → (List ℕ → Type 0)
+abbrev pub Writes : Bool → ScriptText → Heap → List (List Run) → Collections → Finished → Told → (List ℕ → Type 0)
     → (List ℕ → Type 0) → ℕ → ℕ → How → Type 0
-Writes script heap rows collections finished so_far old new faults_old faults_new (how.SinkFault need) =
-    FailedAt script heap rows collections finished.executed so_far finished.line need
+Writes counted script heap rows collections finished so_far old new faults_old faults_new (how.SinkFault need) =
+    FailedAt counted script heap rows collections finished.executed so_far finished.line need
     × CutsOff old new so_far.bytes × Rose faults_old faults_new
-Writes script heap rows collections finished so_far old new faults_old faults_new came =
-    EndsRun script heap rows collections finished.executed so_far came finished.line
+Writes counted script heap rows collections finished so_far old new faults_old faults_new came =
+    EndsRun counted script heap rows collections finished.executed so_far came finished.line
     × Appends old new so_far.bytes × (faults_new ≡ faults_old)
 
--- The run of a script: how far it came, what it spent, how it ended, and what the sink took, which may have taken these
--- bytes before and after, with so many faults.
-pub record Finishes (script : ScriptText) (heap : Heap) (finished : Finished)
+-- The run of a script, which is checked or not: how far it came, what it spent, how it ended, and what the sink took,
+-- which may have taken these bytes before and after, with so many faults.
+pub record Finishes (counted : Bool) (script : ScriptText) (heap : Heap) (finished : Finished)
     (old new : List ℕ → Type 0) (faults_old faults_new : ℕ) : Type 0 where
   pub reached : RanTo script heap finished.executed
   pub spent : HasSpent script heap finished.executed
-  pub writes : Writes script heap spent.last.rows spent.collections finished reached.so_far old new faults_old
+  pub writes : Writes counted script heap spent.last.rows spent.collections finished reached.so_far old new faults_old
       faults_new finished.how

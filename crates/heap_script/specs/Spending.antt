@@ -6,7 +6,7 @@ use Rattle.heap_command.specs.Executed.{Executed}
 use Rattle.heap_command.specs.declared.command.Command.TheVariants.{Scavenge, Gc, Census}
 use Rattle.object_graph.specs.Graphs.{Graph}
 use Rattle.object_graph.specs.Limits.{ideal_limits}
-use Rattle.object_graph.specs.Run.{Told, lines_most, ending}
+use Rattle.object_graph.specs.Run.{Told, lines_most, ending, end}
 use Rattle.script_text.specs.Scripts.{ScriptText}
 use Rattle.script_text.specs.Unrolled.{executed_lines}
 use Rattle.heap_model.specs.Heaps.{Heap}
@@ -20,8 +20,9 @@ use Rattle.live_cells.specs.Exact.{Exact}
 use Rattle.exact_heaps.specs.Collected.{LeavesExact}
 use Rattle.scavenger.specs.Laws.{KeepsPlaces, TakesWords, PromotesWhatFits, PromotesNoOther}
 use Rattle.mutator.specs.Capacities.{KeepsStores}
-use Rattle.heap_script.specs.Stages.{Stage, Collections, uncollected, scavenged, fully_collected, SpendsWords}
-use Rattle.heap_script.specs.Reached.{left_after, RanTo}
+use Rattle.heap_script.specs.Stages.{Stage, Collections, uncollected, scavenged, fully_collected, finally_collected}
+use Rattle.heap_script.specs.Stages.{SpendsWords}
+use Rattle.heap_script.specs.Reached.{left_after, RanTo, EndsAs}
 
 -- Where objects have these rooms, exactly the words that the command needs are spent behind these collections, and
 -- objects come to have the rooms that it gives them.
@@ -131,7 +132,7 @@ pub record WantsClearing (script : ScriptText) (heap : Heap) (executed : ℕ) (s
 -- heap is scavenged once where its eden lacks room for the words that the next line needs, and then survivors alone are
 -- promoted; and where eden lacks room for them still, and no free run has them, a full collection comes. It comes too,
 -- and alone, where the next line finds its weak map full of pairs, since some of them may be such as it clears. Nothing
--- comes behind it.
+-- comes behind it. A script that is checked may be followed, at its end alone, by one full collection more.
 pub data Spends (script : ScriptText) : Stage → ℕ → Collections → Type 0 where
   none : (stage : Stage) → stage.heap.used ≡ 0 → stage.heap.survivors ≡ 0
       → stage.rows ≡ whole_rows stage.heap.space.sizes.pages → RanTo script stage.heap 0
@@ -154,6 +155,10 @@ pub data Spends (script : ScriptText) : Stage → ℕ → Collections → Type 0
       → (before : RanTo script old.heap executed) → WantsClearing script old.heap executed before.so_far
       → RanTo script new.heap executed → IsFullyCollected old new before.so_far.graph
       → Spends script new executed fully_collected
+  finally : (old new : Stage) (executed : ℕ) → Spends script old executed uncollected
+      → (before : RanTo script old.heap executed) → EndsAs script executed before.so_far end
+      → RanTo script new.heap executed → IsFullyCollected old new before.so_far.graph
+      → Spends script new executed finally_collected
 
 -- The heap has the regions of the one to which the lines led that spent words, behind the collections that came since
 -- the last of them; and as many words are used and have survived. Each object stands where it stands there, with a

@@ -15,12 +15,13 @@ pub record Stage : Type 0 where
 abbrev pub stage_of : Mutator → Stage
 stage_of main = record { heap = heap_of main; rows = main.free }
 
--- Which collections of the heap came since the last line: none; a scavenge; or a full collection, by itself or behind
--- a scavenge.
+-- Which collections of the heap came since the last line: none; a scavenge; a full collection, by itself or behind a
+-- scavenge; or the one with which a script that is checked ends.
 pub data Collections : Type 0 where
   uncollected : Collections
   scavenged : Collections
   fully_collected : Collections
+  finally_collected : Collections
 
 -- A line spends so many words, before which these collections came since the last line: words of eden, which had them;
 -- or, where a collection came, and left eden empty and without so many, the first words of a free run of a page, while

@@ -57,7 +57,7 @@ pub(crate) fn execute_line(
     ensures place { IfOk result (λ place. place ≡ (standing_after at turns.old what.now).at) }
     ensures turned { OnOk result (turns.new ≡ (standing_after at turns.old what.now).turns) }
     ensures unturned { OnErr result (turns.new ≡ turns.old) }
-    ensures spare { heap.new.spare ≡ heap.old.spare }
+    ensures rest { heap.new.rest ≡ heap.old.rest }
     ensures counted { OnOk result (objects.new ≡ objects.old + made_by (command_in what.now)) }
 {
     match what {
@@ -89,7 +89,7 @@ fn carry_out(
         objects.old ≡ length graph.objects → (text : List ℕ)
         × CarriesAtLast script.now.fields heap.old.main heap.new.main graph command.now text result
         × (out.new ≡ (if is_ok result then out.old ++ text else out.old)) }
-    ensures spare { heap.new.spare ≡ heap.old.spare }
+    ensures rest { heap.new.rest ≡ heap.old.rest }
     ensures counted { OnOk result (objects.new ≡ objects.old + objects_made command.now) }
 {
     // The call stands in one place alone: with a second one it is not inlined into the loop over
@@ -117,7 +117,7 @@ fn scavenge(heap: &mut Heap)
     requires shown { (graph : Graph) × HeapShows heap.old graph }
     ensures scavenged { Scavenges heap.old.main heap.new.main false }
     ensures rooms { KeepsGraphs heap.old.main heap.new.main }
-    ensures spare { heap.new.spare ≡ heap.old.spare }
+    ensures rest { heap.new.rest ≡ heap.old.rest }
 {
     heap.scavenge();
 }
@@ -129,7 +129,7 @@ fn collect_all(heap: &mut Heap)
     requires shown { (graph : Graph) × HeapShows heap.old graph }
     ensures collected { (graph : Graph) → HeapShows heap.old graph →
         CollectsAll heap.old.main heap.new.main graph }
-    ensures spare { heap.new.spare ≡ heap.old.spare }
+    ensures rest { heap.new.rest ≡ heap.old.rest }
 {
     heap.collect_all();
 }
@@ -144,7 +144,7 @@ fn tell_census(heap: &mut Heap, out: &mut Output)
         CollectsAll heap.old.main heap.new.main graph }
     ensures told { (graph : Graph) → HeapShows heap.old graph →
         out.new ≡ out.old ++ line (census_text (reached_objects graph) (reached_entries graph)) }
-    ensures spare { heap.new.spare ≡ heap.old.spare }
+    ensures rest { heap.new.rest ≡ heap.old.rest }
 {
     let census = heap.census();
     mutator::put_census(census.objects, census.entries, out);
@@ -169,7 +169,7 @@ fn execute(
         objects.old ≡ length graph.objects → (text : List ℕ)
         × Tries script.now.fields heap.old.main heap.new.main graph command.now text result
         × (out.new ≡ (if is_ok result then out.old ++ text else out.old)) }
-    ensures spare { heap.new.spare ≡ heap.old.spare }
+    ensures rest { heap.new.rest ≡ heap.old.rest }
     ensures counted { OnOk result (objects.new ≡ objects.old + objects_made command.now) }
     ensures uncounted { is_ok result ≡ false → objects.new ≡ objects.old }
 {

@@ -2,6 +2,7 @@
 ghost use Rattle.std.specs.Prelude.{◌≡◌};
 ghost use Rattle.heap_script.specs.Runs.{need_at};
 
+use heap_checker::{Counts, Flaw};
 use heap_command::FaultWord;
 
 /// Why a run went no further.
@@ -9,6 +10,9 @@ use heap_command::FaultWord;
 pub enum How {
     /// Every line was executed.
     End,
+    /// Every line was executed, and then the heap was fully collected and counted, as the run was asked to: the objects
+    /// that can be reached, and the entries of weak maps whose map and key can.
+    Counted(Counts),
     /// The command of the next line is this fault.
     Fault(FaultWord),
     /// The heap has no room for the words that the command of the next line needs, so many, though it
@@ -19,6 +23,8 @@ pub enum How {
     SinkFault { need: u32 },
     /// As many lines were executed as may be, and there is another one.
     LineLimit,
+    /// The checker found a word that breaks the heap. That is proved not to come: the build or the machine is wrong.
+    Flawed(Flaw),
 }
 
 impl How {
@@ -28,7 +34,7 @@ impl How {
     {
         match self {
             How::HeapFull { need } | How::SinkFault { need } => need,
-            How::End | How::Fault(_) | How::LineLimit => 0,
+            How::End | How::Counted(_) | How::Fault(_) | How::LineLimit | How::Flawed(_) => 0,
         }
     }
 }
@@ -41,4 +47,17 @@ pub struct Finished {
     pub line: u32,
     /// How many lines were executed.
     pub executed: u64,
+}
+
+impl Finished {
+    /// A run that came to this at a line, or at none, after so many lines.
+    pub(crate) fn after(how: How, line: u32, executed: u64) -> Finished
+        ensures { result ≡ record { how = how; line = line; executed = executed } }
+    {
+        Finished {
+            how,
+            line,
+            executed,
+        }
+    }
 }

@@ -1,5 +1,5 @@
 //! Handing what waits in the output on to the sink.
-ghost use Rattle.std.specs.Prelude.{◌≡◌, ◌≤◌, ◌+◌, [], length, OnOk, OnErr};
+ghost use Rattle.std.specs.Prelude.{◌≡◌, [], OnOk, OnErr};
 ghost use Rattle.byte_ends.specs.Faults.{Rose};
 ghost use Rattle.byte_ends.specs.Sink.{Appends};
 ghost use Rattle.heap_script.specs.Runs.{CutsOff};

@@ -1,5 +1,5 @@
 //! A script on the heap, line by line in the order of execution.
-ghost use Rattle.std.specs.Prelude.{◌≡◌, ◌≢◌, ◌+◌, ◌≤◌, false, [], length, OnOk, OnErr};
+ghost use Rattle.std.specs.Prelude.{◌≡◌, ◌+◌, ◌≤◌, false, [], length, OnOk, OnErr};
 ghost use Rattle.object_graph.specs.Graphs.{Graph, start};
 ghost use Rattle.mutator.specs.CarriesOut.{field_numbers};
 ghost use Rattle.write_barrier.specs.MutatorState.{heap_of, IsOpened};
@@ -7,12 +7,13 @@ ghost use Rattle.collector.specs.States.{HeapShows};
 ghost use Rattle.byte_ends.specs.Faults.{Rose};
 ghost use Rattle.script_text.specs.Sound.{AreShort};
 ghost use Rattle.heap_script.specs.Runs.{AreBuilt, Finishes, CutsOff, FillsOutput, waiting_of, IsCut};
+ghost use Rattle.heap_script.specs.Inspecting.{counts_at_end, IsFor};
 ghost use Rattle.heap_script.specs.Progress.{Handed, Pauses, how_of};
-ghost use Rattle.heap_script.specs.Stages.{stage_of};
 
 use crate::execute::execute_line;
 use crate::finished::{Finished, How};
 use crate::flushing::flush;
+use crate::inspecting::{Inspection, flaw_behind, inspect_end};
 use crate::loop_counters::LoopCounters;
 use crate::running_ahead::{Reached, run_ahead};
 use byte_ends::{Failed, Sink};
@@ -29,15 +30,16 @@ pub(crate) const LINES_MOST: u64 = 20_000_000;
 /// With more bytes than these waiting, the output may lack room for a command.
 pub(crate) const FULL_FROM: usize = (OUTPUT_BYTES - ROOM) as usize;
 
-/// Runs a script on a heap that was just opened, with an output that is empty, and writes to the sink
-/// what it tells. Threads and gates are not used, and the heap is not checked.
+/// Runs a script on a heap that was just opened, with an output that is empty, and writes to the sink what it tells.
+/// Threads and gates are not used. The inspection says what is done about the heap at the end of the script, and behind
+/// full collections; a checker in it is one for the heap's regions.
 pub fn run_script<K: Sink, G: Gate, R: Threads + Sync>(
     _rt: &R,
     heap: &mut Heap,
     script: &Script<'_>,
     out: &mut Output,
     sink: &mut K,
-    _check: bool,
+    inspection: &mut Inspection,
     _gate: &G,
 ) -> Finished
     requires shown { HeapShows heap.old start }
@@ -45,8 +47,8 @@ pub fn run_script<K: Sink, G: Gate, R: Threads + Sync>(
     requires variables { heap.old.main.seat.space.variables ≡ length script.now.variables }
     requires built { AreBuilt script.now.lines }
     requires empty { out.old ≡ [] }
-    requires unchecked { _check ≡ false }
-    ensures finishes { Finishes script.now (heap_of heap.new.main) result
+    requires for_heap { IsFor heap.old inspection.old }
+    ensures finishes { Finishes (counts_at_end inspection.old) script.now (heap_of heap.new.main) result
         (K.HasTaken sink.old) (K.HasTaken sink.new) (K.faults sink.old) (K.faults sink.new) }
     ensures emptied { ¬ IsCut result.how → out.new ≡ [] }
     ensures shows { (graph : Graph) × HeapShows heap.new graph }
@@ -54,7 +56,11 @@ pub fn run_script<K: Sink, G: Gate, R: Threads + Sync>(
 {
     // Tells that the script has at most 4,096 fields, whose names are short.
     let _fields = script.fields();
-    let finished = run_lines(heap, script, out, sink);
+    let ran = run_lines(heap, script, out, sink, inspection);
+    let finished = Finished {
+        how: inspect_end(ran.how, heap, inspection),
+        ..ran
+    };
     match finished.how {
         How::SinkFault { .. } => finished,
         how => match flush(sink, out) {
@@ -74,18 +80,20 @@ fn run_lines<K: Sink>(
     script: &Script<'_>,
     out: &mut Output,
     sink: &mut K,
+    inspection: &mut Inspection,
 ) -> Finished
     requires shown { HeapShows heap.old start }
     requires opened { IsOpened heap.old.main }
     requires variables { heap.old.main.seat.space.variables ≡ length script.now.variables }
+    requires for_heap { IsFor heap.old inspection.old }
     requires fields { length script.now.fields ≤ field_numbers }
     requires short { AreShort script.now.fields }
     requires built { AreBuilt script.now.lines }
     requires empty { out.old ≡ [] }
-    ensures pauses { Pauses script.now (stage_of heap.new.main) out.new result
+    ensures pauses { Pauses false script.now heap.new out.new result
         (K.HasTaken sink.old) (K.HasTaken sink.new) (K.faults sink.old) (K.faults sink.new) }
-    ensures shows { (graph : Graph) × HeapShows heap.new graph }
     ensures space { heap.new.main.seat.space ≡ heap.old.main.seat.space }
+    ensures same { inspection.new ≡ inspection.old }
 {
     let lines = script.lines();
     let mut turns = LoopCounters::new();
@@ -93,24 +101,22 @@ fn run_lines<K: Sink>(
     while at < lines.len() {
         let line = &lines[at];
         if executed == LINES_MOST {
-            return Finished {
-                how: How::LineLimit,
-                line: line.number,
-                executed,
-            };
+            return Finished::after(How::LineLimit, line.number, executed);
         }
         let Ok(()) = flush_if_full(sink, out) else {
-            return Finished {
-                how: How::SinkFault { need: 0 },
-                line: 0,
-                executed,
-            };
+            return Finished::after(How::SinkFault { need: 0 }, 0, executed);
         };
         match execute_line(heap, script, &mut objects, &mut turns, at, &line.what, out) {
             Ok(next) => at = next,
-            Err(stop) => return stopped(stop, line.number, executed),
+            Err(stop) => {
+                let how = stopped(stop, heap, inspection);
+                return Finished::after(how, line.number, executed);
+            }
         }
         executed += 1;
+        if let Some(flaw) = flaw_behind(heap, inspection) {
+            return Finished::after(How::Flawed(flaw), line.number, executed);
+        }
         let ahead = run_ahead(
             heap,
             script,
@@ -122,26 +128,25 @@ fn run_lines<K: Sink>(
         at = ahead.at;
         executed = ahead.executed;
     }
-    Finished {
-        how: How::End,
-        line: 0,
-        executed,
-    }
+    Finished::after(How::End, 0, executed)
 }
 
-/// The end at a line whose command was not carried out.
-fn stopped(stop: Stop, line: u32, executed: u64) -> Finished
-    ensures { result ≡ record { how = how_of stop; line = line; executed = executed } }
+/// How a run ends at a line whose command was not carried out. If that came behind a full collection, the heap is judged.
+fn stopped(stop: Stop, heap: &mut Heap, inspection: &mut Inspection) -> How
+    requires shown { (graph : Graph) × HeapShows heap.old graph }
+    requires for_heap { IsFor heap.old inspection.old }
+    ensures how { result ≡ how_of stop }
+    ensures main { heap.new.main ≡ heap.old.main }
+    ensures shows { (graph : Graph) → HeapShows heap.old graph → HeapShows heap.new graph }
+    ensures same { inspection.new ≡ inspection.old }
 {
-    let how = match stop {
+    if let Some(flaw) = flaw_behind(heap, inspection) {
+        return How::Flawed(flaw);
+    }
+    match stop {
         Stop::Fault(word) => How::Fault(word),
         Stop::NoRoom { need } => How::HeapFull { need },
         Stop::NoClear { entries: _ } => How::Fault(FaultWord::WeakFull),
-    };
-    Finished {
-        how,
-        line,
-        executed,
     }
 }
 

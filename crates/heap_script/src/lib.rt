@@ -13,11 +13,13 @@
 mod execute;
 mod finished;
 mod flushing;
+mod inspecting;
 mod interpreter;
 mod loop_counters;
 mod making_way;
 mod running_ahead;
 
 pub use finished::{Finished, How};
+pub use inspecting::Inspection;
 pub use interpreter::run_script;
 pub use mutator::Output;

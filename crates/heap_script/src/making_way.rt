@@ -33,7 +33,7 @@ pub(crate) fn make_way(heap: &mut Heap, stop: Stop, tried: Tried) -> Option<Trie
     requires shown { (graph : Graph) × HeapShows heap.old graph }
     ensures way { MakesWay heap.old heap.new tried stop result }
     ensures shows { (graph : Graph) → HeapShows heap.old graph → HeapShows heap.new graph }
-    ensures spare { heap.new.spare ≡ heap.old.spare }
+    ensures rest { heap.new.rest ≡ heap.old.rest }
 {
     match stop {
         Stop::Fault(_) => None,
@@ -49,7 +49,7 @@ fn find_room(heap: &mut Heap, need: u32, tried: Tried) -> Option<Tried>
     requires shown { (graph : Graph) × HeapShows heap.old graph }
     ensures way { FindsRoom heap.old heap.new need tried result }
     ensures shows { (graph : Graph) → HeapShows heap.old graph → HeapShows heap.new graph }
-    ensures spare { heap.new.spare ≡ heap.old.spare }
+    ensures rest { heap.new.rest ≡ heap.old.rest }
 {
     match tried {
         Tried::Once => Some(collect_for(heap, need)),
@@ -66,7 +66,7 @@ fn collect_for(heap: &mut Heap, need: u32) -> Tried
     requires shown { (graph : Graph) × HeapShows heap.old graph }
     ensures way { FindsFirst heap.old heap.new need result }
     ensures shows { (graph : Graph) → HeapShows heap.old graph → HeapShows heap.new graph }
-    ensures spare { heap.new.spare ≡ heap.old.spare }
+    ensures rest { heap.new.rest ≡ heap.old.rest }
 {
     if heap.make_room(need) {
         return Tried::Scavenged;
@@ -84,7 +84,7 @@ fn grant(heap: &mut Heap, need: u32) -> Option<Tried>
     requires shown { (graph : Graph) × HeapShows heap.old graph }
     ensures way { FindsLast heap.old heap.new need result }
     ensures shows { (graph : Graph) → HeapShows heap.old graph → HeapShows heap.new graph }
-    ensures spare { heap.new.spare ≡ heap.old.spare }
+    ensures rest { heap.new.rest ≡ heap.old.rest }
 {
     if heap.serve(need) {
         Some(Tried::Granted)
@@ -99,7 +99,7 @@ fn clear_pairs(heap: &mut Heap, tried: Tried) -> Option<Tried>
     requires shown { (graph : Graph) × HeapShows heap.old graph }
     ensures way { ClearsPairs heap.old heap.new tried result }
     ensures shows { (graph : Graph) → HeapShows heap.old graph → HeapShows heap.new graph }
-    ensures spare { heap.new.spare ≡ heap.old.spare }
+    ensures rest { heap.new.rest ≡ heap.old.rest }
 {
     match tried {
         Tried::Once => Some(collect_all(heap)),
@@ -115,7 +115,7 @@ fn collect_all(heap: &mut Heap) -> Tried
     requires shown { (graph : Graph) × HeapShows heap.old graph }
     ensures way { CollectsNow heap.old heap.new result }
     ensures shows { (graph : Graph) → HeapShows heap.old graph → HeapShows heap.new graph }
-    ensures spare { heap.new.spare ≡ heap.old.spare }
+    ensures rest { heap.new.rest ≡ heap.old.rest }
 {
     heap.collect_all();
     Tried::Collected

@@ -1,6 +1,6 @@
-//! Lines that are executed ahead of the next one that collects the heap or does not come through: the short path of a
-//! run. What stops here changes nothing, and is executed by `execute`, which knows why.
-ghost use Rattle.std.specs.Prelude.{◌≡◌, ◌+◌, ◌<◌, ◌≤◌, ◌^◌, ℕ, List, [], length, ◌++◌, false, is_ok};
+//! Lines that are executed ahead of the next one that collects the heap, writes or does not come through: the short path
+//! of a run. What stops here changes nothing, and is executed by `execute`, which knows why.
+ghost use Rattle.std.specs.Prelude.{◌≡◌, ◌+◌, ◌<◌, ◌≤◌, ◌^◌, ℕ, List, [], length, false, is_ok};
 ghost use Rattle.std.specs.Prelude.{Ok, IsTrue, IsNone, IfSome, OnSome};
 ghost use Rattle.object_graph.specs.Graphs.{Graph};
 ghost use Rattle.object_graph.specs.Run.{lines_most};
@@ -10,7 +10,7 @@ ghost use Rattle.collector.specs.States.{HeapShows};
 ghost use Rattle.heap_script.specs.Collecting.{Tries};
 ghost use Rattle.heap_script.specs.Runs.{AreBuilt, OutputHolds};
 ghost use Rattle.script_text.specs.Limits.{open_most};
-ghost use Rattle.script_text.specs.Sound.{NamesWithin, AreShort};
+ghost use Rattle.script_text.specs.Sound.{NamesWithin};
 ghost use Rattle.heap_script.specs.Progress.{objects_made, made_by, command_in, CarriesLine};
 ghost use Rattle.heap_script.specs.LoopCounters.{standing_after};
 ghost use Rattle.heap_script.specs.Between.{Running, only};
@@ -30,8 +30,8 @@ pub(crate) struct Reached {
     pub(crate) executed: u64,
 }
 
-/// Executes lines from a place on, as long as they come through and the output is not full: one that is full is handed
-/// on before the next line.
+/// Executes lines from a place on, as long as they come through and write nothing. No line is executed on an output that
+/// is full, which is handed on before the next one; since none writes, it is asked for once.
 #[inline(never)]
 pub(crate) fn run_ahead(
     heap: &mut Heap,
@@ -39,33 +39,32 @@ pub(crate) fn run_ahead(
     objects: &mut u32,
     turns: &mut LoopCounters,
     from: Reached,
-    out: &mut Output,
+    out: &Output,
 ) -> Reached
     requires runs { (taken : List ℕ)
-        × Running script.now heap.old objects.old out.old (only []) (only taken) from.at turns.old from.executed uncollected }
+        × Running script.now heap.old objects.old out.now (only []) (only taken) from.at turns.old from.executed uncollected }
     requires variables { heap.old.main.seat.space.variables ≡ length script.now.variables }
     requires fields { length script.now.fields ≤ field_numbers }
-    requires short { AreShort script.now.fields }
     requires built { AreBuilt script.now.lines }
     ensures runs { (taken : List ℕ)
-        → Running script.now heap.old objects.old out.old (only []) (only taken) from.at turns.old from.executed uncollected
-        → Running script.now heap.new objects.new out.new (only []) (only taken) result.at turns.new
+        → Running script.now heap.old objects.old out.now (only []) (only taken) from.at turns.old from.executed uncollected
+        → Running script.now heap.new objects.new out.now (only []) (only taken) result.at turns.new
         result.executed uncollected }
-    ensures holds { OutputHolds script.now from.executed out.old → OutputHolds script.now result.executed out.new }
+    ensures holds { OutputHolds script.now from.executed out.now → OutputHolds script.now result.executed out.now }
     ensures space { heap.new.main.seat.space ≡ heap.old.main.seat.space }
     ensures further { from.executed ≤ result.executed }
 {
     let lines = script.lines();
     let (mut at, mut executed) = (from.at, from.executed);
+    if is_full(out) {
+        return Reached { at, executed };
+    }
     while at < lines.len() {
         if executed == LINES_MOST {
             return Reached { at, executed };
         }
-        if is_full(out) {
-            return Reached { at, executed };
-        }
         let line = &lines[at];
-        let Some(next) = passes(heap, script, objects, turns, at, &line.what, out) else {
+        let Some(next) = passes(heap, objects, turns, at, &line.what) else {
             return Reached { at, executed };
         };
         at = next;
@@ -86,36 +85,30 @@ fn is_full(out: &Output) -> bool
 #[inline(always)]
 fn passes(
     heap: &mut Heap,
-    script: &Script<'_>,
     objects: &mut u32,
     turns: &mut LoopCounters,
     at: usize,
     what: &What,
-    out: &mut Output,
 ) -> Option<usize>
     requires shown { (graph : Graph) × HeapShows heap.old graph × (objects.old ≡ length graph.objects) }
     requires within { NamesWithin heap.old.main.seat.space.variables field_numbers what.now }
     requires few { objects.old < lines_most }
-    requires short { AreShort script.now.fields }
-    requires room { length out.old + ROOM ≤ OUTPUT_BYTES }
     requires small { at < 2 ^ 63 }
     requires deep { length (standing_after at turns.old what.now).turns ≤ open_most }
-    ensures carried { OnSome result ((graph : Graph) → HeapShows heap.old graph →
-        objects.old ≡ length graph.objects → (text : List ℕ)
-        × CarriesLine script.now.fields heap.old.main heap.new.main graph (command_in what.now) text (Ok tt)
-        × (out.new ≡ out.old ++ text)) }
+    ensures carried { OnSome result ((names : List (List ℕ)) (graph : Graph) → HeapShows heap.old graph →
+        objects.old ≡ length graph.objects →
+        CarriesLine names heap.old.main heap.new.main graph (command_in what.now) [] (Ok tt)) }
     ensures place { IfSome result (λ place. place ≡ (standing_after at turns.old what.now).at) }
     ensures turned { OnSome result (turns.new ≡ (standing_after at turns.old what.now).turns) }
     ensures unturned { IsNone result → turns.new ≡ turns.old }
-    ensures spare { heap.new.spare ≡ heap.old.spare }
+    ensures rest { heap.new.rest ≡ heap.old.rest }
     ensures unchanged { IsNone result → heap.new ≡ heap.old }
-    ensures unwritten { IsNone result → out.new ≡ out.old }
     ensures counted { OnSome result (objects.new ≡ objects.old + made_by (command_in what.now)) }
     ensures uncounted { IsNone result → objects.new ≡ objects.old }
 {
     match what {
         What::Run(command) => {
-            if comes_through(heap, script, objects, command, out) {
+            if comes_through(heap, objects, command) {
                 Some(at + 1)
             } else {
                 None
@@ -125,27 +118,17 @@ fn passes(
     }
 }
 
-/// Whether the command came through: it was carried out. It is not tried where it collects the heap.
+/// Whether the command came through: it was carried out. It is not tried where it collects the heap or writes.
 #[inline(always)]
-fn comes_through(
-    heap: &mut Heap,
-    script: &Script<'_>,
-    objects: &mut u32,
-    command: &Command,
-    out: &mut Output,
-) -> bool
+fn comes_through(heap: &mut Heap, objects: &mut u32, command: &Command) -> bool
     requires shown { (graph : Graph) × HeapShows heap.old graph × (objects.old ≡ length graph.objects) }
     requires within { IsWithin heap.old.main.seat.space.variables field_numbers command.now }
     requires few { objects.old < lines_most }
-    requires short { AreShort script.now.fields }
-    requires room { length out.old + ROOM ≤ OUTPUT_BYTES }
-    ensures carried { IsTrue result → (graph : Graph) → HeapShows heap.old graph →
-        objects.old ≡ length graph.objects → (text : List ℕ)
-        × Tries script.now.fields heap.old.main heap.new.main graph command.now text (Ok tt)
-        × (out.new ≡ out.old ++ text) }
+    ensures carried { IsTrue result → (names : List (List ℕ)) (graph : Graph) → HeapShows heap.old graph →
+        objects.old ≡ length graph.objects →
+        Tries names heap.old.main heap.new.main graph command.now [] (Ok tt) }
     ensures unchanged { result ≡ false → heap.new ≡ heap.old }
-    ensures unwritten { result ≡ false → out.new ≡ out.old }
-    ensures spare { heap.new.spare ≡ heap.old.spare }
+    ensures rest { heap.new.rest ≡ heap.old.rest }
     ensures counted { IsTrue result → objects.new ≡ objects.old + objects_made command.now }
     ensures uncounted { result ≡ false → objects.new ≡ objects.old }
 {
@@ -158,7 +141,7 @@ fn comes_through(
         Command::Weak { x } => counted(mutator::new_weak(heap.main_mut(), *x, *objects), objects),
         Command::LetValue { x, v } => mutator::let_value(heap.main_mut(), *x, *v).is_ok(),
         Command::DropVar { x } => mutator::drop_var(heap.main_mut(), *x).is_ok(),
-        Command::Add { x, v } => mutator::add(heap.main_mut(), *x, *v).is_ok(),
+        Command::Add { x, v } => mutator::add_ahead(heap.main_mut(), *x, *v),
         Command::Set { x, f, v } => mutator::set(heap.main_mut(), *x, *f, *v).is_ok(),
         Command::Get { y, x, f } => mutator::get(heap.main_mut(), *y, *x, *f).is_ok(),
         Command::Del { x, f } => mutator::del(heap.main_mut(), *x, *f).is_ok(),
@@ -170,10 +153,6 @@ fn comes_through(
         Command::WPut { m, k, v } => mutator::wput(heap.main_mut(), *m, *k, *v).is_ok(),
         Command::WGet { y, m, k } => mutator::wget(heap.main_mut(), *y, *m, *k).is_ok(),
         Command::WDel { m, k } => mutator::wdel(heap.main_mut(), *m, *k).is_ok(),
-        Command::Print { v } => mutator::print(heap.main_mut(), *v, out).is_ok(),
-        Command::Same { a, b } => mutator::same(heap.main_mut(), *a, *b, out).is_ok(),
-        Command::Alike { x, y } => mutator::alike(heap.main_mut(), *x, *y, out).is_ok(),
-        Command::Shape { x } => mutator::shape(heap.main_mut(), script, *x, out).is_ok(),
         _ => false,
     }
 }

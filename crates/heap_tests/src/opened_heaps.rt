@@ -1,6 +1,6 @@
 //! Opened heaps: their words, the room in eden, and what calls of the mutator's side write. The
 //! words and addresses are written out by hand.
-ghost use Rattle.std.specs.Prelude.{◌≡◌, ◌<◌, ◌≤◌, IfOk, IfErr, false, length};
+ghost use Rattle.std.specs.Prelude.{◌≡◌, ◌<◌, IfOk, IfErr, false, length};
 ghost use Rattle.object_graph.specs.Invariants.{fields_most};
 ghost use Rattle.object_graph.specs.Graphs.{start};
 ghost use Rattle.cell_layout.specs.Cells.{IsCell};

@@ -33,6 +33,8 @@ pub(crate) struct Worked {
 pub(crate) enum Change {
     /// The word at an address.
     Word(usize, u64),
+    /// How many words there are in all.
+    Words(usize),
     /// How many words of eden are used.
     Used(u32),
     /// How many words the survivors have.
@@ -94,22 +96,27 @@ pub(crate) fn image_of(
     worked: &Worked,
     changes: &[Change],
 ) -> Result<HeapImage, Fail> {
-    let mut words = words(alloc, worked)?;
-    let mut used = worked.used;
-    let mut survivors = worked.survivors;
+    let mut worked = *worked;
     for change in changes {
         match *change {
-            Change::Word(at, word) => put_all(&mut words, at, &[word]),
-            Change::Used(other) => used = other,
-            Change::Survivors(other) => survivors = other,
+            Change::Word(_, _) => {}
+            Change::Words(other) => worked.words = other,
+            Change::Used(other) => worked.used = other,
+            Change::Survivors(other) => worked.survivors = other,
+        }
+    }
+    let mut words = words(alloc, &worked)?;
+    for change in changes {
+        if let Change::Word(at, word) = *change {
+            put_all(&mut words, at, &[word]);
         }
     }
     assert!(rt; worked.sizes.are_within(worked.variables));
     Ok(HeapImage {
         regions: Regions::new(worked.sizes, worked.variables),
-        used,
-        survivors,
-        shapes: shapes(rt, alloc, worked)?,
+        used: worked.used,
+        survivors: worked.survivors,
+        shapes: shapes(rt, alloc, &worked)?,
         words: HeapWords::from_vec(words),
     })
 }

@@ -9,6 +9,12 @@ mod exact_images;
 #[cfg(test)]
 mod first_flaws;
 #[cfg(test)]
+mod flaws_of_cells;
+#[cfg(test)]
+mod flaws_of_frames;
+#[cfg(test)]
+mod flaws_of_owners;
+#[cfg(test)]
 mod forged_heaps;
 #[cfg(test)]
 mod images;
@@ -22,3 +28,5 @@ mod shown_graphs;
 mod whole_heaps;
 #[cfg(test)]
 mod worked;
+#[cfg(test)]
+mod worked_ends;

@@ -1,5 +1,5 @@
 //! The cells of pages, and which of their words stores may change.
-ghost use Rattle.std.specs.Prelude.{◌≡◌, ◌+◌, ◌≤◌, ◌<◌, ◌↔◌, ◌⊎◌, IsTrue, true, false, OnOk, min};
+ghost use Rattle.std.specs.Prelude.{◌≡◌, ◌+◌, ◌<◌, ◌↔◌, IsTrue, true, false, min};
 ghost use Rattle.std.specs.Prelude.{slice_index, Option};
 ghost use Rattle.tagged_word.specs.declared.reading.Reading.{Reading};
 ghost use Rattle.seat_steps.specs.Lists.{is_in};

@@ -1,6 +1,6 @@
 //! Where a step is possible, by what its seat knows.
-ghost use Rattle.std.specs.Prelude.{◌≡◌, ◌↔◌, ◌⊎◌, IsTrue, IsSomeAnd, IsNone, slice_get, slice_index, Some};
-ghost use Rattle.std.specs.Prelude.{None, []};
+ghost use Rattle.std.specs.Prelude.{◌≡◌, ◌↔◌, ◌⊎◌, IsTrue, IsSomeAnd, slice_index, Some};
+ghost use Rattle.std.specs.Prelude.{None};
 ghost use Rattle.tagged_word.specs.Layouts.{IsLayout};
 ghost use Rattle.mark_world.specs.declared.snap.Snap.{Snap};
 ghost use Rattle.std.specs.Prelude.{◌+◌};

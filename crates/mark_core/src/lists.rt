@@ -1,9 +1,9 @@
 //! Lists of addresses that others join.
 ghost use Rattle.std.specs.Prelude.{◌≡◌, ◌↔◌, OnOk, IsTrue, Contains};
-ghost use Rattle.seat_steps.specs.Lists.{is_in, joined};
+ghost use Rattle.seat_steps.specs.Lists.{is_in};
 ghost use Rattle.seat_steps.specs.Boards.{joined_by};
 ghost use Rattle.mark_world.specs.Pages.{target, targets_joined};
-ghost use Rattle.mark_world.specs.Steps.{all_joined, joined_if_white, noted, snap_targets, white};
+ghost use Rattle.mark_world.specs.Steps.{all_joined, joined_if_white, snap_targets, white};
 
 use mark_world::Snap;
 use seat_steps::{Items, Note, join};

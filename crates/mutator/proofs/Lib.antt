@@ -4,6 +4,7 @@ pub mod CellKinds
 pub mod ObjectsAt
 pub mod Rebinding
 pub mod Unbinding
+pub mod IntegerSums
 pub mod ValueTexts
 pub mod Writings
 pub mod SameHeld

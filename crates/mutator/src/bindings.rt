@@ -1,13 +1,14 @@
 //! The commands `let`, `drop` and `add`, on what variables are bound to. How a variable is bound to
 //! a field is said in `fields.rt`, and to a new object in `making.rt`.
-ghost use Rattle.std.specs.Prelude.{ℕ, List, [], OnOk};
+ghost use Rattle.std.specs.Prelude.{◌≡◌, ℕ, false, List, [], Ok, OnOk, IfSome, IsTrue};
 ghost use Rattle.heap_command.specs.Commands.{IsWithin};
 ghost use Rattle.object_graph.specs.Graphs.{Graph};
 ghost use Rattle.write_barrier.specs.MutatorState.{MainShows};
 ghost use Rattle.mutator.specs.Binding.{Binds};
+ghost use Rattle.mutator.specs.Reading.{IsSum};
 ghost use Rattle.mutator.specs.CarriesOut.{Carries, field_numbers};
 
-use crate::lookups::{bound, integer, operands};
+use crate::lookups::{bound, integer, integer_of, operands};
 use crate::stop::Stop;
 use handle_roots::Held;
 use heap_command::{Command, FaultWord, Operand};
@@ -74,4 +75,36 @@ pub fn add(main: &mut Main, x: u32, v: Operand) -> Result<(), Stop>
     };
     main.hold(x, Held::Int(sum));
     Ok(())
+}
+
+/// The same as `add` where that comes through, and answers whether it does: nothing changes where it stops, and `add`
+/// tells why. A stop need not be judged in order here, so each operand is judged before the next is read.
+#[inline(always)]
+pub fn add_ahead(main: &mut Main, x: u32, v: Operand) -> bool
+    requires shown { (graph : Graph) × MainShows main.old graph }
+    requires within { IsWithin main.old.seat.space.variables field_numbers (Command.Add x v) }
+    ensures carried { IsTrue result → (graph : Graph) (names : List (List ℕ)) → MainShows main.old graph →
+        Carries names main.old main.new graph (Command.Add x v) [] (Ok tt) }
+    ensures unchanged { result ≡ false → main.new ≡ main.old }
+{
+    match sum(main, x, v) {
+        Some(sum) => {
+            main.hold(x, Held::Int(sum));
+            true
+        }
+        None => false,
+    }
+}
+
+/// The sum of the integer that `x` holds and the value, if both are integers and it has 64 bits.
+#[inline(always)]
+fn sum(main: &mut Main, x: u32, v: Operand) -> Option<i64>
+    requires shown { (graph : Graph) × MainShows main.old graph }
+    requires within { IsWithin main.old.seat.space.variables field_numbers (Command.Add x v) }
+    ensures sum { IfSome result (λ sum. (graph : Graph) → MainShows main.old graph → IsSum graph x v sum) }
+    ensures same { main.new ≡ main.old }
+{
+    let first = integer_of(main, Operand::Var(x))?;
+    let second = integer_of(main, v)?;
+    first.checked_add(second)
 }

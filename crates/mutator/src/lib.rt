@@ -19,7 +19,7 @@ mod stop;
 mod trims;
 mod weak_maps;
 
-pub use bindings::{add, drop_var, let_value};
+pub use bindings::{add, add_ahead, drop_var, let_value};
 pub use fields::{del, get, set};
 pub use lists::{at, new_list, push, put};
 pub use making::new_plain;

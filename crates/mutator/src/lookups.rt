@@ -1,13 +1,13 @@
 //! What a command reads: variables, operands, and the objects that values refer to. A read changes
 //! nothing. The fields of an object are read by `shape_change`.
-ghost use Rattle.std.specs.Prelude.{◌≡◌, ℕ, ◌<◌};
+ghost use Rattle.std.specs.Prelude.{◌≡◌, ◌<◌, IfSome};
 ghost use Rattle.std.specs.FinMap.{get};
 ghost use Rattle.heap_command.specs.Commands.{NamesBelow};
 ghost use Rattle.object_graph.specs.Graphs.{Graph, value_of};
 ghost use Rattle.object_graph.specs.declared.value.Value.{Value};
 ghost use Rattle.write_barrier.specs.MutatorState.{Mutator, MainShows};
 ghost use Rattle.mutator.specs.Reading.{StandsFor, Finds, FindsBoth, IsShownValue, FindsObject, FindsPlain};
-ghost use Rattle.mutator.specs.Reading.{FindsInteger, FindsKey, FindsList, FindsWeak};
+ghost use Rattle.mutator.specs.Reading.{FindsInteger, IsIntegerOf, FindsKey, FindsList, FindsWeak};
 
 use handle_roots::Held;
 use heap_command::{FaultWord, Operand};
@@ -64,8 +64,12 @@ pub(crate) fn operands(main: &mut Main, a: Operand, b: Operand) -> Result<(Held,
     ensures same { main.new ≡ main.old }
 {
     let first = operand(main, a)?;
-    let second = operand(main, b)?;
-    Ok((first, second))
+    // Most commands begin with an object. That it is one is told apart before the second operand is
+    // read: it would be carried through that, and asked for again.
+    match first {
+        Held::Ref(at) => Ok((Held::Ref(at), operand(main, b)?)),
+        other => Ok((other, operand(main, b)?)),
+    }
 }
 
 /// The object that the value refers to.
@@ -154,5 +158,20 @@ pub(crate) fn integer(held: Held) -> Result<i64, FaultWord>
     match held {
         Held::Int(v) => Ok(v),
         Held::Unbound | Held::Undefined | Held::Ref(_) => Err(FaultWord::NotInt),
+    }
+}
+
+/// The integer that the operand stands for, if it stands for one.
+#[inline(always)]
+pub(crate) fn integer_of(main: &mut Main, v: Operand) -> Option<i64>
+    requires shown { (graph : Graph) × MainShows main.old graph }
+    requires within { NamesBelow main.old.seat.space.variables v }
+    ensures found { IfSome result (λ i. (graph : Graph) → MainShows main.old graph →
+        IsIntegerOf graph v i) }
+    ensures same { main.new ≡ main.old }
+{
+    match operand(main, v) {
+        Ok(held) => integer(held).ok(),
+        Err(_) => None,
     }
 }

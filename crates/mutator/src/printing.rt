@@ -1,6 +1,6 @@
 //! The commands `print` and `same`, which write a line and leave the heap as it is; and the line of a
 //! census. The bytes wait in an `Output` of `output.rt`; what is written of shapes is in `shapes.rt`.
-ghost use Rattle.std.specs.Prelude.{◌≡◌, ℕ, ◌+◌, ◌++◌, ◌≤◌, List, [], length, is_ok, if◌then◌else◌};
+ghost use Rattle.std.specs.Prelude.{◌≡◌, ℕ, ◌+◌, ◌++◌, ◌≤◌, List, length, is_ok, if◌then◌else◌};
 ghost use Rattle.heap_command.specs.Commands.{IsWithin};
 ghost use Rattle.object_graph.specs.Graphs.{Graph};
 ghost use Rattle.object_graph.specs.Texts.{census_text, line, truth_text, value_text};

@@ -1,5 +1,5 @@
 //! What an event makes of the view of its worker.
-ghost use Rattle.std.specs.Prelude.{◌≡◌, OnOk, slice_index};
+ghost use Rattle.std.specs.Prelude.{◌≡◌, OnOk};
 ghost use Rattle.scav_core.specs.Views.{view_after, job_at, with_header, with_body_word, is_as_read};
 ghost use Rattle.scav_core.specs.Views.{header_after, given_view, taken_view, loaded_view, forwarded_view};
 

@@ -3,7 +3,6 @@
 ghost use Rattle.std.specs.Prelude.{◌≡◌, ℕ, ◌+◌, ◌≤◌, Bool, List, [], Contains};
 ghost use Rattle.std.specs.Vec.{vec_capacity};
 ghost use Rattle.page_space.specs.Extents.{eden_start, layouts_start, roots_start};
-ghost use Rattle.heap_table.specs.declared.phase.Phase.TheVariants.{Quiet};
 ghost use Rattle.write_barrier.specs.MutatorState.{Mutator};
 ghost use Rattle.scav_copy.specs.declared.places.Home.{Home};
 ghost use Rattle.scavenger.specs.Filling.{ChangesWords, Front};

@@ -1,5 +1,5 @@
 //! Writing a line: the word of its command, and its operands with what is drawn for them.
-ghost use Rattle.std.specs.Prelude.{◌≡◌, ◌∷◌, ◌++◌, IfOk, decimal};
+ghost use Rattle.std.specs.Prelude.{◌≡◌, ◌++◌, IfOk, decimal};
 ghost use Rattle.script_gen.specs.Lines.{drawn_word, drawn_value, drawn_words, state_after, line_text};
 
 use crate::draws::Kept;

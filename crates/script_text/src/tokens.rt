@@ -1,7 +1,7 @@
 //! What a token may be: a name or an integer.
-ghost use Rattle.std.specs.Prelude.{◌≡◌, ◌≤◌, ◌^◌, option_and_then};
+ghost use Rattle.std.specs.Prelude.{◌≡◌, option_and_then};
 ghost use Rattle.std.specs.List.{list_all};
-ghost use Rattle.script_text.specs.Tokens.{is_name, is_name_start, is_name_byte, is_digit, starts_as_name, at_most};
+ghost use Rattle.script_text.specs.Tokens.{is_name, is_name_start, is_name_byte, starts_as_name, at_most};
 ghost use Rattle.script_text.specs.Tokens.{positive_of, digits_after, integer_of};
 
 use crate::limits::NAME_BYTES_MOST;

@@ -1,9 +1,9 @@
 //! A field of a name that is new to its object. One that is there is in `set_field.rt`.
 ghost use Rattle.heap_model.specs.Needs as needs;
 ghost use Rattle.heap_model.specs.Rooms.{new_field_need};
-ghost use Rattle.std.specs.Prelude.{◌≡◌, ℕ, ℤ, ◌+◌, ◌-◌, ◌<◌, ◌≤◌, false, OnOk, IfOk, IfErr, None};
+ghost use Rattle.std.specs.Prelude.{◌≡◌, ℤ, ◌+◌, ◌-◌, ◌<◌, ◌≤◌, false, OnOk, IfOk, IfErr, None};
 ghost use Rattle.std.specs.Prelude.{slice_set, length};
-ghost use Rattle.tagged_word.specs.Cells.{plain_head, store_head, cell_words_most};
+ghost use Rattle.tagged_word.specs.Cells.{store_head, cell_words_most};
 ghost use Rattle.page_space.specs.Extents.{marks_start};
 ghost use Rattle.object_graph.specs.Graphs.{Graph, PlainObject};
 ghost use Rattle.object_graph.specs.declared.value.Value.{Value as GraphValue};
@@ -21,7 +21,7 @@ ghost use Rattle.shape_change.specs.Additions.{IsNewField, RefusesField, CanAdd,
 ghost use Rattle.shape_change.specs.Additions.{AddsToNewStore, AddsField, count_of, behind_cap};
 ghost use Rattle.shape_change.specs.Additions.{ComesBehind};
 ghost use Rattle.object_cells.specs.Made.{PutsWords, IsStoreAt, RefusesRoom, is_wide_held};
-ghost use Rattle.object_cells.specs.Made.{with_content, content_need, content_word, slot_touch, store_content};
+ghost use Rattle.object_cells.specs.Made.{content_need, content_word, slot_touch, store_content};
 
 use crate::stop::FieldStop;
 use crate::transitions::{set_shape, step_to};

@@ -1,5 +1,5 @@
 //! The call `get`: a variable comes to hold a field.
-ghost use Rattle.std.specs.Prelude.{◌≡◌, ◌<◌};
+ghost use Rattle.std.specs.Prelude.{◌<◌};
 ghost use Rattle.object_graph.specs.Graphs.{Graph, PlainObject};
 ghost use Rattle.write_barrier.specs.MutatorState.{heap_of, MainShows};
 ghost use Rattle.object_cells.specs.PlainObjects.{IsPlainAt, IsShownPlain};

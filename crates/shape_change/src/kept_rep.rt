@@ -1,28 +1,19 @@
 //! Fields that are there and keep their representation: most words are put at once. What else comes of
 //! setting a field is in `set_field.rt`.
-ghost use Rattle.std.specs.Prelude.{◌≡◌, ◌+◌, ◌<◌, ◌≤◌, length, OnOk, IfErr, ℕ, Some, slice_get};
-ghost use Rattle.std.specs.Prelude.{option_map, OnErr, IfSome, None, false};
+ghost use Rattle.std.specs.Prelude.{◌≡◌, ◌<◌, ℕ, Some, slice_get};
+ghost use Rattle.std.specs.Prelude.{option_map, IfSome, None};
 ghost use Rattle.shape_change.specs.Fillings.{KeepsTagged, KeepsRaw};
-ghost use Rattle.write_barrier.specs.MutatorState.{heap_of, IsTied, MainShows};
+ghost use Rattle.write_barrier.specs.MutatorState.{heap_of, MainShows};
 ghost use Rattle.shape_change.specs.FieldChanges.{IsShownSetting, SetsField};
-ghost use Rattle.object_cells.specs.CellsAt.{HasField, IsQuietWhole, IsHeaderAt};
-ghost use Rattle.shape_change.specs.Fillings.{IsSlotSetting, with_paths, CanSetSlot, SetsWider};
-ghost use Rattle.page_space.specs.Extents.{layouts_start, marks_start};
-ghost use Rattle.object_graph.specs.Paths.{missing};
-ghost use Rattle.object_graph.specs.Limits.{paths_most};
-ghost use Rattle.shape_tree.specs.Shapes.{IsPathShape, shape_path, has_name, changed, Leads};
-ghost use Rattle.shape_tree.specs.Shapes.{LacksPathsFor};
-ghost use Rattle.object_graph.specs.Objects.{field_value};
+ghost use Rattle.object_cells.specs.CellsAt.{HasField, IsHeaderAt};
+ghost use Rattle.page_space.specs.Extents.{marks_start};
 ghost use Rattle.heap_table.specs.declared.phase.Phase.TheVariants.{Quiet};
-ghost use Rattle.heap_model.specs.Wholeness.{HasSizes};
-ghost use Rattle.write_barrier.specs.Opening.{ChangesWithin};
 ghost use Rattle.shape_change.specs.Places.{place_at};
 ghost use Rattle.object_graph.specs.declared.value.Value.{Value};
 ghost use Rattle.object_graph.specs.Graphs.{Graph, PlainObject};
-ghost use Rattle.heap_model.specs.Needs.{word_at};
 ghost use Rattle.object_cells.specs.PlainObjects.{IsPlainAt};
 ghost use Rattle.object_cells.specs.HeldValues.{IsValueHeld};
-ghost use Rattle.object_cells.specs.Contents.{HoldsSlotWord, LacksRoom, FillsSlot, filling_at};
+ghost use Rattle.object_cells.specs.Contents.{FillsSlot};
 
 use crate::set_field::{set_by_setting, setting_of};
 use crate::slots::{Place, fill};

@@ -1,7 +1,6 @@
 //! The call `set`. A name that is new to its object is in `add_field.rt`.
 ghost use Rattle.std.specs.Prelude.{◌≡◌, ◌+◌, ◌<◌, ◌≤◌, length, OnOk, IfErr, ℕ, Some, slice_get};
-ghost use Rattle.std.specs.Prelude.{option_map, OnErr, IfSome, None, false};
-ghost use Rattle.shape_change.specs.Fillings.{KeepsTagged};
+ghost use Rattle.std.specs.Prelude.{option_map, OnErr, None};
 ghost use Rattle.write_barrier.specs.MutatorState.{heap_of, IsTied, MainShows};
 ghost use Rattle.shape_change.specs.FieldChanges.{IsShownSetting, SetsField};
 ghost use Rattle.object_cells.specs.CellsAt.{HasField, IsQuietWhole, IsHeaderAt};
@@ -9,9 +8,8 @@ ghost use Rattle.shape_change.specs.Fillings.{IsSlotSetting, with_paths, CanSetS
 ghost use Rattle.page_space.specs.Extents.{layouts_start, marks_start};
 ghost use Rattle.object_graph.specs.Paths.{missing};
 ghost use Rattle.object_graph.specs.Limits.{paths_most};
-ghost use Rattle.shape_tree.specs.Shapes.{IsPathShape, shape_path, has_name, changed, Leads};
+ghost use Rattle.shape_tree.specs.Shapes.{IsPathShape, shape_path, changed, Leads};
 ghost use Rattle.shape_tree.specs.Shapes.{LacksPathsFor};
-ghost use Rattle.object_graph.specs.Objects.{field_value};
 ghost use Rattle.heap_table.specs.declared.phase.Phase.TheVariants.{Quiet};
 ghost use Rattle.heap_model.specs.Wholeness.{HasSizes};
 ghost use Rattle.write_barrier.specs.Opening.{ChangesWithin};

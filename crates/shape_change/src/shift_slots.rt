@@ -1,5 +1,5 @@
 //! Slots that move down by one, where a field before them is taken out.
-ghost use Rattle.std.specs.Prelude.{◌≡◌, ◌+◌, ◌-◌, ◌<◌, ◌≤◌, ◌⊎◌, true, length, slice_get, slice_set};
+ghost use Rattle.std.specs.Prelude.{◌≡◌, ◌+◌, ◌-◌, ◌<◌, ◌≤◌, true, length, slice_get, slice_set};
 ghost use Rattle.tagged_word.specs.Cells.{plain_head, store_head};
 ghost use Rattle.page_space.specs.Extents.{marks_start};
 ghost use Rattle.shape_tree.specs.Shapes.{IsPathShape, shape_path};

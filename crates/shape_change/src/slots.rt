@@ -2,12 +2,11 @@
 //! field comes to an object, and how it goes, is in `add_field.rt` and `delete_field.rt`.
 ghost use Rattle.object_graph.specs.declared.value.Rep.TheVariants as rep_of;
 ghost use Rattle.object_cells.specs.Contents as contents;
-ghost use Rattle.std.specs.Prelude.{◌≡◌, ◌≢◌, ◌+◌, ◌<◌, ◌≤◌, ℕ, ℤ, IsTrue, Some, length, slice_get};
+ghost use Rattle.std.specs.Prelude.{◌≡◌, ◌≢◌, ◌+◌, ◌<◌, ℕ, Some, slice_get};
 ghost use Rattle.std.specs.Prelude.{nat_lt, true, false, OnErr, IfOk, IfErr};
 ghost use Rattle.shape_change.specs.Places.{is_own, place_at, IsPlaceOf, StandsSlot};
 ghost use Rattle.page_space.specs.Extents.{marks_start};
 ghost use Rattle.object_graph.specs.declared.value.Value.{Value};
-ghost use Rattle.shape_tree.specs.Shapes.{IsPathShape, shape_path};
 ghost use Rattle.heap_model.specs.Slots.{IsFieldWord};
 ghost use Rattle.heap_model.specs.Showing.{ShowsField};
 ghost use Rattle.write_barrier.specs.MutatorState.{heap_of, IsTied, with_variable};

@@ -5,7 +5,7 @@ ghost use Rattle.std.specs.Vec.{vec_len, vec_capacity};
 ghost use Rattle.tagged_word.specs.Shapes.{first_path_shape};
 ghost use Rattle.object_graph.specs.Paths.{missing};
 ghost use Rattle.heap_command.specs.Commands.{cap_most};
-ghost use Rattle.object_graph.specs.Invariants.{IsPath, fields_most};
+ghost use Rattle.object_graph.specs.Invariants.{IsPath};
 ghost use Rattle.object_graph.specs.Limits.{paths_most};
 ghost use Rattle.shape_tree.specs.Shapes.{AreShapes, IsPathShape, IsShapeOf, shape_path, Leads};
 ghost use Rattle.shape_tree.specs.Shapes.{LacksPathsFor};

@@ -5,7 +5,6 @@ ghost use Rattle.std.specs.List.{range_with_len};
 ghost use Rattle.std.specs.Vec.{vec_capacity};
 ghost use Rattle.std.specs.HashMap.{get, hash_map_len, spare, IsUnique};
 ghost use Rattle.object_graph.specs.Paths.{empty_paths};
-ghost use Rattle.shape_tree.specs.ShapeLayouts.{layout_of};
 ghost use Rattle.shape_tree.specs.Nodes.{same_transition, root_node_of, empty_entry};
 ghost use Rattle.shape_tree.specs.Nodes.{cache_entries};
 ghost use Rattle.shape_tree.specs.declared.transition.Transition.{Transition};

@@ -2,7 +2,7 @@
 //! room for new cells in `room.rt`, free runs of pages in `free_cells.rt`, variables in `roots.rt`.
 ghost use Rattle.std.specs.Prelude.{◌≡◌, ◌+◌, ◌<◌, ◌^◌, length, slice_get, Some, refl};
 ghost use Rattle.std.specs.Borrow.{sem};
-ghost use Rattle.std.proofs.Common.{◌∙◌, subst, sym};
+ghost use Rattle.std.proofs.Common.{◌∙◌};
 ghost use Rattle.tagged_word.specs.Readings.{header_at};
 ghost use Rattle.page_space.specs.Sizes.{AreWithin};
 ghost use Rattle.page_space.specs.Extents.{words_count, marks_start};

@@ -1,6 +1,6 @@
 //! Stores: the calls by which the words of the heap change. What is put in a page is recorded where it
 //! is a slot's and refers to a young cell, and not else; so no record outlives its slot.
-ghost use Rattle.std.specs.Prelude.{◌≡◌, ◌+◌, ◌^◌, ◌<◌, ◌≤◌, ◌⊎◌, length, slice_get, slice_set, Some};
+ghost use Rattle.std.specs.Prelude.{◌≡◌, ◌+◌, ◌<◌, ◌≤◌, ◌⊎◌, length, slice_get, slice_set, Some};
 ghost use Rattle.tagged_word.specs.Headers.{IsHeader, header_bits};
 ghost use Rattle.tagged_word.specs.Readings.{reference_in};
 ghost use Rattle.page_space.specs.Extents.{layouts_start, marks_start};

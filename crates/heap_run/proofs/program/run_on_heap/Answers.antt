@@ -10,6 +10,7 @@ use Rattle.collector.proofs.ImagesTight.{images_are_tight}
 use Rattle.collector.proofs.ImagesFree.{images_keep_free}
 use Rattle.collector.proofs.ImagesStuck.{images_stay_stuck}
 use Rattle.collector.proofs.ImagesExact.{images_are_exact, images_keep_dead}
+use Rattle.heap_script.specs.Inspecting.{counts_at_end}
 use Rattle.heap_run.specs.Texts.{sink_fault_status}
 use Rattle.heap_run.proofs.Concluding.{IsKeepable, Runs-finished}
 use Rattle.heap_run.proofs.Imaged.{Laws, finishes_imaged}
@@ -36,14 +37,14 @@ returns g c = λ bytes is.
       dead = images_keep_dead;
       nowhere = no_run_fits_none;
     } in
-    let finishes = finishes_imaged finished _ _ _ _ laws imaged ran.finishes in
+    let finishes = finishes_imaged (counts_at_end c.args.inspection) finished _ _ _ _ laws imaged ran.finishes in
     let keepable : IsKeepable space.sizes script image = record {
       regions = imaged.space ∙ ran.space
           ∙ ap (λ (n : ℕ). record { sizes = space.sizes; variables = n }) c.requires.variables;
       blank = images_are_blank heap (image_heap image) ran.finishes.reached.shown.whole imaged;
     } in
     rw c.need.ensures
-    (Runs-finished space.sizes bytes script image finished.how finished.line finished.executed c.conclude-status.result
+    (Runs-finished (counts_at_end c.args.inspection) space.sizes bytes script image finished.how finished.line finished.executed c.conclude-status.result
     _ _ _ _ _ _ is keepable finishes
     (λ cut. (concluded.cut cut).0)
     (λ cut. rw (concluded.cut cut).1 finishes)

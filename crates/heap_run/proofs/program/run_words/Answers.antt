@@ -1,17 +1,23 @@
 use Rattle.command_line.proofs.AskedSizes.{asked_sizes_are_within}
 use Rattle.command_line.proofs.AskedForms.{asked_forms_are_few}
-use Rattle.std.proofs.Common.{arith, inl, Some, refl, ap, ◌∙◌, map, string_bytes}
+use Rattle.std.proofs.Common.{arith, false, true, inl, Some, refl, ap, ◌∙◌, map, string_bytes}
 use Rattle.heap_run.specs.declared.last_line.LastLine.TheVariants as last
 use Rattle.heap_run.specs.Answers.{Comes, AsksToRun, AsksToGenerate}
-use Rattle.heap_run.proofs.Answering.{Answers-unopened, Answers-runs, begins}
+use Rattle.heap_run.proofs.Answering.{Answers-unopened}
 use Rattle.heap_run.proofs.Generating.{Answers-generates}
 use Rattle.heap_run.proofs.program.run_words.Goals as goal
 
-pub run_source-requires-after_bounds : goal.run_source-requires-after_bounds
-run_source-requires-after_bounds g c κs within =
-    let asks : AsksToRun (map string_bytes c.args.words.now) c.in-Ok-Run.sizes =
+pub run_read-requires-after_bounds : goal.run_read-requires-after_bounds
+run_read-requires-after_bounds g c κs within =
+    let asks : AsksToRun (map string_bytes c.args.words.now) false c.in-Ok-Run.sizes =
     c.in-Ok-Run.ensures.invocation ∙ ap Some c.in-Ok-Run.field-0-is in
-    asked_sizes_are_within (map string_bytes c.args.words.now) c.in-Ok-Run.sizes 0 asks (omega arith)
+    asked_sizes_are_within (map string_bytes c.args.words.now) false c.in-Ok-Run.sizes 0 asks (omega arith)
+
+pub run_read-requires-in-Ok-Check-after_bounds : goal.run_read-requires-in-Ok-Check-after_bounds
+run_read-requires-in-Ok-Check-after_bounds g c κs within =
+    let asks : AsksToRun (map string_bytes c.args.words.now) true c.in-Ok-Check.sizes =
+    c.in-Ok-Check.ensures.invocation ∙ ap Some c.in-Ok-Check.field-0-is in
+    asked_sizes_are_within (map string_bytes c.args.words.now) true c.in-Ok-Check.sizes 0 asks (omega arith)
 
 pub write_generated-requires : goal.write_generated-requires
 write_generated-requires g c =
@@ -39,40 +45,12 @@ returns-in-Err-NoMemory g c =
     Answers-unopened _ _ _ _ _ _ given.result last.NoMemory given.ensures.unopened
     (Comes.no_memory (refused.begins_built refl) (inl (refl, refl))) given.ensures.taken
 
-pub returns-in-Ok-read_source : goal.returns-in-Ok-read_source
-returns-in-Ok-read_source g c =
-    let asks : AsksToRun (map string_bytes c.args.words.now) c.in-Ok-Run.sizes =
-    c.in-Ok-Run.ensures.invocation ∙ ap Some c.in-Ok-Run.field-0-is in
-    let read = c.in-Ok-read_source.ensures in
-    Answers-runs _ _ c.in-Ok-read_source.bytes.items _ _ _ _ _ c.run_source.result asks
-    (record { all = read.whole; few = read.short; none_left = read.empty; steady = read.steady })
-    (rw c.deref.ensures.value at c.run_source.ensures)
+pub returns-in-Ok-Run : goal.returns-in-Ok-Run
+returns-in-Ok-Run g c =
+    c.run_read.ensures (map string_bytes c.args.words.now)
+    (c.in-Ok-Run.ensures.invocation ∙ ap Some c.in-Ok-Run.field-0-is)
 
-pub returns-in-Err-Fault : goal.returns-in-Err-Fault
-returns-in-Err-Fault g c =
-    let asks : AsksToRun (map string_bytes c.args.words.now) c.in-Ok-Run.sizes =
-    c.in-Ok-Run.ensures.invocation ∙ ap Some c.in-Ok-Run.field-0-is in
-    let stopped = rw c.in-Err-Fault.field-0-is at c.in-Err-Fault.ensures in
-    let given = c.give_up-in-Err-Fault in
-    Answers-unopened _ _ _ _ _ _ given.result last.ReadFault given.ensures.unopened
-    (Comes.read_fault _ asks (stopped.fault refl)) given.ensures.taken
-
-pub returns-in-Err-TooLong : goal.returns-in-Err-TooLong
-returns-in-Err-TooLong g c =
-    let asks : AsksToRun (map string_bytes c.args.words.now) c.in-Ok-Run.sizes =
-    c.in-Ok-Run.ensures.invocation ∙ ap Some c.in-Ok-Run.field-0-is in
-    let stopped = rw c.in-Err-TooLong.field-0-is at c.in-Err-TooLong.ensures in
-    let many = stopped.too_long refl in
-    let given = c.give_up-in-Err-TooLong in
-    Answers-unopened _ _ _ _ _ _ given.result last.SourceTooLong given.ensures.unopened
-    (Comes.too_long _ asks (record { many = many.0; steady = many.1 })) given.ensures.taken
-
-pub returns-in-Err-NoMemory-read_source : goal.returns-in-Err-NoMemory-read_source
-returns-in-Err-NoMemory-read_source g c =
-    let asks : AsksToRun (map string_bytes c.args.words.now) c.in-Ok-Run.sizes =
-    c.in-Ok-Run.ensures.invocation ∙ ap Some c.in-Ok-Run.field-0-is in
-    let stopped = rw c.in-Err-NoMemory-read_source.field-0-is at c.in-Err-NoMemory-read_source.ensures in
-    let given = c.give_up-in-Err-NoMemory-read_source in
-    Answers-unopened _ _ _ _ _ _ given.result last.NoMemory given.ensures.unopened
-    (Comes.no_memory (begins (map string_bytes c.args.words.now) c.in-Ok-Run.sizes asks) (inl (stopped.no_memory refl)))
-    given.ensures.taken
+pub returns-in-Ok-Check : goal.returns-in-Ok-Check
+returns-in-Ok-Check g c =
+    c.run_read-in-Ok-Check.ensures (map string_bytes c.args.words.now)
+    (c.in-Ok-Check.ensures.invocation ∙ ap Some c.in-Ok-Check.field-0-is)

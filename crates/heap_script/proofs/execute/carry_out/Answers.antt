@@ -26,20 +26,20 @@ execute-requires c =
 pub make_way-requires-clause-servable : goal.make_way-requires-clause-servable
 make_way-requires-clause-servable c =
     let now = c.tries.invariant in
-    servable c.args.script.now.fields c.execute.new.heap now.ready now.objects c.in-Err.ensures.spare c.requires.shown
+    servable c.args.script.now.fields c.execute.new.heap now.ready now.objects c.in-Err.ensures.rest c.requires.shown
     c.in-Err.ensures.carried c.requires.within
 
 pub make_way-requires-clause-clearable : goal.make_way-requires-clause-clearable
 make_way-requires-clause-clearable c =
     let now = c.tries.invariant in
-    clearable c.args.script.now.fields c.execute.new.heap now.ready now.objects c.in-Err.ensures.spare
+    clearable c.args.script.now.fields c.execute.new.heap now.ready now.objects c.in-Err.ensures.rest
     c.requires.shown c.in-Err.ensures.carried
 
 pub make_way-requires-clause-shown : goal.make_way-requires-clause-shown
 make_way-requires-clause-shown c =
     let now = c.tries.invariant in
     let (graph, shown, made) = c.requires.shown in
-    let same = unchanged c.args.script.now.fields c.execute.new.heap now.ready now.objects c.in-Err.ensures.spare
+    let same = unchanged c.args.script.now.fields c.execute.new.heap now.ready now.objects c.in-Err.ensures.rest
     c.requires.shown c.in-Err.ensures.carried in
     (graph, rw same (now.ready.shows graph shown))
 
@@ -57,8 +57,8 @@ tries-preserved c =
     let (text, tries, out-is) =
     c.in-Err.ensures.carried graph (now.ready.shows graph shown) (now.objects ∙ made) in
     record {
-      ready = ready_next c.args.script.now.fields c.execute.new.heap now.ready now.objects c.in-Err.ensures.spare
-          c.requires.shown c.in-Err.ensures.carried c.make_way.ensures.shows c.make_way.ensures.spare
+      ready = ready_next c.args.script.now.fields c.execute.new.heap now.ready now.objects c.in-Err.ensures.rest
+          c.requires.shown c.in-Err.ensures.carried c.make_way.ensures.shows c.make_way.ensures.rest
           c.in-Some.ensures.way;
       objects = c.in-Err.ensures.uncounted refl ∙ now.objects;
       out = out-is ∙ now.out;
@@ -70,8 +70,8 @@ returns-in_default-make_way-clause-carried c = λ graph shown made.
     let (text, tries, out-is) =
     c.in-Err.ensures.carried graph (now.ready.shows graph shown) (now.objects ∙ made) in (
       text,
-      stops c.args.script.now.fields c.execute.new.heap now.ready now.objects c.in-Err.ensures.spare c.requires.shown
-          c.in-Err.ensures.carried c.make_way.ensures.shows c.make_way.ensures.spare c.laws_of_counts.ensures.full
+      stops c.args.script.now.fields c.execute.new.heap now.ready now.objects c.in-Err.ensures.rest c.requires.shown
+          c.in-Err.ensures.carried c.make_way.ensures.shows c.make_way.ensures.rest c.laws_of_counts.ensures.full
           c.laws_of_fitting.ensures.nowhere c.in_default-make_way.ensures.way graph shown made,
       out-is ∙ now.out,
     )

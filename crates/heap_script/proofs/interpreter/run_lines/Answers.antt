@@ -5,7 +5,7 @@ use Rattle.std.specs.Prelude.{slice_get, None}
 use Rattle.object_graph.specs.Run.{lines_most}
 use Rattle.script_text.specs.Unrolled.{executed_lines}
 use Rattle.script_text.proofs.Left.{at_most_four}
-use Rattle.write_barrier.specs.MutatorState.{heap_of}
+use Rattle.write_barrier.specs.MutatorState.{Mutator, heap_of}
 use Rattle.heap_script.specs.Stages.{uncollected, stage_of}
 use Rattle.heap_script.proofs.Ways.{goes_on, past_end}
 use Rattle.heap_script.specs.Runs.{OutputHolds, IsDue}
@@ -15,6 +15,7 @@ use Rattle.heap_script.proofs.Running.{next-drop, Running-start, Running-handed}
 use Rattle.heap_script.proofs.LineCarried.{Running-line, TellsAt-line}
 use Rattle.heap_script.proofs.Ending.{EndsRun-end, EndsRun-limit, Stopped-line, Pauses-stopped}
 use Rattle.heap_script.proofs.Retrying.{same_regions}
+use Rattle.heap_script.proofs.Judging.{is_for, Running-judged, Pauses-judged}
 use Rattle.heap_script.proofs.interpreter.run_lines.Goals as goal
 
 pub loop-at-init : goal.loop-at-init
@@ -27,6 +28,7 @@ loop-at-init g c =
           c.requires.opened c.requires.variables);
       holds = rw c.requires.empty OutputHolds.nothing;
       space = refl;
+      same = refl;
       steady = refl;
     }
 
@@ -48,25 +50,19 @@ returns-then-executed-eq-LINES_MOST-clause-pauses g c =
     let script = c.args.script.now in
     let goes = goes_on lines script.lines c.loop-at.at c.loop-at.turns _ c.lines-lines.ensures.all c.loop-at-test.true
     r.left in
-    record {
+    rw c.after.ensures
+    (record {
       reached = r.reached;
       collections = uncollected;
       spends = r.spends;
-      free = r.shown.main.free;
+      shown = r.shown;
       halts = (
         EndsRun-limit script (stage_of c.loop-at.heap.main) _ c.loop-at.executed line.number _ _ r.reached goes
             c.if-executed-eq-LINES_MOST.true,
         r.handed,
         c.loop-at.invariant.steady,
       );
-    }
-
-pub returns-then-executed-eq-LINES_MOST-clause-shows : goal.returns-then-executed-eq-LINES_MOST-clause-shows
-returns-then-executed-eq-LINES_MOST-clause-shows g c =
-    let r = c.loop-at.invariant.running in (r.reached.so_far.graph, r.shown)
-
-pub returns-clause-shows : goal.returns-clause-shows
-returns-clause-shows g c = let r = c.loop-at.invariant.running in (r.reached.so_far.graph, r.shown)
+    })
 
 pub returns-clause-pauses : goal.returns-clause-pauses
 returns-clause-pauses g c =
@@ -74,18 +70,19 @@ returns-clause-pauses g c =
     let lines = c.lines-lines.result.now in
     let past : slice_get c.args.script.now.lines c.loop-at.at ≡ None =
     rw (← c.lines-lines.ensures.all) (slice_get_past lines c.loop-at.at c.loop-at-test.false) in
-    record {
+    rw c.after-2.ensures
+    (record {
       reached = r.reached;
       collections = uncollected;
       spends = r.spends;
-      free = r.shown.main.free;
+      shown = r.shown;
       halts = (
         EndsRun-end c.args.script.now (stage_of c.loop-at.heap.main) c.loop-at.at c.loop-at.executed c.loop-at.turns
             r.reached r.left past,
         r.handed,
         c.loop-at.invariant.steady,
       );
-    }
+    })
 
 pub returns-in_default : goal.returns-in_default
 returns-in_default g c =
@@ -104,19 +101,42 @@ returns-in_default g c =
       few = omega (arith, r.reached.few);
     } in
     record {
-      pauses = record {
+      pauses = rw c.after-in_default.ensures (record {
         reached = r.reached;
         collections = uncollected;
         spends = r.spends;
-        free = r.shown.main.free;
+        shown = r.shown;
         halts = (
           (refl, refl, refl, due),
           CutsOff-handed r.handed c.in_default.ensures.stopped,
           rw c.loop-at.invariant.steady at c.in_default.ensures.failed,
         );
-      };
-      shows = (r.reached.so_far.graph, r.shown);
+      });
       space = c.loop-at.invariant.space;
+      same = c.loop-at.invariant.same;
+    }
+
+pub stopped-how-requires : goal.stopped-how-requires
+stopped-how-requires g c =
+    let script = c.args.script.now in
+    let before = c.loop-at.invariant.running in
+    let n = c.loop-at.executed in
+    let lines = c.lines-lines.result.now in
+    let line = get_or lines c.loop-at.at past_end in
+    let heap = c.loop-at.heap in
+    let r = Running-handed script heap _ _ c.flush_if_full.new.out _ _ _ _ _ _ _ before c.in-Ok.ensures.handed in
+    let goes = goes_on lines script.lines c.loop-at.at c.loop-at.turns _ c.lines-lines.ensures.all c.loop-at-test.true
+    r.left in
+    let below : n < lines_most = omega (arith, r.reached.few) in
+    let after = c.execute_line.new.heap in
+    let (text, carries, out-is) = c.in-Err.ensures.carried r.reached.so_far.graph r.shown r.made in
+    let stopped = Stopped-line script heap after _ c.flush_if_full.new.out _ _ c.loop-at.at _ c.loop-at.turns _ n
+    line.number _ text c.in-Err.stop r below goes c.in-Err.ensures.rest carries in
+    record {
+      shown = (stopped.running.reached.so_far.graph, stopped.running.shown);
+      for_heap = is_for c.args.heap.now after c.loop-at.invariant.same
+          (same_regions heap after r.shown stopped.running.shown c.in-Err.ensures.rest ∙ c.loop-at.invariant.space)
+          c.requires.for_heap;
     }
 
 pub returns-in-Err : goal.returns-in-Err
@@ -131,17 +151,41 @@ returns-in-Err g c =
     let goes = goes_on lines script.lines c.loop-at.at c.loop-at.turns _ c.lines-lines.ensures.all c.loop-at-test.true
     r.left in
     let below : n < lines_most = omega (arith, r.reached.few) in
-    let graph = r.reached.so_far.graph in
     let after = c.execute_line.new.heap in
-    let (text, carries, out-is) = c.in-Err.ensures.carried graph r.shown r.made in
+    let (text, carries, out-is) = c.in-Err.ensures.carried r.reached.so_far.graph r.shown r.made in
     let stopped = Stopped-line script heap after _ c.flush_if_full.new.out _ _ c.loop-at.at _ c.loop-at.turns _ n
-    line.number _ text c.in-Err.stop r below goes c.in-Err.ensures.spare carries in
-    let shows = stopped.running.shown in
+    line.number _ text c.in-Err.stop r below goes c.in-Err.ensures.rest carries in
+    let paused =
+    Pauses-stopped c.in-Err.stop stopped (c.in-Ok.ensures.steady ∙ c.loop-at.invariant.steady) in
+    let judged = c.stopped-how.ensures in
     record {
-      pauses = rw (out-is, c.stopped.ensures)
-          (Pauses-stopped c.in-Err.stop stopped (c.in-Ok.ensures.steady ∙ c.loop-at.invariant.steady));
-      shows = (stopped.running.reached.so_far.graph, shows);
-      space = same_regions heap after r.shown shows c.in-Err.ensures.spare ∙ c.loop-at.invariant.space;
+      pauses = rw (out-is, c.after-in-Err.ensures, judged.how) (Pauses-judged paused judged.main judged.shows);
+      space = ap (λ (main : Mutator). main.seat.space) judged.main
+          ∙ same_regions heap after r.shown stopped.running.shown c.in-Err.ensures.rest ∙ c.loop-at.invariant.space;
+      same = judged.same ∙ c.loop-at.invariant.same;
+    }
+
+pub flaw_behind-requires : goal.flaw_behind-requires
+flaw_behind-requires g c =
+    let script = c.args.script.now in
+    let before = c.loop-at.invariant.running in
+    let n = c.loop-at.executed in
+    let lines = c.lines-lines.result.now in
+    let line = get_or lines c.loop-at.at past_end in
+    let heap = c.loop-at.heap in
+    let r = Running-handed script heap _ _ c.flush_if_full.new.out _ _ _ _ _ _ _ before c.in-Ok.ensures.handed in
+    let goes = goes_on lines script.lines c.loop-at.at c.loop-at.turns _ c.lines-lines.ensures.all c.loop-at-test.true
+    r.left in
+    let below : n < lines_most = omega (arith, r.reached.few) in
+    let ran = c.in-Ok-execute_line.ensures in
+    let (text, carries, out-is) = ran.carried r.reached.so_far.graph r.shown r.made in
+    let running = Running-line script heap c.execute_line.new.heap c.loop-at.objects c.flush_if_full.new.out _ _
+    c.loop-at.at _ c.loop-at.turns _ n line.number _ text r below goes ran.rest carries in
+    record {
+      shown = (running.reached.so_far.graph, running.shown);
+      for_heap = is_for c.args.heap.now c.execute_line.new.heap c.loop-at.invariant.same
+          (same_regions heap c.execute_line.new.heap r.shown running.shown ran.rest ∙ c.loop-at.invariant.space)
+          c.requires.for_heap;
     }
 
 pub run_ahead-ahead-requires-clause-runs : goal.run_ahead-ahead-requires-clause-runs
@@ -159,8 +203,10 @@ run_ahead-ahead-requires-clause-runs g c =
     let ran = c.in-Ok-execute_line.ensures in
     let (text, carries, out-is) = ran.carried r.reached.so_far.graph r.shown r.made in
     let running = Running-line script heap c.execute_line.new.heap c.loop-at.objects c.flush_if_full.new.out _ _
-    c.loop-at.at _ c.loop-at.turns _ n line.number _ text r below goes ran.spare carries in
-    (running.handed.handed, rw (ran.place, ran.turned, ran.counted, out-is) (as_taken running))
+    c.loop-at.at _ c.loop-at.turns _ n line.number _ text r below goes ran.rest carries in
+    let judged = c.flaw_behind.ensures in
+    let on = Running-judged running judged.main judged.shows in
+    (on.handed.handed, rw (ran.place, ran.turned, ran.counted, out-is) (as_taken on))
 
 pub run_ahead-ahead-requires-clause-variables : goal.run_ahead-ahead-requires-clause-variables
 run_ahead-ahead-requires-clause-variables g c =
@@ -177,9 +223,9 @@ run_ahead-ahead-requires-clause-variables g c =
     let ran = c.in-Ok-execute_line.ensures in
     let (text, carries, out-is) = ran.carried r.reached.so_far.graph r.shown r.made in
     let running = Running-line script heap c.execute_line.new.heap c.loop-at.objects c.flush_if_full.new.out _ _
-    c.loop-at.at _ c.loop-at.turns _ n line.number _ text r below goes ran.spare carries in
-    let space = same_regions heap c.execute_line.new.heap r.shown running.shown ran.spare
-    ∙ c.loop-at.invariant.space in
+    c.loop-at.at _ c.loop-at.turns _ n line.number _ text r below goes ran.rest carries in
+    let space = ap (λ (main : Mutator). main.seat.space) c.flaw_behind.ensures.main
+    ∙ same_regions heap c.execute_line.new.heap r.shown running.shown ran.rest ∙ c.loop-at.invariant.space in
     ap (λ (space : Space). space.variables) space ∙ c.requires.variables
 
 pub loop-at-smaller : goal.loop-at-smaller
@@ -201,18 +247,21 @@ loop-at-preserved g c =
     let ran = c.in-Ok-execute_line.ensures in
     let (text, carries, out-is) = ran.carried r.reached.so_far.graph r.shown r.made in
     let running = Running-line script heap c.execute_line.new.heap c.loop-at.objects c.flush_if_full.new.out _ _
-    c.loop-at.at _ c.loop-at.turns _ n line.number _ text r below goes ran.spare carries in
+    c.loop-at.at _ c.loop-at.turns _ n line.number _ text r below goes ran.rest carries in
+    let judged = c.flaw_behind.ensures in
+    let on = Running-judged running judged.main judged.shows in
     let tells = TellsAt-line script (heap_of heap.main) _ _ _ _ n line.number _ text r.reached goes carries in
     let holds : OutputHolds script (n + 1) (c.flush_if_full.new.out ++ text) =
     subst (λ (waiting : List ℕ). OutputHolds script (n + 1) (waiting ++ text)) (sym c.in-Ok.ensures.waits)
     (OutputHolds.one_more n c.loop-at.out text c.loop-at.invariant.holds tells) in
     let ahead = c.run_ahead-ahead.ensures in
-    let runs = ahead.runs running.handed.handed
-    (rw (ran.place, ran.turned, ran.counted, out-is) (as_taken running)) in
+    let runs = ahead.runs on.handed.handed
+    (rw (ran.place, ran.turned, ran.counted, out-is) (as_taken on)) in
     record {
-      running = as_handed runs running.handed.taken;
+      running = as_handed runs on.handed.taken;
       holds = ahead.holds (rw out-is holds);
-      space = ahead.space ∙ same_regions heap c.execute_line.new.heap r.shown running.shown ran.spare
-          ∙ c.loop-at.invariant.space;
+      space = ahead.space ∙ ap (λ (main : Mutator). main.seat.space) judged.main
+          ∙ same_regions heap c.execute_line.new.heap r.shown running.shown ran.rest ∙ c.loop-at.invariant.space;
+      same = judged.same ∙ c.loop-at.invariant.same;
       steady = c.in-Ok.ensures.steady ∙ c.loop-at.invariant.steady;
     }

@@ -11,6 +11,7 @@ invariant-loop-at g l = record {
       l.at l.turns l.executed uncollected;
   holds : OutputHolds l.script l.executed l.out;
   space : l.heap.main.seat.space ≡ l.initial.heap.main.seat.space;
+  same : l.inspection ≡ l.initial.inspection;
   steady : g.K.Sink.faults l.sink ≡ g.K.Sink.faults l.initial.sink;
 }
 

@@ -1,4 +1,4 @@
-use Rattle.std.proofs.Common.{◌∙◌, ◌<◌, [], refl, get_or, arith}
+use Rattle.std.proofs.Common.{◌∙◌, ◌<◌, [], refl, get_or, append-nil, arith}
 use Rattle.object_graph.specs.Run.{lines_most}
 use Rattle.script_text.proofs.Left.{at_most_four}
 use Rattle.write_barrier.specs.MutatorState.{heap_of}
@@ -40,12 +40,12 @@ passes-requires-clause-deep c =
     at_most_four script.lines _ _ _ c.lines-lines.ensures.matched goes.left
 
 pub returns-in_default-clause-holds : goal.returns-in_default-clause-holds
-returns-in_default-clause-holds c = λ held. rw c.in_default.ensures.unwritten (c.loop-at.invariant.holds held)
+returns-in_default-clause-holds c = λ held. c.loop-at.invariant.holds held
 
 pub returns-in_default-clause-runs : goal.returns-in_default-clause-runs
 returns-in_default-clause-runs c = λ taken start.
     let same = c.in_default.ensures in
-    rw (same.unchanged, same.uncounted, same.unturned, same.unwritten) (c.loop-at.invariant.running taken start)
+    rw (same.unchanged, same.uncounted, same.unturned) (c.loop-at.invariant.running taken start)
 
 pub overflow_add-executed : goal.overflow_add-executed
 overflow_add-executed c =
@@ -62,6 +62,8 @@ loop-at-smaller c =
 pub loop-at-preserved : goal.loop-at-preserved
 loop-at-preserved c =
     let script = c.args.script.now in
+    let names = script.fields in
+    let out = c.args.out.now in
     let n = c.loop-at.executed in
     let lines = c.lines-lines.result.now in
     let line = get_or lines c.loop-at.at past_end in
@@ -73,22 +75,22 @@ loop-at-preserved c =
     let below : n < lines_most = omega (arith, r.reached.few) in
     let goes = goes_on lines script.lines c.loop-at.at c.loop-at.turns _ c.lines-lines.ensures.all c.loop-at-test.true
     r.left in
-    let (text, carries, out-is) = ran.carried r.reached.so_far.graph r.shown r.made in
-    let on = Running-line script heap after c.loop-at.objects c.loop-at.out (only []) (only taken) c.loop-at.at _
-    c.loop-at.turns _ n line.number _ text r below goes ran.spare carries in
+    let carries = ran.carried names r.reached.so_far.graph r.shown r.made in
+    let on = Running-line script heap after c.loop-at.objects out (only []) (only taken) c.loop-at.at _
+    c.loop-at.turns _ n line.number _ [] r below goes ran.rest carries in
     record {
       running = λ all first.
           let q = c.loop-at.invariant.running all first in
           let way = goes_on lines script.lines c.loop-at.at c.loop-at.turns _ c.lines-lines.ensures.all
           c.loop-at-test.true q.left in
-          let (words, does, is) = ran.carried q.reached.so_far.graph q.shown q.made in
-          rw (ran.place, ran.turned, ran.counted, is)
-          (Running-line script heap after c.loop-at.objects c.loop-at.out (only []) (only all) c.loop-at.at _
-          c.loop-at.turns _ n line.number _ words q below way ran.spare does);
+          let does = ran.carried names q.reached.so_far.graph q.shown q.made in
+          rw (ran.place, ran.turned, ran.counted, ← append-nil out)
+          (Running-line script heap after c.loop-at.objects out (only []) (only all) c.loop-at.at _
+          c.loop-at.turns _ n line.number _ [] q below way ran.rest does);
       holds = λ held.
-          rw out-is
-          (holds_on n c.loop-at.out text (c.if-is_full.ensures refl) (c.loop-at.invariant.holds held)
-          (TellsAt-line script (heap_of heap.main) _ _ _ _ n line.number _ text r.reached goes carries));
+          rw (← append-nil out)
+          (holds_on n out [] (c.if-is_full.ensures refl) (c.loop-at.invariant.holds held)
+          (TellsAt-line script (heap_of heap.main) _ _ _ _ n line.number _ [] r.reached goes carries));
       further = omega (arith, c.loop-at.invariant.further);
-      space = same_regions heap after r.shown on.shown ran.spare ∙ c.loop-at.invariant.space;
+      space = same_regions heap after r.shown on.shown ran.rest ∙ c.loop-at.invariant.space;
     }

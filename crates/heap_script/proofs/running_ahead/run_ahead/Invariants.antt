@@ -8,10 +8,10 @@ use Rattle.heap_script.proofs.running_ahead.run_ahead.Given as goal
 abbrev pub invariant-loop-at : goal.invariant-loop-at
 invariant-loop-at l = record {
   running : (taken : List ℕ)
-      → Running l.script l.initial.heap l.initial.objects l.initial.out (only []) (only taken) l.fn.from.at
+      → Running l.script l.initial.heap l.initial.objects l.out (only []) (only taken) l.fn.from.at
       l.initial.turns l.fn.from.executed uncollected
       → Running l.script l.heap l.objects l.out (only []) (only taken) l.at l.turns l.executed uncollected;
-  holds : OutputHolds l.script l.fn.from.executed l.initial.out → OutputHolds l.script l.executed l.out;
+  holds : OutputHolds l.script l.fn.from.executed l.out → OutputHolds l.script l.executed l.out;
   further : l.fn.from.executed ≤ l.executed;
   space : l.heap.main.seat.space ≡ l.initial.heap.main.seat.space;
 }

@@ -1,29 +1,12 @@
 -- The variable is bound to the sum.
-use Rattle.std.proofs.Common.{◌≡◌, ℕ, ℤ, ◌+ℤ◌, to_z, of_z, w64, SFits, rules, refl, ◌∙◌, ap, subst, arith}
-use Rattle.std.proofs.Common.{false, List, [], Some}
-use Rattle.std.specs.FinMap.{get}
+use Rattle.std.proofs.Common.{◌≡◌, ℤ, ◌+ℤ◌, to_z, of_z, w64, SFits, rules, refl, ◌∙◌, ap, subst, arith}
 use Rattle.std.proofs.lemmas.Int.{ints, to_z-of_z}
-use Rattle.heap_command.specs.declared.command.Command.TheVariants.{Add}
-use Rattle.heap_model.specs.Types.{Held, Value, Operand}
-use Rattle.object_graph.specs.declared.value.Value.TheVariants.{Int}
-use Rattle.object_graph.specs.Graphs.{Graph, bind, value_of, integer_in}
-use Rattle.object_graph.specs.Meaning.{done, is_outside, does}
-use Rattle.object_graph.specs.Limits.{ideal_limits}
+use Rattle.heap_model.specs.Types.{Held}
 use Rattle.handle_roots.specs.declared.held.Held.TheVariants as held
 use Rattle.heap_model.specs.Showing.{ShowsHeld}
+use Rattle.mutator.proofs.IntegerSums.{add_done}
 use Rattle.mutator.proofs.Rebinding.{HoldsAnew, binds_after, holds_after, value_carried}
 use Rattle.mutator.proofs.bindings.add.Goals as goal
-
--- an integer of 64 bits is not outside them
-inside : (v : ℤ) → SFits w64 v → is_outside v ≡ false
-inside v fits = grind (arith, ints)
-
--- a sum of 64 bits
-pub add_done : (names : List (List ℕ)) (graph : Graph) (x : ℕ) (v : Operand) (held added : Value) (a b : ℤ)
-    → get graph.bindings x ≡ Some held → value_of graph v ≡ Some added → integer_in held ≡ Some a
-    → integer_in added ≡ Some b → SFits w64 (a +ℤ b)
-    → does ideal_limits names graph (Add x v) ≡ done (bind graph x (Int (a +ℤ b))) []
-add_done names graph x v held added a b bound is first second fits = rw (bound, is, first, second, inside (a +ℤ b) fits)
 
 pub returns : goal.returns
 returns c = record {

@@ -1,6 +1,6 @@
 use Rattle.std.proofs.Common.{ℕ, ap}
 use Rattle.std.specs.Vec.{vec_capacity}
-use Rattle.collector.specs.States.{Spare}
+use Rattle.collector.specs.States.{Rest}
 use Rattle.collector.proofs.Keeping.{still_shows}
 use Rattle.collector.proofs.script_heap.Heap.collect.Goals as goal
 
@@ -15,19 +15,19 @@ scavenge-requires c =
 pub returns : goal.returns
 returns c =
     let done = c.scavenge.ensures in
-    let old : Spare = record {
+    let old : Rest = record {
       image = c.self.inside.spare;
       reserved = vec_capacity c.self.inside.memory;
       places = vec_capacity c.self.inside.list;
       marks = c.self.inside.marking.bound;
     } in
-    let spare = ap (λ (places : ℕ). record old { places = places }) done.capacity in
+    let rest = ap (λ (places : ℕ). record old { places = places }) done.capacity in
     rw (← c.self.view_is)
     (record {
       scavenged = done.scavenged;
       shows = λ graph shown.
-          still_shows _ _ graph shown spare done.scavenged.seat.space done.scavenged.rows
+          still_shows _ _ graph shown rest done.scavenged.seat.space done.scavenged.rows
           (done.keeps.shows graph shown.main);
       rooms = done.keeps;
-      spare = spare;
+      rest = rest;
     })

@@ -1,7 +1,7 @@
 -- What is live is marked and kept, all else is swept, and what is left is scavenged: that is a full collection.
 use Rattle.std.proofs.Common.{ℕ, ap}
 use Rattle.std.specs.Vec.{vec_capacity}
-use Rattle.collector.specs.States.{Spare}
+use Rattle.collector.specs.States.{Rest}
 use Rattle.collector.proofs.CollectedAll.{swept_shows}
 use Rattle.collector.proofs.script_heap.Heap.collect_all.Goals as goal
 
@@ -18,7 +18,7 @@ pub collect-requires : goal.collect-requires
 collect-requires c =
     let (graph, were) = c.requires.shown in
     let shown = rw (← c.self.view_is) at were in
-    let old : Spare = record {
+    let old : Rest = record {
       image = c.self.inside.spare;
       reserved = vec_capacity c.self.inside.memory;
       places = vec_capacity c.self.inside.list;

@@ -18,7 +18,7 @@ returns c =
           imaged_shows heap c.make_image.new.self graph shown made.main made.image made.places
           made.marks;
     } in
-    let Shown : HeapState → Type 0 = λ one. IsImageOf (heap_of heap.main) (image_heap one.spare.image) in (
+    let Shown : HeapState → Type 0 = λ one. IsImageOf (heap_of heap.main) (image_heap one.rest.image) in (
       (refl, (λ one. tt), subst (IsUnchanged heap) back unchanged),
       record { kept = tt; image = subst Shown back made.image },
     )

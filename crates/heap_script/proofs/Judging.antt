@@ -1,0 +1,182 @@
+-- A run whose heap was judged: it stands where it stood.
+use Rattle.std.proofs.Common.{◌≡◌, ◌≢◌, ◌∙◌, ℕ, Bool, true, false, List, refl, sym, ap, subst}
+use Rattle.object_graph.specs.Graphs.{Graph}
+use Rattle.page_space.specs.Extents.{Space, marks_start}
+use Rattle.std.proofs.lemmas.Bool.{false≢true}
+use Rattle.object_graph.specs.Run.{Told}
+use Rattle.script_text.specs.Scripts.{ScriptText}
+use Rattle.write_barrier.specs.MutatorState.{heap_of}
+use Rattle.collector.specs.States.{HeapState, HeapShows, Rest}
+use Rattle.collector.proofs.Keeping.{same_heap}
+use Rattle.heap_script.specs.declared.finished.How.{How}
+use Rattle.heap_script.specs.declared.finished.How.TheVariants as ways
+use Rattle.heap_script.specs.declared.finished.Finished.{Finished}
+use Rattle.heap_script.specs.Stages.{Stage, Collections, finally_collected, stage_of}
+use Rattle.heap_script.specs.Reached.{RanTo}
+use Rattle.heap_script.specs.Spending.{Spends}
+use Rattle.heap_script.specs.declared.inspecting.Inspection.{Inspection}
+use Rattle.heap_script.specs.declared.inspecting.Inspection.TheVariants.{Nothing, Counts as ByCensus, Checks}
+use Rattle.heap_script.specs.Inspecting.{IsFor, EndsCounted, InspectsEnd}
+use Rattle.heap_script.specs.Progress.{Halts, Pauses}
+use Rattle.heap_script.specs.Between.{Running}
+use Rattle.heap_script.proofs.Finishing.{finished_by}
+
+-- an inspection that is for a heap is for one over the same regions
+pub is_for : (heap after : HeapState) {inspection later : Inspection} → later ≡ inspection
+    → after.main.seat.space ≡ heap.main.seat.space → IsFor heap inspection → IsFor after later
+is_for heap after {inspection = Nothing} same space fits = rw same tt
+is_for heap after {inspection = ByCensus} same space fits = rw same tt
+is_for heap after {inspection = Checks words} same space fits = rw same (fits ∙ ap marks_start (sym space))
+
+-- the same mutator's side beside another image
+abbrev beside : HeapState → Rest → HeapState
+beside heap rest = record { main = heap.main; rest = rest }
+
+-- a run stands between two lines, whatever image was made
+Running-beside : {script : ScriptText} {heap : HeapState} {objects : ℕ} {waiting : List ℕ} {old new : List ℕ → Type 0}
+    {at : ℕ} {ts : List ℕ} {n : ℕ} {collections : Collections} (rest : Rest)
+    → (r : Running script heap objects waiting old new at ts n collections)
+    → HeapShows (beside heap rest) r.reached.so_far.graph
+    → Running script (beside heap rest) objects waiting old new at ts n collections
+Running-beside rest r shown = record {
+  reached = r.reached;
+  spends = r.spends;
+  ungranted = r.ungranted;
+  shown = shown;
+  left = r.left;
+  handed = r.handed;
+  made = r.made;
+  few = r.few;
+}
+
+-- so it does once an image of it was judged
+pub Running-judged : {script : ScriptText} {heap after : HeapState} {objects : ℕ} {waiting : List ℕ}
+    {old new : List ℕ → Type 0} {at : ℕ} {ts : List ℕ} {n : ℕ} {collections : Collections}
+    → (r : Running script heap objects waiting old new at ts n collections) → after.main ≡ heap.main
+    → ((graph : Graph) → HeapShows heap graph → HeapShows after graph)
+    → Running script after objects waiting old new at ts n collections
+Running-judged {script} {heap} {after} {objects} {waiting} {old} {new} {at} {ts} {n} {collections} r main shows =
+    let same : after ≡ beside heap after.rest = same_heap (beside heap after.rest) after main refl in
+    let graph = r.reached.so_far.graph in
+    subst (λ one. Running script one objects waiting old new at ts n collections) (sym same)
+    (Running-beside after.rest r (subst (λ one. HeapShows one graph) same (shows graph r.shown)))
+
+-- a run halts alike, whatever image was made
+Pauses-beside : {counted : Bool} {script : ScriptText} {heap : HeapState} {waiting : List ℕ} {finished : Finished}
+    {old new : List ℕ → Type 0} {faults_old faults_new : ℕ} (rest : Rest)
+    → (p : Pauses counted script heap waiting finished old new faults_old faults_new)
+    → HeapShows (beside heap rest) p.reached.so_far.graph
+    → Pauses counted script (beside heap rest) waiting finished old new faults_old faults_new
+Pauses-beside rest p shown = record {
+  reached = p.reached;
+  collections = p.collections;
+  spends = p.spends;
+  shown = shown;
+  halts = p.halts;
+}
+
+-- so it does once an image of it was judged
+pub Pauses-judged : {counted : Bool} {script : ScriptText} {heap after : HeapState} {waiting : List ℕ}
+    {finished : Finished} {old new : List ℕ → Type 0} {faults_old faults_new : ℕ}
+    → (p : Pauses counted script heap waiting finished old new faults_old faults_new) → after.main ≡ heap.main
+    → ((graph : Graph) → HeapShows heap graph → HeapShows after graph)
+    → Pauses counted script after waiting finished old new faults_old faults_new
+Pauses-judged {counted} {script} {heap} {after} {waiting} {finished} {old} {new} {faults_old} {faults_new} p main shows =
+    let same : after ≡ beside heap after.rest = same_heap (beside heap after.rest) after main refl in
+    let graph = p.reached.so_far.graph in
+    subst (λ one. Pauses counted script one waiting finished old new faults_old faults_new) (sym same)
+    (Pauses-beside after.rest p (subst (λ one. HeapShows one graph) same (shows graph p.shown)))
+
+-- where a run is to count its heap, one that halted anywhere but at the end of its script halts alike
+halts_alike : (counted : Bool) (script : ScriptText) (stage : Stage) (collections : Collections) (waiting : List ℕ)
+    (finished : Finished) (so_far : Told) (old new : List ℕ → Type 0) (fo fn : ℕ) (came : How) → came ≢ ways.End
+    → Halts false script stage collections waiting finished so_far old new fo fn came
+    → Halts counted script stage collections waiting finished so_far old new fo fn came
+halts_alike counted script stage collections waiting finished so_far old new fo fn ways.End other halts =
+    absurd (other refl)
+halts_alike counted script stage collections waiting finished so_far old new fo fn (ways.Counted counts) other halts =
+    absurd (false≢true halts.0.0)
+halts_alike counted script stage collections waiting finished so_far old new fo fn (ways.Fault word) other halts = halts
+halts_alike counted script stage collections waiting finished so_far old new fo fn (ways.HeapFull need) other halts =
+    halts
+halts_alike counted script stage collections waiting finished so_far old new fo fn (ways.SinkFault need) other halts =
+    halts
+halts_alike counted script stage collections waiting finished so_far old new fo fn ways.LineLimit other halts = halts
+halts_alike counted script stage collections waiting finished so_far old new fo fn (ways.Flawed flaw) other halts =
+    absurd (halts.0)
+
+module _ {script : ScriptText} {heap after : HeapState} {waiting : List ℕ} {line n : ℕ} {old new : List ℕ → Type 0}
+    {fo fn : ℕ} where
+  -- it pauses as it did
+  pauses_alike : (counted : Bool) (how came : How) → how ≢ ways.End
+      → Pauses false script heap waiting (finished_by how line n) old new fo fn → (came ≡ how) × (after ≡ heap)
+      → Pauses counted script after waiting (finished_by came line n) old new fo fn
+  pauses_alike counted how came other p (is, same) =
+      let here : Pauses counted script heap waiting (finished_by how line n) old new fo fn = record {
+        reached = p.reached;
+        collections = p.collections;
+        spends = p.spends;
+        shown = p.shown;
+        halts = halts_alike counted script (stage_of heap.main) p.collections waiting (finished_by how line n)
+            p.reached.so_far old new fo fn how other p.halts;
+      } in
+      subst (λ one. Pauses counted script one waiting (finished_by came line n) old new fo fn) (sym same)
+      (subst (λ one. Pauses counted script heap waiting (finished_by one line n) old new fo fn) (sym is) here)
+
+  -- at the end of a script that is checked the heap was fully collected, judged and counted
+  pauses_counted : (came : How) → (p : Pauses false script heap waiting (finished_by ways.End line n) old new fo fn)
+      → EndsCounted heap after p.reached.so_far.graph came
+      → Pauses true script after waiting (finished_by came line n) old new fo fn
+  pauses_counted came p e =
+      let ((none, zero, before, ends), handed, steady) = p.halts in
+      let reached : RanTo script (heap_of after.main) n = record {
+        within = p.reached.within;
+        few = p.reached.few;
+        variables = ap (λ (space : Space). space.variables) e.collects.leaves.space ∙ p.reached.variables;
+        so_far = p.reached.so_far;
+        said = p.reached.said;
+        shown = e.collects.shows.shows;
+      } in
+      subst (λ one. Pauses true script after waiting (finished_by one line n) old new fo fn) (sym e.is)
+      (record {
+        reached = reached;
+        collections = finally_collected;
+        spends = Spends.finally (stage_of heap.main) (stage_of after.main) n
+            (subst (Spends script (stage_of heap.main) n) before p.spends) p.reached ends reached e.collects.leaves;
+        shown = e.shows;
+        halts = ((refl, zero, refl, ends, e.counted), handed, steady);
+      })
+
+  -- so a run that paused anywhere pauses, once its end is judged where the script is checked
+  pub Pauses-inspected : (counted : Bool) (how came : How)
+      → (p : Pauses false script heap waiting (finished_by how line n) old new fo fn)
+      → InspectsEnd counted heap after p.reached.so_far.graph how came
+      → Pauses counted script after waiting (finished_by came line n) old new fo fn
+  Pauses-inspected false how came p (is, same) =
+      subst (λ one. Pauses false script one waiting (finished_by came line n) old new fo fn) (sym same)
+      (subst (λ one. Pauses false script heap waiting (finished_by one line n) old new fo fn) (sym is) p)
+  Pauses-inspected true ways.End came p e = pauses_counted came p e
+  Pauses-inspected true (ways.Counted counts) came p e = pauses_alike true (ways.Counted counts) came (λ e. cc) p e
+  Pauses-inspected true (ways.Fault word) came p e = pauses_alike true (ways.Fault word) came (λ e. cc) p e
+  Pauses-inspected true (ways.HeapFull need) came p e = pauses_alike true (ways.HeapFull need) came (λ e. cc) p e
+  Pauses-inspected true (ways.SinkFault need) came p e = pauses_alike true (ways.SinkFault need) came (λ e. cc) p e
+  Pauses-inspected true ways.LineLimit came p e = pauses_alike true ways.LineLimit came (λ e. cc) p e
+  Pauses-inspected true (ways.Flawed flaw) came p e = pauses_alike true (ways.Flawed flaw) came (λ e. cc) p e
+
+-- the regions stay
+pub inspected_space : (counted : Bool) (heap after : HeapState) (graph : Graph) (how came : How)
+    → InspectsEnd counted heap after graph how came → after.main.seat.space ≡ heap.main.seat.space
+inspected_space false heap after graph how came (is, same) = ap (λ (one : HeapState). one.main.seat.space) same
+inspected_space true heap after graph ways.End came e = e.collects.seat.space
+inspected_space true heap after graph (ways.Counted counts) came (is, same) =
+    ap (λ (one : HeapState). one.main.seat.space) same
+inspected_space true heap after graph (ways.Fault word) came (is, same) =
+    ap (λ (one : HeapState). one.main.seat.space) same
+inspected_space true heap after graph (ways.HeapFull need) came (is, same) =
+    ap (λ (one : HeapState). one.main.seat.space) same
+inspected_space true heap after graph (ways.SinkFault need) came (is, same) =
+    ap (λ (one : HeapState). one.main.seat.space) same
+inspected_space true heap after graph ways.LineLimit came (is, same) =
+    ap (λ (one : HeapState). one.main.seat.space) same
+inspected_space true heap after graph (ways.Flawed flaw) came (is, same) =
+    ap (λ (one : HeapState). one.main.seat.space) same

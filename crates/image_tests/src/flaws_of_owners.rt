@@ -1,0 +1,92 @@
+//! Images in which a store, a table or a box is named twice, or with flaws of several parts or cells: the first one.
+use crate::first_flaws::Group;
+use crate::images::Change::{Survivors, Used, Word, Words};
+use crate::worked::{APART, USUAL};
+use crate::worked_ends::SPREAD;
+
+/// Stores, tables and boxes that two slots name.
+pub(crate) const OWNERS: [Group; 2] = [
+    (
+        &APART,
+        &[
+            (&[], "objects 6 entries 1"),
+            (&[Word(2_051, 8_273)], "2051 8273 3"),
+            (&[Word(2_054, 8_273)], "2054 8273 3"),
+            (&[Word(2_078, 8_273)], "2078 8273 3"),
+            // The field of a lower address names the box first.
+            (&[Word(2_055, 8_345)], "2083 8345 3"),
+            (&[Word(2_083, 8_297)], "2083 8297 3"),
+            (&[Word(2_060, 8_305), Word(2_061, 2)], "2060 8305 3"),
+            (&[Word(2_066, 8_321), Word(2_067, 1)], "2066 8321 3"),
+        ],
+    ),
+    (
+        &SPREAD,
+        &[
+            (&[], "objects 7 entries 3"),
+            // The last slot names what the first object does, and the first store what the last object does: a check
+            // that takes a second name for a first tells the slot of the lower address.
+            (&[Word(6_412, 8_185)], "6412 8185 3"),
+            (&[Word(6, 25_657)], "6412 25657 3"),
+            (&[Word(6, 8_185), Word(6_412, 8_185)], "6 8185 3"),
+            (&[Word(4_102, 24_569), Word(6_412, 8_185)], "4102 24569 3"),
+            (&[Word(6_406, 24_833)], "6406 24833 3"),
+            // A list and another, a list and a plain object, two weak maps.
+            (&[Word(6_408, 16_397), Word(6_409, 2)], "6408 16397 3"),
+            (&[Word(6_408, 17), Word(6_409, 3)], "6408 17 3"),
+            (&[Word(6_401, 24_589), Word(6_402, 2)], "6401 24589 3"),
+            // Two lists have each other's store: the slot of the later list has the lower address.
+            (
+                &[
+                    Word(4_097, 25_641),
+                    Word(4_098, 1),
+                    Word(6_408, 16_397),
+                    Word(6_409, 2),
+                    Word(4_102, 25_657),
+                ],
+                "6412 25657 3",
+            ),
+            // A slot of a store that nothing names is no object's.
+            (
+                &[Word(6_408, 3), Word(6_409, 0), Word(6, 25_657)],
+                "objects 7 entries 3",
+            ),
+        ],
+    ),
+];
+
+/// Two flaws: the one of the earlier part, and in one part the one of the lower address.
+pub(crate) const ORDER: [Group; 2] = [
+    (
+        &USUAL,
+        &[
+            (&[Word(131_075, 2), Word(188_416, 5)], "188416 5 11"),
+            (&[Word(188_416, 5), Word(139_264, 1)], "139264 1 26"),
+        ],
+    ),
+    (
+        &SPREAD,
+        &[
+            (&[Used(65), Words(14_669)], "20878 65 64"),
+            (&[Words(14_671), Word(6_470, 1)], "20878 14671 14670"),
+            (&[Word(14_669, 1), Word(0, 0)], "14669 1 0"),
+            (&[Word(6_463, 1), Survivors(0)], "6463 1 0"),
+            (&[Survivors(0), Word(6_464, 5)], "20878 0 18"),
+            (&[Word(6_469, 1), Word(2, 3)], "6469 1 0"),
+            (&[Word(6, 8_185), Word(6_413, 2)], "6413 2 7"),
+            // Within the cells: of the first and the last, and of a list whose store stands before the weak map.
+            (&[Word(2, 3), Word(6_413, 2)], "2 3 7"),
+            (
+                &[
+                    Word(4_097, 25_641),
+                    Word(4_098, 1),
+                    Word(6_408, 16_397),
+                    Word(6_409, 2),
+                    Word(4_103, 2),
+                    Word(6_146, 1),
+                ],
+                "4103 2 7",
+            ),
+        ],
+    ),
+];
