@@ -7,7 +7,7 @@ folder=$(mktemp -d) || exit 1
 trap 'rm -rf "$folder"' EXIT
 "$top/heaprun" run <"$top/examples/first.heap" >"$folder/out" || exit 1
 
-# a script, how many of its lines are executed, and words behind `run`, or from `check` on
+# a script, how many of its lines are executed, and words behind `run`, or from `check` or `soak` on
 script() { cat >"$folder/$1"; printf '%s\n' "$*" >>"$folder/names"; }
 
 awk 'BEGIN { for (i = 0; i < 22000; i++) printf "get some_variable_%d  x field_%d # a comment\n", i % 1000, i % 4000
@@ -50,6 +50,17 @@ printf "$chain" 100 20000 | script small_heap 40403
 printf "$chain" 180000 20 | script chain_of_512_pages 720043 --pages 512
 # shellcheck disable=SC2059
 printf "$chain" 180000 20 | script judged_chain 720043 check --pages 512
+# Cycles: the same chain, beside 1,000 objects that are made and die in each of 20 cycles; cycles of a small heap; and
+# lines that end no cycle, since none is open.
+cycles='let p undefined\nrepeat %d\nnew x 2\nset x n p\nlet p x\nend\n'
+cycles+='repeat %d\nmark\nrepeat %d\nnew y 2\nset y n p\nend\nfinish\nend\n'
+# shellcheck disable=SC2059
+printf "$cycles" 180000 20 1000 | script cycles 780083 --pages 400
+# shellcheck disable=SC2059
+printf "$cycles" 100 20000 1 | script small_cycles 140403
+printf 'repeat 6000000\nfinish\nend\n' | script idle_finishes 12000001
+# A generated script, whose bytes are discarded.
+printf '' | script soak 254169 soak 7 30000
 maps='new k 0\nlet f k\nlet p undefined\nrepeat %d\nweak m\nnew j 0\nwput m k j\nnew x 2\nset x m m\nset x n p\nlet p x\n'
 maps+='let k j\nend\ndrop k\ndrop j\ndrop m\nrepeat 20\ngc\nend\ncensus\n'
 # shellcheck disable=SC2059
@@ -68,7 +79,7 @@ printf 'repeat 100\nrepeat 100\nrepeat 100\nrepeat 17\nend\nend\nend\nend\n' | s
 printf 'let n 0\nrepeat 9999999\nadd n 1\nend\n' | script add_in_a_loop 20000000
 
 while read -r name lines words; do
-  case $words in check*) ;; *) words="run $words" ;; esac
+  case $words in check* | soak*) ;; *) words="run $words" ;; esac
   best=
   for _ in 1 2 3 4 5; do
     from=$(date +%s%N)

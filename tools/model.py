@@ -8,24 +8,42 @@ where words are found is there: how many words each cell has, which cells its sl
 where it stands in a page. It is written from docs/ and the definitions of needs and rooms, and reads nothing of the
 program, so what it says is a value from outside for rows/.
 
+A cycle of marking is a truth value that lines put: `mark` opens one, and `finish`, `gc` and `census` end it. `finish`
+collects the heap fully where one is open. `gen` and `soak` take their script from tools/generated.
+
 With `--lines` the number of executed lines is told on standard error. The grammar is in model_script.py, cells and heap
 are in model_heap.py.
 """
+import importlib.machinery
+import importlib.util
 import os
 import sys
 from functools import partial
+from pathlib import Path
 from typing import NamedTuple
 
 sys.dont_write_bytecode = True
 from model_heap import FIRST_CAPACITY, HEAD_WORDS, UNBOUND, WIDE, WIDTHS  # noqa: E402
 from model_heap import Full, Heap, Held, Plain, List, Object, WeakMap, box_need, is_wide, width_of  # noqa: E402
-from model_script import CAP_MOST, INTEGER_LEAST, INTEGER_MOST, Reader, Refused, Variable, sizes_of  # noqa: E402
+from model_script import CAP_MOST, INTEGER_LEAST, INTEGER_MOST, Reader, Refused, Variable, invocation_of  # noqa: E402
 
 SOURCE_BYTES_MOST = 1_048_576
 LINES_MOST = 20_000_000
 FIELDS_MOST = 64
 PATHS_MOST = 8192
 ELEMENTS_MOST = 1000
+
+
+def loaded(path):
+    """A Python program of this repository as a module. Its name has no ending, so that no `import` finds it."""
+    path = Path(__file__).resolve().parent.parent / path
+    loader = importlib.machinery.SourceFileLoader(path.name, str(path))
+    module = importlib.util.module_from_spec(importlib.util.spec_from_loader(path.name, loader))
+    loader.exec_module(module)
+    return module
+
+
+generated = loaded("tools/generated")
 
 
 class Fault(Exception):
@@ -41,6 +59,8 @@ class Machine:
         self.made = 0
         self.paths = {(cap, ()) for cap in range(CAP_MOST + 1)}
         self.output = []
+        # Whether a cycle of marking is open.
+        self.in_cycle = False
 
     def value(self, operand):
         """The value that an operand stands for."""
@@ -235,15 +255,27 @@ class Machine:
     def do_scavenge(self):
         self.heap.scavenge(False)
 
+    def do_mark(self):
+        self.in_cycle = True
+
+    def do_finish(self):
+        if self.in_cycle:
+            self.collect_all()
+
     def do_gc(self):
-        self.heap.collect()
+        self.collect_all()
 
     def do_census(self):
         self.say(self.census())
 
+    def collect_all(self):
+        """The full collection of a line, which ends a cycle. One that comes between two lines leaves it open."""
+        self.in_cycle = False
+        return self.heap.collect()
+
     def census(self):
         """What is left behind a full collection."""
-        reached = self.heap.collect()
+        reached = self.collect_all()
         entries = sum(len(one.entries) for one in reached if isinstance(one, WeakMap))
         return f"objects {len(reached)} entries {entries}"
 
@@ -313,11 +345,25 @@ def run_lines(machine, lines):
     return 0, "", executed
 
 
+def told_at_end(command, machine, executed):
+    """What a run that came to the end of its script writes: what the script told, and its command's last line."""
+    told = b"".join(machine.output)
+    if command == "check":
+        return told + f"checked {machine.census()}\n".encode()
+    if command == "soak":
+        return f"lines {executed} bytes {len(told)} sum {sum(told) % (1 << 64)} {machine.census()}\n".encode()
+    return told
+
+
 def run(words, source):
     """What the program comes to with these words on this source."""
-    sizes = sizes_of(words)
-    if sizes is None:
+    asked = invocation_of(words)
+    if asked is None:
         return Result(64, b"bad words\n")
+    if not asked.reads_source():
+        source = generated.script(asked.seed, asked.forms)
+    if asked.command == "gen":
+        return Result(0, source)
     if len(source) > SOURCE_BYTES_MOST:
         return Result(6, b"source too long\n")
     reader = Reader()
@@ -329,11 +375,12 @@ def run(words, source):
     except Refused as refused:
         number, reason = refused.args
         return Result(2, f"bad script {number} {reason}\n".encode())
-    machine = Machine(sizes, len(reader.variables))
+    machine = Machine(asked.sizes, len(reader.variables))
     status, last, executed = run_lines(machine, reader.lines)
-    if words[0] in ("check", b"check") and status == 0:
-        last = f"checked {machine.census()}\n"
-    return Result(status, b"".join(machine.output) + last.encode(), executed)
+    if status == 0:
+        return Result(0, told_at_end(asked.command, machine, executed), executed)
+    told = b"" if asked.command == "soak" else b"".join(machine.output)
+    return Result(status, told + last.encode(), executed)
 
 
 def main():

@@ -19,37 +19,69 @@ class Sizes(NamedTuple):
     helpers: int = 2
 
 
+class Invocation(NamedTuple):
+    """What the words ask for: a command, the sizes of its heap, and the seed and the number of forms of a script."""
+
+    command: str
+    sizes: Sizes
+    seed: int = 0
+    forms: int = 0
+
+    def reads_source(self):
+        """Whether the command reads a script; the others generate one."""
+        return self.command in ("run", "check")
+
+
 LIMITS = {b"pages": (1, 512), b"young": (64, 65536), b"helpers": (0, 7)}
+PLAN = [(0, (1 << 64) - 1), (0, 30_000)]
+# Whether each command takes options, and the limits of its other words.
+COMMANDS = {b"run": (True, []), b"check": (True, []), b"soak": (True, PLAN), b"gen": (False, PLAN)}
 
 
-def sizes_of(words):
-    """The sizes that the words give; nothing where they are refused."""
-    words = [word if isinstance(word, bytes) else word.encode() for word in words]
-    if words[:1] not in ([b"run"], [b"check"]):
-        return None
-    texts, awaited = {}, None
-    for place, word in enumerate(words[1:], 2):
+def given_of(words):
+    """The texts of the options by their names, and the other words; nothing where a word is refused."""
+    texts, others, awaited = {}, [], None
+    for place, word in enumerate(words, 1):
         if awaited is not None:
-            name, text = awaited, word
+            name, text, awaited = awaited, word, None
         elif word == b"--":
-            if place < len(words):
-                return None
-            break
+            return texts, others + words[place:]
         elif word.startswith(b"--") and b"=" in word:
             name, _, text = word[2:].partition(b"=")
         elif word.startswith(b"--"):
             awaited = word[2:]
             continue
-        else:
+        elif word.startswith(b"-"):
             return None
+        else:
+            others.append(word)
+            continue
         if name in texts or name not in LIMITS:
             return None
-        texts[name], awaited = text, None
-    within = [re.fullmatch(rb"0*[0-9]{1,6}", text) and least <= int(text) <= most
-              for name, text in texts.items() for least, most in [LIMITS[name]]]
-    if awaited is not None or not all(within):
+        texts[name] = text
+    return (texts, others) if awaited is None else None
+
+
+def number_in(limits, text):
+    """The number that a text of digits alone is, within these limits; nothing where it is none."""
+    digits = re.fullmatch(rb"0*([0-9]{1,20})", text)
+    return int(digits[1]) if digits and limits[0] <= int(digits[1]) <= limits[1] else None
+
+
+def invocation_of(words):
+    """What the words ask for; nothing where they are refused."""
+    words = [word if isinstance(word, bytes) else word.encode() for word in words]
+    given = given_of(words[1:])
+    if not words or words[0] not in COMMANDS or given is None:
         return None
-    return Sizes(**{name.decode(): int(text) for name, text in texts.items()})
+    (texts, others), (takes_options, limits) = given, COMMANDS[words[0]]
+    if texts and not takes_options or len(others) != len(limits):
+        return None
+    sizes = {name.decode(): number_in(LIMITS[name], text) for name, text in texts.items()}
+    plan = [number_in(*it) for it in zip(limits, others)]
+    if None in [*sizes.values(), *plan]:
+        return None
+    return Invocation(words[0].decode(), Sizes(**sizes), *plan)
 
 
 class Refused(Exception):
@@ -79,7 +111,6 @@ OPERANDS = {
     "alike": (X, X), "shape": (X,), "scavenge": (), "mark": (), "finish": (), "gc": (), "census": (),
     "repeat": (TURNS_MOST,), "end": (),
 }
-NOT_BUILT = {"mark", "finish"}
 NAME = re.compile(rb"[A-Za-z_][A-Za-z0-9_]{0,31}")
 INTEGER = re.compile(rb"0|-?[1-9][0-9]{0,18}")
 
@@ -135,8 +166,6 @@ class Reader:
         command = tokens[0].decode("latin-1")
         if command not in OPERANDS:
             raise Refused(number, "command")
-        if command in NOT_BUILT:
-            raise Refused(number, "notbuilt")
         if len(tokens) - 1 != len(OPERANDS[command]):
             raise Refused(number, "count")
         operands = [self.operand(number, kind, token) for kind, token in zip(OPERANDS[command], tokens[1:])]

@@ -1,12 +1,12 @@
 -- What stays of a heap whose mutator's side became another one.
-use Rattle.std.proofs.Common.{◌≡◌, ◌∙◌, inl, length, ap, sym, subst}
+use Rattle.std.proofs.Common.{◌≡◌, ◌∙◌, Bool, inl, length, ap, sym, subst}
 use Rattle.object_graph.specs.Graphs.{Graph}
 use Rattle.page_space.specs.Extents.{Space, marks_start, roots_start}
 use Rattle.heap_model.specs.Images.{image_heap}
 use Rattle.write_barrier.specs.MutatorState.{Mutator, heap_of, MainShows}
 use Rattle.scavenger.specs.Laws.{KeepsGraphs}
 use Rattle.collector.specs.Images.{IsImageOf}
-use Rattle.collector.specs.States.{HeapState, HeapShows, Rest, IsReady}
+use Rattle.collector.specs.States.{HeapState, HeapShows, Rest, IsReady, with_cycle}
 
 -- a heap with the same parts is the same
 pub same_heap : (heap after : HeapState) → after.main ≡ heap.main → after.rest ≡ heap.rest → after ≡ heap
@@ -27,6 +27,18 @@ still_shows heap after graph shown rest space rows shows = record {
       (subst (λ (regions : Space). IsReady heap.rest (marks_start regions)) (sym space) shown.ready);
   listed = rw (rest, space) shown.listed;
   marks = ap (λ (s : Rest). s.marks) rest ∙ shown.marks ∙ ap roots_start (sym space);
+}
+
+-- a heap shows what it shows, whether a cycle is open or not
+pub cycled_shows : (heap : HeapState) (cycle : Bool) (graph : Graph) → HeapShows heap graph
+    → HeapShows (record heap { rest = with_cycle heap.rest cycle }) graph
+cycled_shows heap cycle graph shown = record {
+  main = shown.main;
+  rows = shown.rows;
+  regions = shown.regions;
+  ready = shown.ready;
+  listed = shown.listed;
+  marks = shown.marks;
 }
 
 -- where only the image was made, of the heap, each graph that was shown is shown

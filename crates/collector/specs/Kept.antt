@@ -3,8 +3,8 @@ use Rattle.std.specs.Vec.{vec_capacity}
 use Rattle.collector.specs.declared.script_heap.Heap.TheInside.{Inside}
 use Rattle.collector.specs.States.{HeapState}
 
--- the mutator's side, the image that was made last, the reserved memory, the places of the list, and the bound of what
--- can be marked
+-- the mutator's side, the image that was made last, the reserved memory, the places of the list, the bound of what can
+-- be marked, and whether a cycle is open
 abbrev pub state_of : Inside → HeapState
 state_of heap = record {
   main = heap.main;
@@ -13,5 +13,6 @@ state_of heap = record {
     reserved = vec_capacity heap.memory;
     places = vec_capacity heap.list;
     marks = heap.marking.bound;
+    in_cycle = heap.in_cycle;
   };
 }

@@ -12,9 +12,10 @@ use Rattle.collector.specs.States.{HeapState, HeapShows}
 abbrev pub LendsMain : MutBor HeapState → MutBor Mutator → Fml
 LendsMain heap main = Lends the_row main_row heap main (λ last. record heap.now { main = last })
 
--- the mutator's side is the same, and the heap shows each graph that it showed
+-- the mutator's side is the same, a cycle is open exactly where one was, and the heap shows each graph that it showed
 pub record IsUnchanged (old new : HeapState) : Type 0 where
   pub main : new.main ≡ old.main
+  pub cycle : new.rest.in_cycle ≡ old.rest.in_cycle
   pub shows : (graph : Graph) → HeapShows old graph → HeapShows new graph
 
 -- once the image is no longer looked at, the heap is kept

@@ -1,17 +1,23 @@
 -- The heap that a script runs on, as those above it see it.
-use Rattle.std.specs.Prelude.{◌≡◌, ℕ, ◌≤◌, ◌⊎◌, length}
+use Rattle.std.specs.Prelude.{◌≡◌, ℕ, ◌≤◌, ◌⊎◌, Bool, length}
 use Rattle.object_graph.specs.Graphs.{Graph}
 use Rattle.page_space.specs.Extents.{marks_start, roots_start}
 use Rattle.heap_model.specs.declared.image.HeapImage.{HeapImage}
 use Rattle.write_barrier.specs.MutatorState.{Mutator, MainShows}
 
 -- What the heap has beside the mutator's side: the image that was made last, for how many words memory is reserved
--- beside it, how many places the list of a scavenge has, and below which bound addresses of cells can be marked.
+-- beside it, how many places the list of a scavenge has, below which bound addresses of cells can be marked, and
+-- whether a cycle of marking is open.
 pub record Rest : Type 0 where
   pub image : HeapImage
   pub reserved : ℕ
   pub places : ℕ
   pub marks : ℕ
+  pub in_cycle : Bool
+
+-- the rest, with a cycle open or not
+abbrev pub with_cycle : Rest → Bool → Rest
+with_cycle rest in_cycle = record rest { in_cycle = in_cycle }
 
 -- the mutator's side, and the rest
 pub record HeapState : Type 0 where

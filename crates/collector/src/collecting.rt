@@ -5,7 +5,7 @@ ghost use Rattle.object_graph.specs.Reach.{reached_objects, reached_entries};
 ghost use Rattle.scavenger.specs.Scavenged.{Scavenges};
 ghost use Rattle.scavenger.specs.Laws.{KeepsGraphs};
 ghost use Rattle.exact_heaps.specs.Collected.{CollectsAll};
-ghost use Rattle.collector.specs.States.{HeapShows};
+ghost use Rattle.collector.specs.States.{HeapShows, with_cycle};
 
 use crate::script_heap::Heap;
 use exact_heaps::laws_of_collections;
@@ -42,7 +42,7 @@ impl Heap {
 
     /// Keeps exactly what can be reached, and promotes it, as far as free runs of pages have its words.
     /// Pairs of weak maps whose keys cannot be reached are taken out, and all else is made free, in pages
-    /// too. What was granted of a page is not any more.
+    /// too. What was granted of a page is not any more. A cycle that is open stays so.
     pub fn collect_all(&mut self)
         requires shown { (graph : Graph) × HeapShows self.old graph }
         ensures collected { (graph : Graph) → HeapShows self.old graph →
@@ -64,7 +64,7 @@ impl Heap {
     }
 
     /// Collects fully, and counts what is kept: the objects that can be reached, and the entries of weak
-    /// maps whose map and key can.
+    /// maps whose map and key can. A cycle that is open ends with that.
     pub fn census(&mut self) -> Census
         requires shown { (graph : Graph) × HeapShows self.old graph }
         ensures counted { (graph : Graph) → HeapShows self.old graph →
@@ -72,9 +72,9 @@ impl Heap {
         ensures collected { (graph : Graph) → HeapShows self.old graph →
             CollectsAll self.old.main self.new.main graph }
         ensures shows { (graph : Graph) → HeapShows self.old graph → HeapShows self.new graph }
-        ensures rest { self.new.rest ≡ self.old.rest }
+        ensures rest { self.new.rest ≡ with_cycle self.old.rest false }
     {
-        self.collect_all();
+        self.end_cycle();
         laws_of_counts();
         count_cells(&self.main)
     }

@@ -64,6 +64,7 @@ impl Heap {
         ensures main { self.new.main ≡ self.old.main }
         ensures places { self.new.rest.places ≡ self.old.rest.places }
         ensures marks { self.new.rest.marks ≡ self.old.rest.marks }
+        ensures cycle { self.new.rest.in_cycle ≡ self.old.rest.in_cycle }
     {
         self.spare.used = self.main.used();
         self.spare.survivors = self.main.nursery_mut().survivors();
@@ -99,6 +100,7 @@ impl Heap {
             memory: _,
             list: _,
             marking: _,
+            in_cycle: _,
             collected: _,
             alloc: _,
         } = self;

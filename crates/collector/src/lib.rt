@@ -1,8 +1,8 @@
 //! The collector's side of a heap: the heap that a script runs on, and images of it.
 //!
 //! Model: a `HeapState` of `specs/States.antt`: the mutator's side, which is lent to commands, the
-//! memory that an image of it is copied into, the places of the list of a scavenge, and the bound of
-//! what can be marked.
+//! memory that an image of it is copied into, the places of the list of a scavenge, the bound of what
+//! can be marked, and whether a cycle of marking is open.
 //! Invariant: none over the mutator's side, which is lent. `HeapShows` of `specs/States.antt` is
 //! what holds between two commands. `MakesRoom` of `specs/Making.antt` says how room is made, and
 //! `CollectsAll` of `exact_heaps` what a full collection leaves. `IsImageOf` of `specs/Images.antt`
@@ -10,6 +10,7 @@
 #![tactic(auto)]
 
 mod collecting;
+mod cycles;
 mod filling;
 mod imaging;
 mod laws;

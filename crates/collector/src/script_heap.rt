@@ -1,6 +1,6 @@
-//! The heap that a script runs on. Collections of it are in `collecting.rt`, room in it in `room.rt`, images of it in
-//! `imaging.rt`.
-ghost use Rattle.std.specs.Prelude.{◌≡◌, IfOk};
+//! The heap that a script runs on. Collections of it are in `collecting.rt`, cycles of marking in `cycles.rt`, room in
+//! it in `room.rt`, images of it in `imaging.rt`.
+ghost use Rattle.std.specs.Prelude.{◌≡◌, IfOk, false};
 ghost use Rattle.std.specs.Borrow.{sem};
 ghost use Rattle.object_graph.specs.Graphs.{start};
 ghost use Rattle.page_space.specs.Extents.{roots_start};
@@ -31,6 +31,8 @@ pub struct Heap {
     pub(crate) list: Vec<u32>,
     // What a full collection marks, and which pairs of weak maps wait for their keys.
     pub(crate) marking: Marking,
+    // Whether a cycle of marking is open.
+    pub(crate) in_cycle: bool,
     // Whether a full collection came since this was asked last. No contract speaks of it.
     pub(crate) collected: bool,
     // What an empty list of words is made with. It gives no memory after the heap is opened.
@@ -76,8 +78,8 @@ impl Heap {
     ghost use Rattle.collector.specs.Lending.{LendsMain};
 
     /// Opens a heap over words of 0: no object, each page one gap and one free run, each variable bound
-    /// to nothing. It takes the memory for the shapes, for an image, for the list of a scavenge and for
-    /// marks; later calls need none.
+    /// to nothing. No cycle is open. It takes the memory for the shapes, for an image, for the list of a
+    /// scavenge and for marks; later calls need none.
     ///
     /// # Errors
     /// Memory was refused.
@@ -85,6 +87,7 @@ impl Heap {
         requires { seat ≡ fresh regions }
         ensures opened { IfOk result (λ heap. HeapShows heap start × IsOpened heap.main) }
         ensures regions { IfOk result (λ heap. heap.main.seat.space ≡ regions) }
+        ensures closed { IfOk result (λ heap. heap.rest.in_cycle ≡ false) }
     {
         let main = Main::open(alloc, seat, regions)?;
         let spare = spare_image(alloc, main.regions())?;
@@ -97,6 +100,7 @@ impl Heap {
             memory,
             list,
             marking,
+            in_cycle: false,
             collected: false,
             alloc,
         })

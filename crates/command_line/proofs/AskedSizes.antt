@@ -61,7 +61,7 @@ from_three (Some pages) (Some young) (Some helpers) sizes e =
     (record { of_pages = refl; of_young = refl; of_helpers = refl })
 
 -- the sizes of settings are within their limits
-settings_within : (given : Given) (sizes : Sizes) (variables : ℕ) → sizes_of given.settings ≡ Some sizes
+pub settings_within : (given : Given) (sizes : Sizes) (variables : ℕ) → sizes_of given.settings ≡ Some sizes
     → variables ≤ variables_most → AreWithin sizes variables
 settings_within given sizes variables e few =
     let text : Text → Option Text = text_in given.settings in

@@ -13,4 +13,6 @@ mod ParserCalls
 pub mod AskedCommands
 pub mod AskedSizes
 pub mod AskedForms
+pub mod AskedSoaks
 mod Generations
+mod Parts

@@ -1,7 +1,7 @@
 -- What a command line asks for.
-use Rattle.std.specs.Prelude.{ℕ, ◌-◌, ◌^◌, Bool, true, false, not, ◌&&◌, IsTrue, List, [], ◌∷◌, Option}
+use Rattle.std.specs.Prelude.{ℕ, ◌-◌, ◌^◌, Bool, true, false, IsTrue, List, [], ◌∷◌, Option}
 use Rattle.std.specs.Prelude.{Some, None, option_map}
-use Rattle.std.specs.Prelude.{option_and_then, find, codes, bytes_eq, if◌then◌else◌}
+use Rattle.std.specs.Prelude.{option_and_then, find, codes, bytes_eq}
 use Rattle.std.specs.List.{list_any}
 use Rattle.page_space.specs.declared.sizes.Sizes.{Sizes}
 use Rattle.command_line.specs.declared.invocation.Invocation.{Invocation}
@@ -77,17 +77,9 @@ abbrev pub begins_with_any : List Command → List Text → Bool
 begins_with_any some [] = false
 begins_with_any some (first ∷ words) = list_any (λ command. bytes_eq (command_text command) first) some
 
--- what the words ask for, where these commands are not built
-abbrev pub built_invocation_of : List Command → List Text → Option Invocation
-built_invocation_of unbuilt words = if begins_with_any unbuilt words then None else invocation_of words
-
--- the commands that are not built
-abbrev pub unbuilt_commands : List Command
-unbuilt_commands = soak ∷ []
-
--- the first word is a command that is built
-abbrev pub BeginsBuilt : List Text → Type 0
-BeginsBuilt words = IsTrue (begins_with_any commands words && not (begins_with_any unbuilt_commands words))
+-- the first word is a command
+abbrev pub BeginsCommand : List Text → Type 0
+BeginsCommand words = IsTrue (begins_with_any commands words)
 
 -- what a run asks for, or a run that is checked
 abbrev pub asked_run : Bool → Sizes → Invocation

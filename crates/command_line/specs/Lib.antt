@@ -3,6 +3,7 @@ pub mod Numbers
 pub mod Sizes
 pub mod Invocations
 pub mod Plans
+pub mod Parted
 pub mod Lines
 pub mod Parser
 pub mod Stops

@@ -21,7 +21,7 @@ pub enum Invocation {
 /// Why words are not read.
 #[derive(Clone, Copy, Debug, PartialEq, Eq)]
 pub enum WordsStop {
-    /// They ask for nothing, or for a command that is not built.
+    /// They ask for nothing.
     BadWords,
     /// Memory was refused.
     NoMemory,

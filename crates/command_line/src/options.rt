@@ -1,6 +1,6 @@
-//! The options of `run` and `check`.
+//! The options of `run`, `check` and `soak`.
 ghost use Rattle.std.specs.Prelude.{◌≡◌, false, Err, Some, None, IfOk, drop, map};
-ghost use Rattle.std.specs.Prelude.{option_and_then, string_bytes};
+ghost use Rattle.std.specs.Prelude.{option_and_then};
 ghost use Rattle.clap.specs.Words.{app_of, first_value, found_of, rows_of, rule_of};
 ghost use Rattle.clap.specs.Simple.{with_rule};
 ghost use Rattle.command_line.specs.Given.{given_of};
@@ -12,6 +12,7 @@ use crate::number::Limits;
 use clap::{Arg, ArgAction, ArgMatches, Command};
 use page_space::{HELPERS_MOST, PAGES_MOST, Sizes, YOUNG_LEAST, YOUNG_MOST};
 use std::alloc::{AllocError, Global};
+use std::convert::AsStr;
 
 /// Pages of the old generation.
 const PAGES: Limits = Limits {
@@ -35,11 +36,11 @@ const HELPERS: Limits = Limits {
 };
 
 /// The sizes that the words after the first give; `BadWords` where they give none.
-pub(crate) fn sizes_of(alloc: Global, words: &[String]) -> Result<Sizes, WordsStop>
+pub(crate) fn sizes_of<S: AsStr>(alloc: Global, words: &[S]) -> Result<Sizes, WordsStop>
     ensures sizes { IfOk result (λ sizes. option_and_then sizes_alone
-        (given_of (drop 1 (map string_bytes words.now))) ≡ Some sizes) }
+        (given_of (drop 1 (map S.text words.now))) ≡ Some sizes) }
     ensures refused { result ≡ Err WordsStop.BadWords → option_and_then sizes_alone
-        (given_of (drop 1 (map string_bytes words.now))) ≡ None }
+        (given_of (drop 1 (map S.text words.now))) ≡ None }
 {
     let matches = matches_of(alloc, words)?;
     match sizes_in(&matches) {
@@ -72,11 +73,11 @@ fn sizes_from(pages: Option<u32>, young: Option<u32>, helpers: Option<u32>) -> O
 
 /// The texts that the words after the first give the options. The parser takes the first word for a
 /// program's name and passes over it.
-fn matches_of<'a>(alloc: Global, words: &'a [String]) -> Result<ArgMatches<'a>, WordsStop>
-    ensures rows { IfOk result (λ matches. parsed_rows (map string_bytes words.entry.now)
+fn matches_of<'a, S: AsStr>(alloc: Global, words: &'a [S]) -> Result<ArgMatches<'a>, WordsStop>
+    ensures rows { IfOk result (λ matches. parsed_rows (map S.text words.entry.now)
         ≡ Some (rows_of (found_of matches))) }
     ensures refused { result ≡ Err WordsStop.BadWords →
-        parsed_rows (map string_bytes words.entry.now) ≡ None }
+        parsed_rows (map S.text words.entry.now) ≡ None }
 {
     let parser = parser(alloc)?;
     Ok(parser.try_get_matches_from(words)?)

@@ -1,12 +1,13 @@
-//! What `gen` is asked for: a seed, and how many forms.
-ghost use Rattle.std.specs.Prelude.{◌≡◌, ◌==◌, option_and_then, map, string_bytes};
+//! What `gen` and `soak` are asked for: a seed, and how many forms.
+ghost use Rattle.std.specs.Prelude.{◌≡◌, ◌==◌, option_and_then, option_map, map, string_bytes};
 ghost use Rattle.std.specs.Prelude.{if◌then◌else◌, None};
 ghost use Rattle.command_line.specs.Given.{given_of};
-ghost use Rattle.command_line.specs.Invocations.{invocation_by, gen as gen_command};
+ghost use Rattle.command_line.specs.Invocations.{invocation_by, gen as gen_command, plan_of};
 ghost use Rattle.command_line.specs.Plans.{asked_of_two, asked_of_three};
 
 use crate::invocation::Invocation;
 use crate::number::{number_in, seed_in};
+use page_space::Sizes;
 
 /// The most forms of a generated script.
 const FORMS_MOST: u32 = 30_000;
@@ -47,4 +48,19 @@ fn asked_of_two(seed: &str, forms: &str) -> Option<Invocation>
         seed: seed_in(seed)?,
         forms: number_in(0, FORMS_MOST, forms)?,
     })
+}
+
+/// What `soak` asks for with these sizes and positional words, which are to be two numbers.
+pub(crate) fn soak_of(sizes: Sizes, positional: &[&str]) -> Option<Invocation>
+    ensures { result ≡ option_map (λ plan. Invocation.Soak sizes plan.seed plan.forms)
+        (plan_of (map (λ word. word.now) positional.now)) }
+{
+    match positional {
+        [seed, forms] => Some(Invocation::Soak {
+            sizes,
+            seed: seed_in(seed)?,
+            forms: number_in(0, FORMS_MOST, forms)?,
+        }),
+        _ => None,
+    }
 }

@@ -163,6 +163,7 @@ pub record RowsBroken (heap : Heap) (at found wanted : ℕ) : Type 0 where
   pub among : Contains (cell_extents heap.space) extent
   pub breaks : BreaksRegion heap extent.start at found wanted
 
+-- where a row breaks off, or is not blank behind its end, its region is broken
 pub rows_broken : {heap : Heap} {at found wanted : ℕ} → BreaksRows heap at found wanted
     → RowsBroken heap at found wanted
 rows_broken (BreaksRows.broken extent at found off there) =

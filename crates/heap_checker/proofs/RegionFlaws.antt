@@ -74,6 +74,7 @@ data RegionBroken (heap : Heap) (start at found : ℕ) : Type 0 where
   behind : (row : Row) → IsRowFrom heap start row → row.end ≤ at → at < row.extent.start + row.extent.words
       → slice_get heap.words at ≡ Some found → found ≢ 0 → RegionBroken heap start at found
 
+-- each breach of a region is one of these two
 region_broken : {heap : Heap} {start at found wanted : ℕ} → BreaksRegion heap start at found wanted
     → RegionBroken heap start at found
 region_broken (BreaksRegion.broken extent at found starts breaks there) = RegionBroken.off extent starts breaks there
@@ -126,6 +127,7 @@ record Bounded (heap : Heap) (start end : ℕ) : Type 0 where
   pub bound : Bound
   pub bounds : BoundsFrom heap start end bound
 
+-- its kind, its ends and the used words give the bound
 bounded : (heap : Heap) (start end : ℕ) → IsSpace heap.space → IsFew heap → StandsBetween heap.space start end
     → Bounded heap start end
 bounded heap start end limits few stands =
@@ -249,6 +251,7 @@ place_by heap start end at found limits few stands (RegionBroken.behind row is f
   below = omega (arith, below, region_ends limits stands is);
 }
 
+-- so each breach of a region stands between its start and its end
 pub region_place : (heap : Heap) (start end at found wanted : ℕ) → IsSpace heap.space → IsFew heap
     → StandsBetween heap.space start end → BreaksRegion heap start at found wanted → IsBetween start end at
 region_place heap start end at found wanted limits few stands breaks =

@@ -28,6 +28,7 @@ wide_class heap (Odd code) same (inl (inl undefined, zero)) = omega (arith, same
 wide_class heap (Odd code) same (inl (inr unbound, zero)) = omega (arith, same, unbound)
 wide_class heap (Odd code) same (inr (wide, large)) = false≢true (sym large)
 
+-- so no variable has that word beside 0
 wide_alone : (heap : Heap) (first : ℕ) → first ≡ bits_of (Odd wide_code) → IsRootOf heap first 0 → ⊥
 wide_alone heap first wide alone =
     let known = class_of_root heap first 0 alone in
@@ -105,6 +106,7 @@ pub record RootBroken (heap : Heap) (at found wanted : ℕ) : Type 0 where
   pub known : variable < heap.space.variables
   pub breaks : BreaksRoot heap variable at found wanted
 
+-- each breach of root words is one of some variable
 pub root_broken : {heap : Heap} {at found wanted : ℕ} → BreaksRoots heap at found wanted
     → RootBroken heap at found wanted
 root_broken (BreaksRoots.root variable at found wanted known breaks) =

@@ -68,6 +68,7 @@ record LayoutBroken (heap : Heap) (at found wanted : ℕ) : Type 0 where
   pub known : shape < shapes_most
   pub breaks : BreaksLayout heap shape at found wanted
 
+-- each breach of layout words is one of some shape
 layout_broken : {heap : Heap} {at found wanted : ℕ} → BreaksLayouts heap at found wanted
     → LayoutBroken heap at found wanted
 layout_broken (BreaksLayouts.layout shape at found wanted known breaks) =

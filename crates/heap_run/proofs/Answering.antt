@@ -1,19 +1,21 @@
 -- What follows of a run from what it comes to and what the sink took.
 use Rattle.std.proofs.Common.{arith, ◌≡◌, ◌≢◌, ℕ, Bool, List, [], ◌∷◌, Option, Some}
-use Rattle.std.proofs.Common.{None, IfSome, Err, refl, sym, ap, subst, lit<, ◌⊎◌, inl, inr}
+use Rattle.std.proofs.Common.{None, IfSome, Err, refl, sym, ◌∙◌, subst, false, true, lit<, ◌⊎◌, inl, inr}
 use Rattle.std.specs.Prelude.{Contains}
 use Rattle.object_graph.specs.Run.{Told}
 use Rattle.script_text.specs.Scripts.{ScriptText}
-use Rattle.heap_model.specs.Types.{Sizes, Run}
+use Rattle.heap_model.specs.Types.{Sizes, Run as FreeRun}
 use Rattle.heap_model.specs.Heaps.{Heap}
 use Rattle.heap_model.specs.Images.{image_heap}
-use Rattle.command_line.specs.Invocations.{BeginsBuilt, asked_run}
-use Rattle.command_line.proofs.AskedCommands.{begins_built}
+use Rattle.command_line.specs.declared.invocation.Invocation.{Invocation}
+use Rattle.command_line.specs.declared.invocation.Invocation.TheVariants.{Run, Check, Soak, Gen}
+use Rattle.command_line.specs.Invocations.{BeginsCommand, invocation_of, asked_run}
+use Rattle.script_gen.specs.Generated.{generated}
+use Rattle.command_line.proofs.AskedCommands.{begins_command}
 use Rattle.script_text.specs.declared.script.BadScript.{BadScript}
 use Rattle.script_text.specs.declared.script.BadScript.TheVariants as bad
 use Rattle.script_text.specs.Grammar.{reading}
 use Rattle.byte_ends.specs.Faults.{Rose}
-use Rattle.byte_ends.specs.Source.{IsInput}
 use Rattle.byte_ends.specs.Sink.{Appends, AppendsSome}
 use Rattle.heap_script.specs.declared.finished.How.{How}
 use Rattle.heap_script.specs.declared.finished.How.TheVariants as how
@@ -24,8 +26,9 @@ use Rattle.heap_run.specs.declared.ended.Ended.{Ended}
 use Rattle.heap_run.specs.declared.last_line.LastLine.{LastLine}
 use Rattle.heap_run.specs.declared.last_line.LastLine.TheVariants as last
 use Rattle.heap_run.specs.Texts.{last_bytes, status_of, sink_fault_status}
-use Rattle.heap_run.specs.Answers.{Input, ReadsAll, Answer, unopened, refusal_of, last_line_of}
-use Rattle.heap_run.specs.Answers.{Comes, Taken, Answers, Runs, IsKeptAt, IsKeptFor, KeepsGraph, AsksToRun}
+use Rattle.heap_run.specs.Answers.{Input, ReadsAll, Answer, unopened, refusal_of, last_line_of, soak_line_of}
+use Rattle.heap_run.specs.Answers.{Comes, Taken, Answers, Runs, IsKeptAt, IsKeptBy, IsKeptFor, KeepsGraph, AsksToRun}
+use Rattle.heap_run.specs.Answers.{AsksToSoak, AsksToGenerate, IsScriptFor}
 
 -- no last line has the status of a sink that failed
 pub status-apart : (line : LastLine) → status_of line ≢ sink_fault_status
@@ -40,41 +43,65 @@ status-apart last.NoMemory e = cc
 status-apart (last.LineLimit line) e = cc
 status-apart last.BadWords e = cc
 status-apart (last.Checked counts) e = cc
+status-apart (last.Soaked soaked) e = cc
 status-apart (last.Flawed flaw) e = cc
 
--- a kept heap shows the graph of the bytes that the source had left
+-- a heap is kept of the script that the words ask to be run, and shows the graph that this leads to
+abbrev KeepsScript : List (List ℕ) → Input → Option Kept → Type 0
+KeepsScript words input kept =
+    IfSome kept (λ kept. (sizes : Sizes) × (script : List ℕ) × IsScriptFor words input.before sizes script
+    × KeepsGraph sizes (reading script) kept)
+
+-- so it is of each run
 pub keeps-comes : (words : List (List ℕ)) (input : Input) (answer : Answer) → Comes words input answer
-    → IfSome answer.kept
-    (λ kept. (checks : Bool) × (sizes : Sizes) × (bytes : List ℕ) × AsksToRun words checks sizes × IsInput input.before bytes
-    × KeepsGraph sizes (reading bytes) kept)
+    → KeepsScript words input answer.kept
 keeps-comes words input _ (Comes.bad_words refused unread steady) = tt
 keeps-comes words input _ (Comes.no_memory begins read) = tt
 keeps-comes words input _ (Comes.read_fault checks sizes asks rose) = tt
 keeps-comes words input _ (Comes.too_long checks sizes asks many) = tt
 keeps-comes words input _ (Comes.no_script checks sizes bytes stop line asks reads is refusal) = tt
 keeps-comes words input _ (Comes.ended checks sizes bytes script kept came asks reads is keeps comes need) =
-    (checks, sizes, bytes, asks, reads.all, subst (λ r. KeepsGraph sizes r kept) (sym is) keeps)
+    (sizes, bytes, inl (checks, asks, reads.all), subst (λ r. KeepsGraph sizes r kept) (sym is) keeps)
 keeps-comes words input _ (Comes.cut_short checks sizes bytes script kept asks reads is keeps line need none due) =
-    (checks, sizes, bytes, asks, reads.all, subst (λ r. KeepsGraph sizes r kept) (sym is) keeps)
+    (sizes, bytes, inl (checks, asks, reads.all), subst (λ r. KeepsGraph sizes r kept) (sym is) keeps)
 keeps-comes words input _ (Comes.generated seed forms asks unread steady) = tt
 keeps-comes words input _ (Comes.generated_in_part seed forms count asks unread steady) = tt
+keeps-comes words input _ (Comes.soaked sizes seed forms script kept came asks unread steady is keeps comes need) =
+    (sizes, generated seed forms, inr (seed, forms, asks, refl), subst (λ r. KeepsGraph sizes r kept) (sym is) keeps)
 
--- where a heap is kept, nothing of the source is left
+-- words that ask for a soak ask for no run of what the source has
+no_soak : {A : Type 0} (words : List (List ℕ)) (checks : Bool) (sizes other : Sizes) (seed forms : ℕ)
+    → AsksToRun words checks sizes → AsksToSoak words other seed forms → A
+no_soak words false sizes other seed forms asks soaks =
+    let same : Some (Run sizes) ≡ Some (Soak other seed forms) = sym asks ∙ soaks in
+    absurd (cc)
+no_soak words true sizes other seed forms asks soaks =
+    let same : Some (Check sizes) ≡ Some (Soak other seed forms) = sym asks ∙ soaks in
+    absurd (cc)
+
+-- where a heap is kept of a script that was read, nothing of the source is left
 pub reads-comes : (words : List (List ℕ)) (input : Input) (answer : Answer) → Comes words input answer
+    → (checks : Bool) (sizes : Sizes) → AsksToRun words checks sizes
     → IfSome answer.kept (λ _. IfSome input.before (λ _. input.after ≡ Some []))
-reads-comes words input _ (Comes.bad_words refused unread steady) = tt
-reads-comes words input _ (Comes.no_memory begins read) = tt
-reads-comes words input _ (Comes.read_fault checks sizes asks rose) = tt
-reads-comes words input _ (Comes.too_long checks sizes asks many) = tt
-reads-comes words input _ (Comes.no_script checks sizes bytes stop line asks reads is refusal) = tt
-reads-comes words input _ (Comes.ended checks sizes bytes script kept came asks reads is keeps comes need) = reads.none_left
-reads-comes words input _
-    (Comes.cut_short checks sizes bytes script kept asks reads is keeps line need none due) = reads.none_left
-reads-comes words input _ (Comes.generated seed forms asks unread steady) = tt
-reads-comes words input _ (Comes.generated_in_part seed forms count asks unread steady) = tt
+reads-comes words input _ (Comes.bad_words refused unread steady) check these wants = tt
+reads-comes words input _ (Comes.no_memory begins read) check these wants = tt
+reads-comes words input _ (Comes.read_fault checks sizes asks rose) check these wants = tt
+reads-comes words input _ (Comes.too_long checks sizes asks many) check these wants = tt
+reads-comes words input _ (Comes.no_script checks sizes bytes stop line asks reads is refusal) check these wants = tt
+reads-comes words input _ (Comes.ended checks sizes bytes script kept came asks reads is keeps comes need) check these
+    wants =
+    reads.none_left
+reads-comes words input _ (Comes.cut_short checks sizes bytes script kept asks reads is keeps line need none due) check
+    these wants =
+    reads.none_left
+reads-comes words input _ (Comes.generated seed forms asks unread steady) check these wants = tt
+reads-comes words input _ (Comes.generated_in_part seed forms count asks unread steady) check these wants = tt
+reads-comes words input _ (Comes.soaked sizes seed forms script kept came asks unread steady is keeps comes need) check
+    these wants =
+    no_soak words check these sizes seed forms wants asks
 
 -- the status of the end of a script
-opened-ended : (checks : Bool) (script : ScriptText) (heap : Heap) (rows : List (List Run)) (collections : Collections)
+opened-ended : (checks : Bool) (script : ScriptText) (heap : Heap) (rows : List (List FreeRun)) (collections : Collections)
     (n : ℕ) (so_far : Told) (came : How) (line : ℕ) → EndsRun checks script heap rows collections n so_far came line
     → Contains (0 ∷ 1 ∷ 3 ∷ sink_fault_status ∷ 8 ∷ []) (status_of (last_line_of came line))
 opened-ended checks script heap rows collections n so_far how.End line comes = (0, lit< tt, refl)
@@ -96,39 +123,108 @@ opened-refused (bad.TooManyNames at) line e =
     subst (λ l. Contains (2 ∷ 4 ∷ sink_fault_status ∷ 6 ∷ 7 ∷ 64 ∷ []) (status_of l)) is (0, lit< tt, refl)
 opened-refused bad.NoMemory line e = cc
 
+-- where none is kept, that goes with a status of words that ask for a run, and with each of other words
+kept_none : (asked : Option Invocation) (status : ℕ) → IsKeptAt status None → IsKeptBy asked status None
+kept_none None status at = at
+kept_none (Some (Run sizes)) status at = at
+kept_none (Some (Check sizes)) status at = at
+kept_none (Some (Soak sizes seed forms)) status at = at
+kept_none (Some (Gen seed forms)) status at = refl
+
+-- where the words ask for a run, what is kept goes with the status
+kept_run : (words : List (List ℕ)) (checks : Bool) (sizes : Sizes) (status : ℕ) (kept : Option Kept)
+    → AsksToRun words checks sizes → IsKeptAt status kept → IsKeptFor words status kept
+kept_run words false sizes status kept asks at = subst (λ asked. IsKeptBy asked status kept) (sym asks) at
+kept_run words true sizes status kept asks at = subst (λ asked. IsKeptBy asked status kept) (sym asks) at
+
+-- so it does where they ask for a soak
+kept_soak : (words : List (List ℕ)) (sizes : Sizes) (seed forms status : ℕ) (kept : Option Kept)
+    → AsksToSoak words sizes seed forms → IsKeptAt status kept → IsKeptFor words status kept
+kept_soak words sizes seed forms status kept asks at = subst (λ asked. IsKeptBy asked status kept) (sym asks) at
+
+-- of a generated script that is told none is kept
+kept_generated : (words : List (List ℕ)) (seed forms status : ℕ) → AsksToGenerate words seed forms
+    → IsKeptFor words status None
+kept_generated words seed forms status asks = subst (λ asked. IsKeptBy asked status None) (sym asks) refl
+
+-- the status of a soak's last line is that of its run
+opened-soaked : (script : ScriptText) (heap : Heap) (rows : List (List FreeRun)) (collections : Collections) (n : ℕ)
+    (so_far : Told) (came : How) (line executed : ℕ) (bytes : List ℕ)
+    → EndsRun true script heap rows collections n so_far came line
+    → Contains (0 ∷ 1 ∷ 3 ∷ sink_fault_status ∷ 8 ∷ []) (status_of (soak_line_of came line executed bytes))
+opened-soaked script heap rows collections n so_far how.End line executed bytes comes = (0, lit< tt, refl)
+opened-soaked script heap rows collections n so_far (how.Counted counts) line executed bytes comes = (0, lit< tt, refl)
+opened-soaked script heap rows collections n so_far (how.Fault word) line executed bytes comes = (1, lit< tt, refl)
+opened-soaked script heap rows collections n so_far (how.HeapFull need) line executed bytes comes = (2, lit< tt, refl)
+opened-soaked script heap rows collections n so_far (how.SinkFault need) line executed bytes comes = absurd (comes)
+opened-soaked script heap rows collections n so_far how.LineLimit line executed bytes comes = (4, lit< tt, refl)
+opened-soaked script heap rows collections n so_far (how.Flawed flaw) line executed bytes comes = absurd (comes)
+
 -- the status of an answer whose last line is written goes with the heap that is kept
 opened-line : (words : List (List ℕ)) (input : Input) (answer : Answer) → Comes words input answer → (line : LastLine)
     → answer.last ≡ Some line → IsKeptFor words (status_of line) answer.kept
 opened-line words input _ (Comes.bad_words refused unread steady) line e =
     let is : last.BadWords ≡ line = cc in
-    inl (subst (λ l. IsKeptAt (status_of l) None) is (5, lit< tt, refl))
+    kept_none (invocation_of words) _ (subst (λ l. IsKeptAt (status_of l) None) is (5, lit< tt, refl))
 opened-line words input _ (Comes.no_memory begins read) line e =
     let is : last.NoMemory ≡ line = cc in
-    inl (subst (λ l. IsKeptAt (status_of l) None) is (4, lit< tt, refl))
+    kept_none (invocation_of words) _ (subst (λ l. IsKeptAt (status_of l) None) is (4, lit< tt, refl))
 opened-line words input _ (Comes.read_fault checks sizes asks rose) line e =
     let is : last.ReadFault ≡ line = cc in
-    inl (subst (λ l. IsKeptAt (status_of l) None) is (1, lit< tt, refl))
+    kept_none (invocation_of words) _ (subst (λ l. IsKeptAt (status_of l) None) is (1, lit< tt, refl))
 opened-line words input _ (Comes.too_long checks sizes asks many) line e =
     let is : last.SourceTooLong ≡ line = cc in
-    inl (subst (λ l. IsKeptAt (status_of l) None) is (3, lit< tt, refl))
+    kept_none (invocation_of words) _ (subst (λ l. IsKeptAt (status_of l) None) is (3, lit< tt, refl))
 opened-line words input _ (Comes.no_script checks sizes bytes stop at asks reads is refusal) line e =
     let same : at ≡ line = cc in
-    inl (subst (λ l. IsKeptAt (status_of l) None) same (opened-refused stop at refusal))
+    kept_none (invocation_of words) _
+    (subst (λ l. IsKeptAt (status_of l) None) same (opened-refused stop at refusal))
 opened-line words input _ (Comes.ended checks sizes bytes script kept came asks reads is keeps comes need) line e =
     let same : last_line_of came kept.line ≡ line = cc in
-    inl (subst (λ l. IsKeptAt (status_of l) (Some kept)) same
+    kept_run words checks sizes _ (Some kept) asks
+    (subst (λ l. IsKeptAt (status_of l) (Some kept)) same
     (opened-ended checks script (image_heap kept.image) keeps.spent.last.rows keeps.spent.collections kept.executed
     keeps.reached.so_far came kept.line comes))
-opened-line words input _ (Comes.cut_short checks sizes bytes script kept asks reads is keeps at need none due) line e = cc
+opened-line words input _ (Comes.cut_short checks sizes bytes script kept asks reads is keeps at need none due) line e =
+    cc
 opened-line words input _ (Comes.generated seed forms asks unread steady) line e =
-    let same : last.Nothing ≡ line = cc in
-    inr (record { seed = seed; forms = forms; asks = asks; whole = ap status_of (sym same); none = refl })
+    kept_generated words seed forms _ asks
 opened-line words input _ (Comes.generated_in_part seed forms count asks unread steady) line e = cc
+opened-line words input _ (Comes.soaked sizes seed forms script kept came asks unread steady is keeps comes need) line e =
+    let same : soak_line_of came kept.line kept.executed keeps.reached.so_far.bytes ≡ line = cc in
+    kept_soak words sizes seed forms _ (Some kept) asks
+    (subst (λ l. IsKeptAt (status_of l) (Some kept)) same
+    (opened-soaked script (image_heap kept.image) keeps.spent.last.rows keeps.spent.collections kept.executed
+    keeps.reached.so_far came kept.line kept.executed keeps.reached.so_far.bytes comes))
 
 -- the status of a sink that failed goes with a heap and with none
 opened-failed : (kept : Option Kept) → IsKeptAt sink_fault_status kept
 opened-failed None = (2, lit< tt, refl)
 opened-failed (Some kept) = (3, lit< tt, refl)
+
+-- so it does for all words
+opened-front : (words : List (List ℕ)) (input : Input) (answer : Answer) → Comes words input answer
+    → IsKeptFor words sink_fault_status answer.kept
+opened-front words input _ (Comes.bad_words refused unread steady) =
+    kept_none (invocation_of words) sink_fault_status (opened-failed None)
+opened-front words input _ (Comes.no_memory begins read) =
+    kept_none (invocation_of words) sink_fault_status (opened-failed None)
+opened-front words input _ (Comes.read_fault checks sizes asks rose) =
+    kept_none (invocation_of words) sink_fault_status (opened-failed None)
+opened-front words input _ (Comes.too_long checks sizes asks many) =
+    kept_none (invocation_of words) sink_fault_status (opened-failed None)
+opened-front words input _ (Comes.no_script checks sizes bytes stop line asks reads is refusal) =
+    kept_none (invocation_of words) sink_fault_status (opened-failed None)
+opened-front words input _ (Comes.ended checks sizes bytes script kept came asks reads is keeps comes need) =
+    kept_run words checks sizes sink_fault_status (Some kept) asks (opened-failed (Some kept))
+opened-front words input _ (Comes.cut_short checks sizes bytes script kept asks reads is keeps line need none due) =
+    kept_run words checks sizes sink_fault_status (Some kept) asks (opened-failed (Some kept))
+opened-front words input _ (Comes.generated seed forms asks unread steady) =
+    kept_none (invocation_of words) sink_fault_status (opened-failed None)
+opened-front words input _ (Comes.generated_in_part seed forms count asks unread steady) =
+    kept_none (invocation_of words) sink_fault_status (opened-failed None)
+opened-front words input _ (Comes.soaked sizes seed forms script kept came asks unread steady is keeps comes need) =
+    kept_soak words sizes seed forms sink_fault_status (Some kept) asks (opened-failed (Some kept))
 
 -- the status goes with the heap that is kept
 pub opened-answer : (words : List (List ℕ)) (input : Input) (old new : List ℕ → Type 0) (faults_old faults_new : ℕ)
@@ -137,7 +233,7 @@ pub opened-answer : (words : List (List ℕ)) (input : Input) (old new : List �
 opened-answer words input old new faults_old faults_new _ _ comes (Taken.all told line kept appends steady) =
     opened-line words input _ comes line refl
 opened-answer words input old new faults_old faults_new _ _ comes (Taken.front answer some near rose) =
-    inl (opened-failed answer.kept)
+    opened-front words input answer comes
 
 -- an answer before the opening, as it is concluded
 pub Taken-unopened : (old new : List ℕ → Type 0) (faults_old faults_new status : ℕ) (line : LastLine)
@@ -155,22 +251,17 @@ Taken-unopened old new faults_old faults_new status line written failed (inr oth
 
 -- what answers, by its parts
 pub Answers-keeps : (words : List (List ℕ)) (input : Input) (old new : List ℕ → Type 0) (faults_old faults_new : ℕ)
-    (ended : Ended) → Answers words input old new faults_old faults_new ended
-    → IfSome ended.kept (λ kept. (checks : Bool) × (sizes : Sizes) × (bytes : List ℕ) × AsksToRun words checks sizes × IsInput input.before bytes
-    × KeepsGraph sizes (reading bytes) kept)
+    (ended : Ended) → Answers words input old new faults_old faults_new ended → KeepsScript words input ended.kept
 Answers-keeps words input old new faults_old faults_new ended a =
-    let P : Option Kept → Type 0 =
-    λ kept. IfSome kept (λ kept. (checks : Bool) × (sizes : Sizes) × (bytes : List ℕ) × AsksToRun words checks sizes × IsInput input.before bytes
-    × KeepsGraph sizes (reading bytes) kept) in
-    subst P a.kept (keeps-comes words input a.answer a.comes)
+    subst (KeepsScript words input) a.kept (keeps-comes words input a.answer a.comes)
 
--- a run that kept a heap has read its input to the end
+-- a run of what the source has that kept a heap has read it to the end
 pub Answers-reads : (words : List (List ℕ)) (input : Input) (old new : List ℕ → Type 0) (faults_old faults_new : ℕ)
-    (ended : Ended) → Answers words input old new faults_old faults_new ended
-    → IfSome ended.kept (λ _. IfSome input.before (λ _. input.after ≡ Some []))
-Answers-reads words input old new faults_old faults_new ended a =
+    (ended : Ended) → Answers words input old new faults_old faults_new ended → (checks : Bool) (sizes : Sizes)
+    → AsksToRun words checks sizes → IfSome ended.kept (λ _. IfSome input.before (λ _. input.after ≡ Some []))
+Answers-reads words input old new faults_old faults_new ended a checks sizes asks =
     let P : Option Kept → Type 0 = λ kept. IfSome kept (λ _. IfSome input.before (λ _. input.after ≡ Some [])) in
-    subst P a.kept (reads-comes words input a.answer a.comes)
+    subst P a.kept (reads-comes words input a.answer a.comes checks sizes asks)
 
 -- whether a heap is kept goes with the status of the run
 pub Answers-opened : (words : List (List ℕ)) (input : Input) (old new : List ℕ → Type 0) (faults_old faults_new : ℕ)
@@ -189,7 +280,8 @@ Answers-unopened words input old new faults_old faults_new ended line none comes
     record { answer = unopened line; kept = sym none; comes = comes; taken = taken }
 
 -- the same of a source that was read
-pub Runs-unopened : (checks : Bool) (sizes : Sizes) (bytes : List ℕ) (old new : List ℕ → Type 0) (faults_old faults_new : ℕ)
+pub Runs-unopened : (checks : Bool) (sizes : Sizes) (bytes : List ℕ) (old new : List ℕ → Type 0)
+    (faults_old faults_new : ℕ)
     (ended : Ended)
     (line : LastLine) → ended.kept ≡ None
     → ((words : List (List ℕ)) (input : Input) → AsksToRun words checks sizes → ReadsAll input bytes
@@ -199,17 +291,21 @@ pub Runs-unopened : (checks : Bool) (sizes : Sizes) (bytes : List ℕ) (old new 
 Runs-unopened checks sizes bytes old new faults_old faults_new ended line none comes taken =
     record { answer = unopened line; kept = sym none; comes = comes; taken = taken }
 
--- words that ask for a run begin with a command that is built
-pub begins : (words : List (List ℕ)) (checks : Bool) (sizes : Sizes) → AsksToRun words checks sizes → BeginsBuilt words
-begins words checks sizes asks = begins_built words (asked_run checks sizes) asks
+-- words that ask for a run begin with a command
+pub begins : (words : List (List ℕ)) (checks : Bool) (sizes : Sizes) → AsksToRun words checks sizes
+    → BeginsCommand words
+begins words checks sizes asks = begins_command words (asked_run checks sizes) asks
 
 -- want of memory once the source was read
-pub Comes-memory : (checks : Bool) (sizes : Sizes) (bytes : List ℕ) (words : List (List ℕ)) (input : Input) → AsksToRun words checks sizes
+pub Comes-memory : (checks : Bool) (sizes : Sizes) (bytes : List ℕ) (words : List (List ℕ)) (input : Input)
+    → AsksToRun words checks sizes
     → ReadsAll input bytes → Comes words input (unopened last.NoMemory)
-Comes-memory checks sizes bytes words input asks reads = Comes.no_memory (begins words checks sizes asks) (inr (bytes, reads))
+Comes-memory checks sizes bytes words input asks reads =
+    Comes.no_memory (begins words checks sizes asks) (inr (checks, sizes, bytes, asks, reads))
 
 -- a source that is no script
-pub Comes-refused : (checks : Bool) (sizes : Sizes) (bytes : List ℕ) (stop : BadScript) (line : LastLine) → reading bytes ≡ Err stop
+pub Comes-refused : (checks : Bool) (sizes : Sizes) (bytes : List ℕ) (stop : BadScript) (line : LastLine)
+    → reading bytes ≡ Err stop
     → refusal_of stop ≡ Some line → (words : List (List ℕ)) (input : Input) → AsksToRun words checks sizes
     → ReadsAll input bytes → Comes words input (unopened line)
 Comes-refused checks sizes bytes stop line is refusal words input asks reads =
@@ -219,6 +315,7 @@ Comes-refused checks sizes bytes stop line is refusal words input asks reads =
 pub Answers-runs : (words : List (List ℕ)) (input : Input) (bytes : List ℕ) (checks : Bool) (sizes : Sizes)
     (old new : List ℕ → Type 0) (faults_old faults_new : ℕ) (ended : Ended) → AsksToRun words checks sizes
     → ReadsAll input bytes
-    → Runs checks sizes bytes old new faults_old faults_new ended → Answers words input old new faults_old faults_new ended
+    → Runs checks sizes bytes old new faults_old faults_new ended
+    → Answers words input old new faults_old faults_new ended
 Answers-runs words input bytes checks sizes old new faults_old faults_new ended asks reads r =
     record { answer = r.answer; kept = r.kept; comes = r.comes words input asks reads; taken = r.taken }

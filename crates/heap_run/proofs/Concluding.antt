@@ -11,7 +11,8 @@ use Rattle.byte_ends.specs.Faults.{Rose}
 use Rattle.byte_ends.specs.Sink.{Appends, AppendsSome}
 use Rattle.byte_ends.proofs.Appending.{Appends-append}
 use Rattle.heap_script.specs.declared.finished.How.{How}
-use Rattle.heap_script.specs.declared.finished.How.TheVariants.{End, Counted, Fault, HeapFull, SinkFault, LineLimit, Flawed}
+use Rattle.heap_script.specs.declared.finished.How.TheVariants.{End, Counted, Fault, HeapFull, SinkFault, LineLimit}
+use Rattle.heap_script.specs.declared.finished.How.TheVariants.{Flawed}
 use Rattle.heap_script.specs.declared.finished.Finished.{Finished}
 use Rattle.heap_script.specs.Reached.{RanTo}
 use Rattle.heap_script.specs.Spending.{HasSpent}
@@ -55,7 +56,8 @@ keeps how line n is reached spent =
     record { regions = is.regions; blank = is.blank; reached = reached; spent = spent }
 
 -- a run that came to an end, and its last line
-Runs-ended : (checks : Bool) (sizes : Sizes) (bytes : List ℕ) (script : ScriptText) (image : HeapImage) (how : How) (line n status : ℕ)
+Runs-ended : (checks : Bool) (sizes : Sizes) (bytes : List ℕ) (script : ScriptText) (image : HeapImage) (how : How)
+    (line n status : ℕ)
     (old mid new : List ℕ → Type 0) (faults_old faults_mid faults_new : ℕ) → reading bytes ≡ Ok script
     → IsKeepable sizes script image → (reached : RanTo script (image_heap image) n)
     → (spent : HasSpent script (image_heap image) n)
@@ -77,7 +79,8 @@ Runs-ended checks sizes bytes script image how line n status old mid new faults_
       answer = answer;
       kept = refl;
       comes = λ words input asks reads.
-          Comes.ended checks sizes bytes script kept how asks reads is (keeps how line n keepable reached spent) comes refl;
+          Comes.ended checks sizes bytes script kept how asks reads is (keeps how line n keepable reached spent) comes
+          refl;
       taken = rw five (Taken.front answer all near (subst (λ f. Rose f faults_new) steady rose));
     }
 Runs-ended checks sizes bytes script image how line n status old mid new faults_old faults_mid faults_new
@@ -89,7 +92,8 @@ Runs-ended checks sizes bytes script image how line n status old mid new faults_
       answer = record { told = reached.so_far.bytes; last = Some (last_line_of how line); kept = Some kept };
       kept = refl;
       comes = λ words input asks reads.
-          Comes.ended checks sizes bytes script kept how asks reads is (keeps how line n keepable reached spent) comes refl;
+          Comes.ended checks sizes bytes script kept how asks reads is (keeps how line n keepable reached spent) comes
+          refl;
       taken = rw status-is
           (Taken.all reached.so_far.bytes (last_line_of how line) (Some kept)
           (Appends-append told appends) (same ∙ steady));
@@ -99,7 +103,8 @@ Runs-ended checks sizes bytes script image how line n status old mid new faults_
 Runs-cut : (checks : Bool) (sizes : Sizes) (bytes : List ℕ) (script : ScriptText) (image : HeapImage) (need line n : ℕ)
     (old new : List ℕ → Type 0) (faults_old faults_new : ℕ) → reading bytes ≡ Ok script
     → IsKeepable sizes script image
-    → (f : Finishes checks script (image_heap image) (finished_by (SinkFault need) line n) old new faults_old faults_new)
+    → (f : Finishes checks script (image_heap image) (finished_by (SinkFault need) line n) old new faults_old
+    faults_new)
     → Runs checks sizes bytes old new faults_old faults_new (ended_by image (SinkFault need) line n sink_fault_status)
 Runs-cut checks sizes bytes script image need line n old new faults_old faults_new is keepable f =
     let (at, cut, rose) = f.writes in
@@ -147,7 +152,8 @@ Runs-finished checks sizes bytes script image End line n status old mid new fo f
     (lasts (λ no. no)) dec
 Runs-finished checks sizes bytes script image (Fault word) line n status old mid new fo fm fn is
     keepable f five cut lasts dec =
-    Runs-ended checks sizes bytes script image (Fault word) line n status old mid new fo fm fn is keepable f.reached f.spent
+    Runs-ended checks sizes bytes script image (Fault word) line n status old mid new fo fm fn is keepable f.reached
+    f.spent
     f.writes.0 f.writes.1 f.writes.2
     (lasts (λ no. no)) dec
 Runs-finished checks sizes bytes script image (Counted counts) line n status old mid new fo fm fn is
@@ -159,12 +165,15 @@ Runs-finished checks sizes bytes script image (Flawed flaw) line n status old mi
     absurd (f.writes.0)
 Runs-finished checks sizes bytes script image (HeapFull need) line n status old mid new fo fm fn is
     keepable f five cut lasts dec =
-    Runs-ended checks sizes bytes script image (HeapFull need) line n status old mid new fo fm fn is keepable f.reached f.spent
+    Runs-ended checks sizes bytes script image (HeapFull need) line n status old mid new fo fm fn is keepable f.reached
+    f.spent
     f.writes.0 f.writes.1 f.writes.2 (lasts (λ no. no)) dec
 Runs-finished checks sizes bytes script image (SinkFault need) line n status old mid new fo fm fn is
     keepable f five cut lasts dec =
     rw (five tt) (Runs-cut checks sizes bytes script image need line n old new fo fn is keepable (cut tt))
-Runs-finished checks sizes bytes script image LineLimit line n status old mid new fo fm fn is keepable f five cut lasts dec =
-    Runs-ended checks sizes bytes script image LineLimit line n status old mid new fo fm fn is keepable f.reached f.spent
+Runs-finished checks sizes bytes script image LineLimit line n status old mid new fo fm fn is keepable f five cut lasts
+    dec =
+    Runs-ended checks sizes bytes script image LineLimit line n status old mid new fo fm fn is keepable f.reached
+    f.spent
     f.writes.0 f.writes.1 f.writes.2
     (lasts (λ no. no)) dec

@@ -3,7 +3,7 @@ use Rattle.std.proofs.Common.{◌≡◌, ℕ, ◌+◌, inl, List, [], ◌∷◌,
 use Rattle.std.proofs.Common.{◌∙◌, arith, length-append}
 use Rattle.std.proofs.lemmas.List.{append-nil, length-take-le, take_more, take-append-le, take_all}
 use Rattle.command_line.specs.declared.invocation.Invocation.TheVariants.{Gen}
-use Rattle.command_line.proofs.AskedCommands.{begins_built}
+use Rattle.command_line.proofs.AskedCommands.{begins_command}
 use Rattle.script_gen.specs.Generated.{generated}
 use Rattle.byte_ends.specs.Faults.{Rose}
 use Rattle.byte_ends.specs.Sink.{Appends, AppendsSome}
@@ -22,7 +22,7 @@ Generates-memory seed forms old new faults_old faults_new ended none taken =
       answer = unopened last.NoMemory;
       kept = sym none;
       comes = λ words input asks unread steady.
-          Comes.no_memory (begins_built words (Gen seed forms) asks) (inl (unread, steady));
+          Comes.no_memory (begins_command words (Gen seed forms) asks) (inl (unread, steady));
       taken = taken;
     }
 

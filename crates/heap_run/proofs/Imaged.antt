@@ -16,7 +16,14 @@ use Rattle.heap_model.specs.Needs.{lacks_room}
 use Rattle.heap_model.specs.Showing.{Shows}
 use Rattle.live_cells.specs.Exact.{Fits}
 use Rattle.live_cells.specs.Fitting.{DeadIsFree, NoRunFitsNone}
+use Rattle.live_cells.proofs.DeadWords.{no_run_fits_none}
 use Rattle.collector.specs.Images.{IsImageOf}
+use Rattle.collector.proofs.ImagesShow.{images_show}
+use Rattle.collector.proofs.ImageStores.{images_keep_stores, images_have_rooms}
+use Rattle.collector.proofs.ImagesTight.{images_are_tight}
+use Rattle.collector.proofs.ImagesFree.{images_keep_free}
+use Rattle.collector.proofs.ImagesStuck.{images_stay_stuck}
+use Rattle.collector.proofs.ImagesExact.{images_are_exact, images_keep_dead}
 use Rattle.collector.specs.ImageLaws.{ImagesShow, ImagesKeepStores, ImagesHaveRooms, ImagesAreTight, ImagesKeepFree}
 use Rattle.collector.specs.ImageLaws.{ImagesStayStuck, ImagesAreExact, ImagesKeepDead}
 use Rattle.heap_script.specs.declared.finished.How.{How}
@@ -38,6 +45,20 @@ pub record Laws : Type 0 where
   pub exact : ImagesAreExact
   pub dead : ImagesKeepDead
   pub nowhere : NoRunFitsNone
+
+-- they hold
+pub laws_hold : Laws
+laws_hold = record {
+  show = images_show;
+  stores = images_keep_stores;
+  rooms = images_have_rooms;
+  tight = images_are_tight;
+  free = images_keep_free;
+  stuck = images_stay_stuck;
+  exact = images_are_exact;
+  dead = images_keep_dead;
+  nowhere = no_run_fits_none;
+}
 
 -- the run has come so far on the image too
 abbrev pub reached_imaged : {script : ScriptText} {heap image : Heap} {n : ℕ} → Laws → IsImageOf heap image
@@ -86,7 +107,7 @@ spent_imaged {heap = heap} {image = image} laws r is spent = record {
 rows_apart : {script : ScriptText} {stage : Stage} {n : ℕ} {collections : Collections}
     → Spends script stage n collections → collections ≡ fully_collected → AreFree stage.rows
 rows_apart (Spends.none stage unused none rows reached) is = absurd (cc)
-rows_apart (Spends.one_more old new n before line spends next reached after allocates) is = absurd (cc)
+rows_apart (Spends.one_more old new n before line spends next reached after does) is = absurd (cc)
 rows_apart (Spends.once old new n spends reached wants after collected) is = absurd (cc)
 rows_apart (Spends.twice old new n spends reached lacks after collected) is = collected.apart
 rows_apart (Spends.cleared old new n spends reached wants after collected) is = collected.apart
@@ -148,13 +169,15 @@ full_at {heap = heap} {image = image} rows graph line need (next ∷ more) laws 
     (number-is, full_for {heap = heap} {image = image} rows graph need next.command laws shows apart is full)
 
 -- a run comes to the same on the image
-comes_imaged : (checks : Bool) {script : ScriptText} {heap image : Heap} {n : ℕ} (rows : List (List Run)) (collections : Collections)
+comes_imaged : (checks : Bool) {script : ScriptText} {heap image : Heap} {n : ℕ} (rows : List (List Run))
+    (collections : Collections)
     (came : How) (line : ℕ) → Laws → IsImageOf heap image → (collections ≡ fully_collected → AreFree rows)
     → (r : RanTo script heap n) → EndsRun checks script heap rows collections n r.so_far came line
     → EndsRun checks script image rows collections n r.so_far came line
 comes_imaged checks rows collections how.End line laws is apart r comes = comes
 comes_imaged checks rows collections (how.Fault word) line laws is apart r comes = comes
-comes_imaged checks {script = script} {heap = heap} {image = image} {n = n} rows collections (how.HeapFull need) line laws is
+comes_imaged checks {script = script} {heap = heap} {image = image} {n = n} rows collections
+    (how.HeapFull need) line laws is
     apart r comes =
     record {
       goes_on = comes.goes_on;
@@ -168,7 +191,8 @@ comes_imaged checks rows collections (how.Counted counts) line laws is apart r c
 comes_imaged checks rows collections (how.Flawed flaw) line laws is apart r comes = comes
 
 -- the sink failed where it failed
-failed_imaged : (checks : Bool) {script : ScriptText} {heap image : Heap} {n : ℕ} (rows : List (List Run)) (collections : Collections)
+failed_imaged : (checks : Bool) {script : ScriptText} {heap image : Heap} {n : ℕ} (rows : List (List Run))
+    (collections : Collections)
     (line need : ℕ)
     → Laws → IsImageOf heap image → (collections ≡ fully_collected → AreFree rows) → (r : RanTo script heap n)
     → FailedAt checks script heap rows collections n r.so_far line need
@@ -178,7 +202,8 @@ failed_imaged checks rows collections line need laws is apart r (inr (came, come
     inr (came, comes_imaged checks rows collections came line laws is apart r comes, same)
 
 -- what was written was written
-writes_imaged : (checks : Bool) {script : ScriptText} {heap image : Heap} (rows : List (List Run)) (collections : Collections)
+writes_imaged : (checks : Bool) {script : ScriptText} {heap image : Heap} (rows : List (List Run))
+    (collections : Collections)
     (came : How) (finished : Finished) (old new : List ℕ → Type 0) (faults_old faults_new : ℕ) → Laws
     → IsImageOf heap image
     → (collections ≡ fully_collected → AreFree rows) → (r : RanTo script heap finished.executed)
@@ -188,19 +213,23 @@ writes_imaged checks rows collections how.End finished old new fo fn laws is apa
     (comes_imaged checks rows collections how.End finished.line laws is apart r comes, appends, steady)
 writes_imaged checks rows collections (how.Fault word) finished old new fo fn laws is apart r (comes, appends, steady) =
     (comes_imaged checks rows collections (how.Fault word) finished.line laws is apart r comes, appends, steady)
-writes_imaged checks rows collections (how.HeapFull need) finished old new fo fn laws is apart r (comes, appends, steady) =
+writes_imaged checks rows collections (how.HeapFull need) finished old new fo fn laws is apart r
+    (comes, appends, steady) =
     (comes_imaged checks rows collections (how.HeapFull need) finished.line laws is apart r comes, appends, steady)
 writes_imaged checks rows collections (how.SinkFault need) finished old new fo fn laws is apart r (failed, cut, rose) =
     (failed_imaged checks rows collections finished.line need laws is apart r failed, cut, rose)
 writes_imaged checks rows collections how.LineLimit finished old new fo fn laws is apart r (comes, appends, steady) =
     (comes_imaged checks rows collections how.LineLimit finished.line laws is apart r comes, appends, steady)
-writes_imaged checks rows collections (how.Counted counts) finished old new fo fn laws is apart r (comes, appends, steady) =
+writes_imaged checks rows collections (how.Counted counts) finished old new fo fn laws is apart r
+    (comes, appends, steady) =
     (comes_imaged checks rows collections (how.Counted counts) finished.line laws is apart r comes, appends, steady)
-writes_imaged checks rows collections (how.Flawed flaw) finished old new fo fn laws is apart r (comes, appends, steady) =
+writes_imaged checks rows collections (how.Flawed flaw) finished old new fo fn laws is apart r
+    (comes, appends, steady) =
     absurd (comes)
 
 -- the run finishes on the image as on the heap
-pub finishes_imaged : (checks : Bool) {script : ScriptText} {heap image : Heap} (finished : Finished) (old new : List ℕ → Type 0)
+pub finishes_imaged : (checks : Bool) {script : ScriptText} {heap image : Heap} (finished : Finished)
+    (old new : List ℕ → Type 0)
     (faults_old faults_new : ℕ) → Laws → IsImageOf heap image
     → Finishes checks script heap finished old new faults_old faults_new
     → Finishes checks script image finished old new faults_old faults_new

@@ -4,3 +4,4 @@ mod Answering
 mod Concluding
 mod Generating
 mod Imaged
+mod SoakLines

@@ -1,9 +1,11 @@
 -- What a run comes to, and what of it the sink took.
 use Rattle.std.specs.Prelude.{◌≡◌, ◌⊎◌, ℕ, ◌+◌, ◌<◌, ◌≤◌, Bool, List, [], ◌∷◌, ◌++◌}
-use Rattle.std.specs.Prelude.{length, take, drop, Option, Some, None, IfSome, MatchOption, Contains, Result, Ok, Err}
+use Rattle.std.specs.Prelude.{length, sum, take, drop, true, Option, Some, None, IfSome, MatchOption, Contains, Result}
+use Rattle.std.specs.Prelude.{Ok, Err}
 use Rattle.heap_model.specs.Types.{Sizes}
-use Rattle.command_line.specs.declared.invocation.Invocation.TheVariants.{Gen}
-use Rattle.command_line.specs.Invocations.{built_invocation_of, unbuilt_commands, BeginsBuilt, asked_run}
+use Rattle.command_line.specs.declared.invocation.Invocation.{Invocation}
+use Rattle.command_line.specs.declared.invocation.Invocation.TheVariants.{Soak, Gen}
+use Rattle.command_line.specs.Invocations.{invocation_of, BeginsCommand, asked_run}
 use Rattle.script_text.specs.declared.script.BadScript.{BadScript}
 use Rattle.script_text.specs.declared.script.BadScript.TheVariants as bad
 use Rattle.script_text.specs.Scripts.{ScriptText}
@@ -12,6 +14,7 @@ use Rattle.script_gen.specs.Generated.{generated as script_of_seed}
 use Rattle.byte_ends.specs.Faults.{Rose}
 use Rattle.byte_ends.specs.Source.{IsInput}
 use Rattle.byte_ends.specs.Sink.{Appends, AppendsSome}
+use Rattle.byte_ends.specs.Sure.{wrapped}
 use Rattle.heap_script.specs.declared.finished.How.{How}
 use Rattle.heap_script.specs.declared.finished.How.TheVariants as how
 use Rattle.heap_script.specs.TheConstants.{OUTPUT_BYTES}
@@ -33,15 +36,20 @@ source_most = 1048576
 
 -- the words ask for the run of a script with these sizes, or for one that is checked
 abbrev pub AsksToRun : List (List ℕ) → Bool → Sizes → Type 0
-AsksToRun words checks sizes = built_invocation_of unbuilt_commands words ≡ Some (asked_run checks sizes)
+AsksToRun words checks sizes = invocation_of words ≡ Some (asked_run checks sizes)
 
 -- the words ask for the generated script of a seed, with so many forms
 abbrev pub AsksToGenerate : List (List ℕ) → ℕ → ℕ → Type 0
-AsksToGenerate words seed forms = built_invocation_of unbuilt_commands words ≡ Some (Gen seed forms)
+AsksToGenerate words seed forms = invocation_of words ≡ Some (Gen seed forms)
 
--- the words ask for nothing that is built
+-- the words ask for the run of the generated script of a seed, with so many forms, on a heap of these sizes, of which
+-- only sums are told
+abbrev pub AsksToSoak : List (List ℕ) → Sizes → ℕ → ℕ → Type 0
+AsksToSoak words sizes seed forms = invocation_of words ≡ Some (Soak sizes seed forms)
+
+-- the words ask for nothing
 abbrev pub AsksForNothing : List (List ℕ) → Type 0
-AsksForNothing words = built_invocation_of unbuilt_commands words ≡ None
+AsksForNothing words = invocation_of words ≡ None
 
 -- what a source had left before a run and has after it, where it tells that, and its counts of faults
 pub record Input : Type 0 where
@@ -88,10 +96,23 @@ last_line_of (how.SinkFault need) line = last.Nothing
 last_line_of how.LineLimit line = last.LineLimit line
 last_line_of (how.Flawed flaw) line = last.Flawed flaw
 
--- nothing was read, or all was
-abbrev pub ReadsNoneOrAll : Input → Type 0
-ReadsNoneOrAll input =
-    ((input.after ≡ input.before) × NoReadFailed input) ⊎ ((bytes : List ℕ) × ReadsAll input bytes)
+-- The last line of a soak whose script came to this at a line, after so many executed lines that told these bytes: at
+-- its end, where the heap was collected and counted, how many lines and bytes these are, the sum of the bytes, and what
+-- was counted; at any other end that end's line.
+abbrev pub soak_line_of : How → ℕ → ℕ → List ℕ → LastLine
+soak_line_of (how.Counted counts) line executed bytes = last.Soaked (record {
+  lines = executed;
+  bytes = wrapped (length bytes);
+  sum = wrapped (sum bytes);
+  counts = counts;
+})
+soak_line_of came line executed bytes = last_line_of came line
+
+-- nothing was read, or all was, for words that ask for the run of a script
+abbrev pub ReadsNoneOrAll : List (List ℕ) → Input → Type 0
+ReadsNoneOrAll words input =
+    ((input.after ≡ input.before) × NoReadFailed input)
+    ⊎ ((checks : Bool) × (sizes : Sizes) × (bytes : List ℕ) × AsksToRun words checks sizes × ReadsAll input bytes)
 
 -- What is told before the last line, the last line where the run comes to one, and the heap that is kept.
 pub record Answer : Type 0 where
@@ -117,12 +138,11 @@ pub data Comes (words : List (List ℕ)) (input : Input) : Answer → Type 0 whe
   -- the words are refused, and nothing is read
   bad_words : AsksForNothing words → input.after ≡ input.before → NoReadFailed input
       → Comes words input (unopened last.BadWords)
-  -- memory was refused, which is free; but not where the words begin with no command that is built, nor between two
-  -- reads
-  no_memory : BeginsBuilt words → ReadsNoneOrAll input → Comes words input (unopened last.NoMemory)
+  -- memory was refused, which is free; but not where the words begin with no command, nor between two reads
+  no_memory : BeginsCommand words → ReadsNoneOrAll words input → Comes words input (unopened last.NoMemory)
   -- a read failed
-  read_fault : (checks : Bool) (sizes : Sizes) → AsksToRun words checks sizes → Rose input.faults_before input.faults_after
-      → Comes words input (unopened last.ReadFault)
+  read_fault : (checks : Bool) (sizes : Sizes) → AsksToRun words checks sizes
+      → Rose input.faults_before input.faults_after → Comes words input (unopened last.ReadFault)
   -- the source is too long
   too_long : (checks : Bool) (sizes : Sizes) → AsksToRun words checks sizes → ReadsTooMany input
       → Comes words input (unopened last.SourceTooLong)
@@ -156,6 +176,20 @@ pub data Comes (words : List (List ℕ)) (input : Input) : Answer → Type 0 whe
   generated_in_part : (seed forms count : ℕ) → AsksToGenerate words seed forms → input.after ≡ input.before
       → NoReadFailed input
       → Comes words input (record { told = take count (script_of_seed seed forms); last = None; kept = None })
+  -- the words ask for a soak: the generated script was run, and counted its heap at its end, and it came to an end;
+  -- nothing is read, and of what the script tells only that line is told
+  soaked : (sizes : Sizes) (seed forms : ℕ) (script : ScriptText) (kept : Kept) (came : How)
+      → AsksToSoak words sizes seed forms → input.after ≡ input.before → NoReadFailed input
+      → reading (script_of_seed seed forms) ≡ Ok script
+      → (keeps : IsKeptHeapOf sizes script kept)
+      → EndsRun true script (image_heap kept.image) keeps.spent.last.rows keeps.spent.collections kept.executed
+      keeps.reached.so_far came kept.line
+      → kept.need ≡ need_at came
+      → Comes words input (record {
+        told = [];
+        last = Some (soak_line_of came kept.line kept.executed keeps.reached.so_far.bytes);
+        kept = Some kept;
+      })
 
 -- the bytes of a last line, if there is one
 abbrev pub bytes_of : Option LastLine → List ℕ
@@ -179,19 +213,23 @@ IsKeptAt status kept =
     MatchOption kept (Contains (2 ∷ 4 ∷ sink_fault_status ∷ 6 ∷ 7 ∷ 64 ∷ []) status)
     (λ _. Contains (0 ∷ 1 ∷ 3 ∷ sink_fault_status ∷ 8 ∷ []) status)
 
--- the words ask for a generated script, which was told whole: the status is 0, and no heap is kept
-pub record TellsScript (words : List (List ℕ)) (status : ℕ) (kept : Option Kept) : Type 0 where
-  pub seed : ℕ
-  pub forms : ℕ
-  pub asks : AsksToGenerate words seed forms
-  pub whole : status ≡ 0
-  pub none : kept ≡ None
+-- the same for what words ask for: of a generated script that is told no heap is kept
+abbrev pub IsKeptBy : Option Invocation → ℕ → Option Kept → Type 0
+IsKeptBy (Some (Gen seed forms)) status kept = kept ≡ None
+IsKeptBy asked status kept = IsKeptAt status kept
 
--- whether a heap is kept goes with the status, but for words that ask for a generated script
+-- the same for the words
 abbrev pub IsKeptFor : List (List ℕ) → ℕ → Option Kept → Type 0
-IsKeptFor words status kept = IsKeptAt status kept ⊎ TellsScript words status kept
+IsKeptFor words status kept = IsKeptBy (invocation_of words) status kept
 
--- The source is a script, and the heap that is kept of its run with these sizes shows the graph after the executed
+-- These bytes are the script that the words ask to be run on a heap of these sizes: all that the source had left, or the
+-- generated script of a seed.
+abbrev pub IsScriptFor : List (List ℕ) → Option (List ℕ) → Sizes → List ℕ → Type 0
+IsScriptFor words left sizes bytes =
+    ((checks : Bool) × AsksToRun words checks sizes × IsInput left bytes)
+    ⊎ ((seed : ℕ) × (forms : ℕ) × AsksToSoak words sizes seed forms × (bytes ≡ script_of_seed seed forms))
+
+-- What was read is a script, and the heap that is kept of its run with these sizes shows the graph after the executed
 -- lines.
 abbrev pub KeepsGraph : Sizes → Result ScriptText BadScript → Kept → Type 0
 KeepsGraph sizes (Ok script) kept = IsKeptHeapOf sizes script kept
@@ -222,5 +260,14 @@ pub record Generates (seed forms : ℕ) (old new : List ℕ → Type 0) (faults_
   pub answer : Answer
   pub kept : answer.kept ≡ ended.kept
   pub comes : (words : List (List ℕ)) (input : Input) → AsksToGenerate words seed forms
+      → input.after ≡ input.before → NoReadFailed input → Comes words input answer
+  pub taken : Taken old new faults_old faults_new answer ended.status
+
+-- the same of a soak, for all words that ask for it, where nothing is read
+pub record Soaks (sizes : Sizes) (seed forms : ℕ) (old new : List ℕ → Type 0) (faults_old faults_new : ℕ)
+    (ended : Ended) : Type 0 where
+  pub answer : Answer
+  pub kept : answer.kept ≡ ended.kept
+  pub comes : (words : List (List ℕ)) (input : Input) → AsksToSoak words sizes seed forms
       → input.after ≡ input.before → NoReadFailed input → Comes words input answer
   pub taken : Taken old new faults_old faults_new answer ended.status

@@ -6,7 +6,7 @@ use Rattle.script_text.specs.Grammar.{why_text}
 use Rattle.heap_run.specs.declared.last_line.LastLine.{LastLine}
 use Rattle.heap_run.specs.declared.last_line.LastLine.TheVariants.{Nothing, Fault, BadScript, TooManyNames, HeapFull}
 use Rattle.heap_run.specs.declared.last_line.LastLine.TheVariants.{ReadFault, SourceTooLong, NoMemory, LineLimit}
-use Rattle.heap_run.specs.declared.last_line.LastLine.TheVariants.{BadWords, Checked, Flawed}
+use Rattle.heap_run.specs.declared.last_line.LastLine.TheVariants.{BadWords, Checked, Soaked, Flawed}
 
 -- a head, the number of a line, and a reason
 abbrev pub reason_line : List ℕ → ℕ → List ℕ → List ℕ
@@ -20,10 +20,15 @@ numbered head number = head ++ decimal number
 abbrev pub numbered_line : List ℕ → ℕ → List ℕ
 numbered_line head number = line (numbered head number)
 
--- how many objects and entries were counted of a heap that was checked
-abbrev pub counts_line : ℕ → ℕ → List ℕ
-counts_line objects entries =
-    line (numbered (codes "checked objects ") objects ++ numbered (codes " entries ") entries)
+-- a head, and how many objects and entries were counted of a heap
+abbrev pub counts_line : List ℕ → ℕ → ℕ → List ℕ
+counts_line head objects entries = line (numbered head objects ++ numbered (codes " entries ") entries)
+
+-- how many lines were executed and bytes told of a soak, the sum of the bytes, and what was counted at its end
+abbrev pub soaked_line : ℕ → ℕ → ℕ → ℕ → ℕ → List ℕ
+soaked_line lines bytes sum objects entries =
+    numbered (codes "lines ") lines ++ numbered (codes " bytes ") bytes ++ numbered (codes " sum ") sum
+    ++ counts_line (codes " objects ") objects entries
 
 -- the address of a word that breaks the heap, what stands there, and what is asked for
 abbrev pub flaw_line : ℕ → ℕ → ℕ → List ℕ
@@ -33,7 +38,9 @@ flaw_line at found wanted =
 -- the bytes of a last line
 abbrev pub last_bytes : LastLine → List ℕ
 last_bytes Nothing = []
-last_bytes (Checked counts) = counts_line counts.objects counts.entries
+last_bytes (Checked counts) = counts_line (codes "checked objects ") counts.objects counts.entries
+last_bytes (Soaked soaked) =
+    soaked_line soaked.lines soaked.bytes soaked.sum soaked.counts.objects soaked.counts.entries
 last_bytes (Fault at word) = reason_line (codes "fault ") at (fault_text word)
 last_bytes (BadScript at why) = reason_line (codes "bad script ") at (why_text why)
 last_bytes (TooManyNames at) = reason_line (codes "bad script ") at (codes "names")
@@ -53,6 +60,7 @@ sink_fault_status = 5
 abbrev pub status_of : LastLine → ℕ
 status_of Nothing = 0
 status_of (Checked counts) = 0
+status_of (Soaked soaked) = 0
 status_of (Fault at word) = 1
 status_of (BadScript at why) = 2
 status_of (TooManyNames at) = 2

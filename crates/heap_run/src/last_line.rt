@@ -1,12 +1,13 @@
 //! The last line of a run and its status. It is written without taking memory.
-ghost use Rattle.std.specs.Prelude.{◌≡◌, ◌≢◌, OnOk, OnErr};
+ghost use Rattle.std.specs.Prelude.{◌≡◌, ◌≢◌, List, OnOk, OnErr, length, sum, ℕ, codes};
 ghost use Rattle.byte_ends.specs.Faults.{Rose};
 ghost use Rattle.byte_ends.specs.Sink.{Appends, AppendsSome};
-ghost use Rattle.heap_run.specs.Texts.{reason_line, numbered, numbered_line, counts_line, flaw_line, last_bytes, status_of};
-ghost use Rattle.heap_run.specs.Texts.{sink_fault_status};
-ghost use Rattle.heap_run.specs.Answers.{last_line_of};
+ghost use Rattle.heap_run.specs.Texts.{reason_line, numbered, numbered_line, counts_line, soaked_line, flaw_line};
+ghost use Rattle.heap_run.specs.Texts.{last_bytes, status_of, sink_fault_status};
+ghost use Rattle.heap_run.specs.Answers.{last_line_of, soak_line_of};
+ghost use Rattle.byte_ends.specs.Sure.{HasSums};
 
-use byte_ends::{Failed, Sink, write_all};
+use byte_ends::{Failed, Sink, Tally, write_all};
 use heap_checker::{Counts, Flaw};
 use heap_command::FaultWord;
 use heap_script::{Finished, How};
@@ -16,6 +17,19 @@ use script_text::Why;
 /// The status of a run whose sink failed.
 pub(crate) const SINK_FAULT: u8 = 5;
 
+/// The sums of a soak whose script came to its end.
+#[derive(Clone, Copy)]
+pub struct Soaked {
+    /// How many lines were executed.
+    pub lines: u64,
+    /// How many bytes they told, modulo 2^64.
+    pub bytes: u64,
+    /// The sum of the values of these bytes, modulo 2^64.
+    pub sum: u64,
+    /// What was counted of the heap that is left.
+    pub counts: Counts,
+}
+
 /// What a run writes behind what its script tells.
 #[derive(Clone, Copy)]
 pub enum LastLine {
@@ -23,6 +37,8 @@ pub enum LastLine {
     Nothing,
     /// The script came to its end, and so much the checker counted of the heap that is left.
     Checked(Counts),
+    /// The script of a soak came to its end, with these sums.
+    Soaked(Soaked),
     /// The command of the line is a fault.
     Fault { line: u32, word: FaultWord },
     /// The line of the source is refused.
@@ -61,12 +77,28 @@ impl LastLine {
         }
     }
 
+    /// The last line of a soak whose script came to this end, and told bytes of these sums.
+    pub(crate) fn of_soak(finished: &Finished, tally: &Tally) -> LastLine
+        ensures { (bytes : List ℕ) → HasSums tally.now bytes →
+            result ≡ soak_line_of finished.now.how finished.now.line finished.now.executed bytes }
+    {
+        match finished.how {
+            How::Counted(counts) => LastLine::Soaked(Soaked {
+                lines: finished.executed,
+                bytes: tally.bytes(),
+                sum: tally.sum(),
+                counts,
+            }),
+            _ => LastLine::of(finished),
+        }
+    }
+
     /// The status that the process is to end with.
     pub(crate) fn status(self) -> u8
         ensures { result ≡ status_of self }
     {
         match self {
-            LastLine::Nothing | LastLine::Checked(_) => 0,
+            LastLine::Nothing | LastLine::Checked(_) | LastLine::Soaked(_) => 0,
             LastLine::Fault { .. } => 1,
             LastLine::BadScript { .. } | LastLine::TooManyNames { .. } => 2,
             LastLine::HeapFull { .. } => 3,
@@ -105,7 +137,8 @@ impl LastLine {
     {
         match self {
             LastLine::Nothing => write_all(sink, b""),
-            LastLine::Checked(counts) => write_counts(sink, counts),
+            LastLine::Checked(counts) => write_counts(sink, "checked objects ", counts),
+            LastLine::Soaked(soaked) => write_soaked(sink, soaked),
             LastLine::Fault { line, word } => write_reason(sink, "fault ", line, word.text()),
             LastLine::BadScript { line, why } => write_reason(
                 sink,
@@ -153,18 +186,33 @@ fn write_numbered<K: Sink>(sink: &mut K, head: &str, line: u32) -> Result<(), Fa
     write_all(sink, b"\n")
 }
 
-/// Writes the counts of a heap that was checked.
-fn write_counts<K: Sink>(sink: &mut K, counts: Counts) -> Result<(), Failed>
+/// Writes a head, and what was counted of a heap.
+fn write_counts<K: Sink>(sink: &mut K, head: &str, counts: Counts) -> Result<(), Failed>
     ensures appended { OnOk result (Appends (K.HasTaken sink.old) (K.HasTaken sink.new)
-        (counts_line counts.objects counts.entries)) }
+        (counts_line head.now counts.objects counts.entries)) }
     ensures stopped { OnErr result (AppendsSome (K.HasTaken sink.old) (K.HasTaken sink.new)
-        (counts_line counts.objects counts.entries)) }
+        (counts_line head.now counts.objects counts.entries)) }
     ensures failed { OnErr result (Rose (K.faults sink.old) (K.faults sink.new)) }
     ensures steady { OnOk result (K.faults sink.new ≡ K.faults sink.old) }
 {
-    write_head(sink, "checked objects ", counts.objects)?;
+    write_head(sink, head, counts.objects)?;
     write_head(sink, " entries ", counts.entries)?;
     write_all(sink, b"\n")
+}
+
+/// Writes the sums of a soak.
+fn write_soaked<K: Sink>(sink: &mut K, soaked: Soaked) -> Result<(), Failed>
+    ensures appended { OnOk result (Appends (K.HasTaken sink.old) (K.HasTaken sink.new)
+        (soaked_line soaked.lines soaked.bytes soaked.sum soaked.counts.objects soaked.counts.entries)) }
+    ensures stopped { OnErr result (AppendsSome (K.HasTaken sink.old) (K.HasTaken sink.new)
+        (soaked_line soaked.lines soaked.bytes soaked.sum soaked.counts.objects soaked.counts.entries)) }
+    ensures failed { OnErr result (Rose (K.faults sink.old) (K.faults sink.new)) }
+    ensures steady { OnOk result (K.faults sink.new ≡ K.faults sink.old) }
+{
+    write_head(sink, "lines ", soaked.lines)?;
+    write_head(sink, " bytes ", soaked.bytes)?;
+    write_head(sink, " sum ", soaked.sum)?;
+    write_counts(sink, " objects ", soaked.counts)
 }
 
 /// Writes the address of a word that breaks the heap, what stands there, and what is asked for.

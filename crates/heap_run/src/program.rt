@@ -1,23 +1,23 @@
 //! The program as one call. Its last line stands in `last_line`, the run of a script in `heap_script`.
 ghost use Rattle.std.specs.Prelude.{◌≡◌, ◌≢◌, ℕ, List, [], map, length, string_bytes};
-ghost use Rattle.std.specs.Prelude.{Bool, Some, None, Ok, IfSome, IfOk};
+ghost use Rattle.std.specs.Prelude.{Bool, Some, None, Ok, IfSome, IfOk, false};
 ghost use Rattle.object_graph.specs.Graphs.{start};
 ghost use Rattle.script_text.specs.Grammar.{reading};
 ghost use Rattle.page_space.specs.Sizes.{AreWithin};
 ghost use Rattle.write_barrier.specs.MutatorState.{IsOpened};
 ghost use Rattle.collector.specs.States.{HeapState, HeapShows};
 ghost use Rattle.byte_ends.specs.Faults.{Rose};
-ghost use Rattle.byte_ends.specs.Source.{IsInput};
 ghost use Rattle.byte_ends.specs.Sink.{Appends, AppendsSome};
 ghost use Rattle.heap_script.specs.Inspecting.{counts_at_end, IsFor};
-ghost use Rattle.heap_script.specs.Runs.{AreBuilt, IsCut};
+ghost use Rattle.heap_script.specs.Runs.{IsCut};
 ghost use Rattle.heap_run.specs.Texts.{last_bytes, status_of, sink_fault_status};
-ghost use Rattle.heap_run.specs.Answers.{Answers, Runs, KeepsGraph, AsksToRun, IsKeptFor, Taken};
+ghost use Rattle.heap_run.specs.Answers.{Answers, Runs, KeepsGraph, AsksToRun, IsScriptFor, IsKeptFor, Taken};
 ghost use Rattle.heap_run.specs.Answers.{input_of, last_line_of, unopened};
 
 use crate::ended::{Ended, Kept};
 use crate::generated::write_generated;
 use crate::last_line::{LastLine, SINK_FAULT};
+use crate::soaking::soak;
 use crate::source_bytes::{ReadStop, read_source};
 use byte_ends::{Sink, Source};
 use collector::Heap;
@@ -36,7 +36,9 @@ use tagged_word::NoMemory;
 /// is the script, and `sink` takes what it writes and the last line. The heap has the sizes that the
 /// words give; threads and gates are not used. Where the words ask for a check, the heap is judged
 /// behind each full collection, and once more at the script's end, with what is left counted. Where
-/// they ask for a generated script, `sink` takes that, nothing is read, and there is no heap.
+/// they ask for a generated script, `sink` takes that, nothing is read, and there is no heap. Where they
+/// ask for a soak, a generated script is run, and `sink` takes the sums of what it tells, and nothing is
+/// read.
 ///
 /// Where a heap is kept, it shows the graph after the executed lines, whatever became of the bytes.
 pub fn run<S: Source, K: Sink, G: Gate, R: Threads + Sync>(
@@ -52,11 +54,11 @@ pub fn run<S: Source, K: Sink, G: Gate, R: Threads + Sync>(
         (K.HasTaken sink.old) (K.HasTaken sink.new) (K.faults sink.old) (K.faults sink.new) result }
 
     // The heap that is kept, of every run.
-    ensures kept { IfSome result.kept (λ kept. (checks : Bool) × (sizes : Sizes) × (input : List ℕ)
-        × AsksToRun (map string_bytes words.now) checks sizes × IsInput (S.left source.old) input
-        × KeepsGraph sizes (reading input) kept) }
-    ensures whole { IfSome result.kept (λ _.
-        IfSome (S.left source.old) (λ _. S.left source.new ≡ Some [])) }
+    ensures kept { IfSome result.kept (λ kept. (sizes : Sizes) × (script : List ℕ)
+        × IsScriptFor (map string_bytes words.now) (S.left source.old) sizes script
+        × KeepsGraph sizes (reading script) kept) }
+    ensures whole { (checks : Bool) (sizes : Sizes) → AsksToRun (map string_bytes words.now) checks sizes →
+        IfSome result.kept (λ _. IfSome (S.left source.old) (λ _. S.left source.new ≡ Some [])) }
     ensures opened { IsKeptFor (map string_bytes words.now) result.status result.kept }
 {
     run_words(rt, alloc, words, source, sink, gate)
@@ -88,7 +90,9 @@ fn run_words<S: Source, K: Sink, G: Gate, R: Threads + Sync>(
         Ok(Invocation::Run(sizes)) => run_read(rt, alloc, false, sizes, source, sink, gate),
         Ok(Invocation::Check(sizes)) => run_read(rt, alloc, true, sizes, source, sink, gate),
         Ok(Invocation::Gen { seed, forms }) => write_generated(alloc, seed, forms, sink),
-        Ok(_) => unreachable!(),
+        Ok(Invocation::Soak { sizes, seed, forms }) => soak(
+            rt, alloc, sizes, seed, forms, sink, gate,
+        ),
         Err(WordsStop::BadWords) => give_up(sink, LastLine::BadWords),
         Err(WordsStop::NoMemory) => give_up(sink, LastLine::NoMemory),
     }
@@ -165,9 +169,10 @@ fn run_source<K: Sink, G: Gate, R: Threads + Sync>(
 }
 
 /// A heap over these regions, in which there is no object and no variable is bound.
-fn open_heap(alloc: Global, regions: Regions) -> Result<Heap, NoMemory>
-    ensures { IfOk result (λ heap. HeapShows heap start × IsOpened heap.main
-        × (heap.main.seat.space ≡ regions)) }
+pub(crate) fn open_heap(alloc: Global, regions: Regions) -> Result<Heap, NoMemory>
+    ensures opened { IfOk result (λ heap. HeapShows heap start × IsOpened heap.main) }
+    ensures regions { IfOk result (λ heap. heap.main.seat.space ≡ regions) }
+    ensures closed { IfOk result (λ heap. heap.rest.in_cycle ≡ false) }
 {
     let seat = HeapTable::open(alloc, regions)?;
     Heap::open_new(alloc, seat, regions)
@@ -196,9 +201,9 @@ fn run_on_heap<K: Sink, G: Gate, R: Threads + Sync>(
 ) -> Ended
     requires shown { HeapShows heap start }
     requires opened { IsOpened heap.main }
+    requires closed { heap.rest.in_cycle ≡ false }
     requires variables { heap.main.seat.space.variables ≡ length script.now.variables }
     requires for_heap { IsFor heap inspection }
-    requires built { AreBuilt script.now.lines }
     requires empty { out ≡ [] }
     ensures { (bytes : List ℕ) → reading bytes ≡ Ok script.now →
         Runs (counts_at_end inspection) heap.main.seat.space.sizes bytes (K.HasTaken sink.old) (K.HasTaken sink.new)

@@ -17,7 +17,7 @@ use Rattle.object_graph.specs.Reach.{reach}
 use Rattle.nursery.specs.Young.{HasRoom}
 use Rattle.mutator.specs.declared.stop.Stop.{Stop}
 use Rattle.mutator.specs.declared.stop.Stop.TheVariants.{Fault, NoRoom, NoClear}
-use Rattle.mutator.specs.CarriesOut.{Carries, FindsMapNotFull, AsksWhereFull}
+use Rattle.mutator.specs.CarriesOut.{Carries, FindsMapNotFull}
 use Rattle.scavenger.specs.Laws.{KeepsGraphs}
 use Rattle.write_barrier.specs.MutatorState.{Mutator, heap_of, MainShows}
 use Rattle.heap_model.specs.Heaps.{Heap}
@@ -25,7 +25,7 @@ use Rattle.heap_model.specs.Rooms.{Room, FindsMapFull}
 use Rattle.heap_model.specs.Showing.{Shows}
 use Rattle.heap_model.proofs.ShownRooms.{shown_objects_have_rooms}
 use Rattle.object_cells.proofs.NothingUsed.{room_for_none}
-use Rattle.heap_script.specs.Collecting.{AsksForNone, IsSound, FindsPairs, Tries}
+use Rattle.heap_script.specs.Collecting.{IsSound, FindsPairs}
 use Rattle.heap_script.proofs.FewWords.{need_few}
 
 -- where there is no room, some words were wanted
@@ -34,15 +34,7 @@ pub wants_some : (main : Mutator) (graph : Graph) (need : ℕ) → MainShows mai
 wants_some main graph zero shows lacks = absurd (lacks (room_for_none main shows.tied shows.shows.whole))
 wants_some main graph (suc need) shows lacks = omega arith
 
--- a command that was tried and stopped asks for no collection, and stopped on the heap as it was
-pub stopped_there : {names : List (List ℕ)} {old new : Mutator} {graph : Graph} {command : Command} {text : List ℕ}
-    {stop : Stop} → Tries names old new graph command text (Err stop)
-    → AsksForNone command × Carries names old new graph command text (Err stop)
-    × AsksWhereFull old graph command (Err stop)
-stopped_there (Tries.asked is carries) = absurd (cc)
-stopped_there (Tries.unasked none carries asks) = (none, carries, asks)
-
--- it leaves the heap as it was
+-- a command that was tried and stopped leaves the heap as it was
 pub same_stopped : (names : List (List ℕ)) (old new : Mutator) (graph : Graph) (command : Command) (text : List ℕ)
     (stop : Stop) → Carries names old new graph command text (Err stop) → new ≡ old
 same_stopped names old new graph command text (Fault word) (does-is, same) = same

@@ -167,6 +167,7 @@ Running-collected {heap = heap} {mid} r between spends =
       handed = r.handed;
       made = r.made;
       few = r.few;
+      cycle = r.cycle;
     }
 
 -- behind the scavenge for the words that the next command needs, which promotes survivors

@@ -18,15 +18,17 @@ use Rattle.object_graph.specs.Limits.{ideal_limits}
 use Rattle.heap_model.specs.Heaps.{Heap}
 use Rattle.write_barrier.specs.MutatorState.{Mutator, heap_of}
 use Rattle.exact_heaps.specs.Collected.{CollectsAll}
-use Rattle.collector.specs.States.{HeapState}
+use Rattle.collector.specs.States.{HeapState, with_cycle}
 use Rattle.collector.proofs.Keeping.{same_heap}
 use Rattle.heap_script.specs.declared.finished.How.{How}
 use Rattle.heap_script.specs.declared.finished.How.TheVariants as how
-use Rattle.heap_script.specs.Collecting.{IsSound, CollectsFully, HasNoPlace, FaultsOn, StopsAt}
+use Rattle.heap_script.specs.Cycles.{cycle_after_line}
+use Rattle.heap_script.specs.Collecting.{IsSound, CollectsFully, HasNoPlace, FaultsOn, StopsAt, CarriesCommand}
 use Rattle.heap_script.specs.Stages.{Stage, Collections, uncollected, fully_collected, stage_of}
 use Rattle.heap_script.specs.Reached.{left_after, RanTo, EndsAs}
 use Rattle.heap_script.specs.Runs.{EndsRun, FaultsBehind, IsFull, IsFullAt}
 use Rattle.heap_script.specs.Progress.{how_of, CarriesLine, Pauses}
+use Rattle.heap_script.proofs.Asking.{rest_stays}
 use Rattle.heap_script.proofs.Lacking.{full_for}
 use Rattle.heap_script.proofs.Retrying.{fully_collects}
 use Rattle.heap_script.specs.Between.{Running}
@@ -202,14 +204,18 @@ pub Stopped-line : (script : ScriptText) (heap after : HeapState) (objects : ℕ
     (old new : List ℕ → Type 0) (at at' : ℕ) (ts ts' : List ℕ) (n number : ℕ) (command : Option Command)
     (text : List ℕ) (stop : Stop) → (r : Running script heap objects waiting old new at ts n uncollected)
     → n < lines_most
-    → Goes script.lines at' ts' (left_after script n) (executed number command) → after.rest ≡ heap.rest
-    → CarriesLine script.fields heap.main after.main r.reached.so_far.graph command text (Err stop)
+    → Goes script.lines at' ts' (left_after script n) (executed number command)
+    → after.rest ≡ with_cycle heap.rest (cycle_after_line heap.rest.in_cycle command)
+    → CarriesLine script.fields heap.rest.in_cycle heap.main after.main r.reached.so_far.graph command text (Err stop)
     → Stopped script after objects waiting old new at ts n (how_of stop) number
 Stopped-line script heap after objects waiting old new at at' ts ts' n number None text stop r below goes rest
     (same, nothing, is) =
     absurd (cc)
 Stopped-line script heap after objects waiting old new at at' ts ts' n number (Some command) text stop r below goes
-    rest stops =
+    rest (CarriesCommand.asked is asked) =
+    absurd (cc)
+Stopped-line script heap after objects waiting old new at at' ts ts' n number (Some command) text stop r below goes
+    rest (CarriesCommand.apart apart stops) =
     subst (λ one. Stopped script one objects waiting old new at ts n (how_of stop) number)
-    (same_heap after (heap_with heap after.main) refl (sym rest))
+    (same_heap after (heap_with heap after.main) refl (sym (rest ∙ rest_stays heap.rest command apart)))
     (Stopped-command number command after.main r below goes stop stops)

@@ -10,7 +10,8 @@ use Rattle.collector.specs.States.{HeapState}
 use Rattle.byte_ends.specs.Faults.{Rose}
 use Rattle.byte_ends.specs.Sink.{Appends}
 use Rattle.heap_script.specs.declared.finished.How.{How}
-use Rattle.heap_script.specs.declared.finished.How.TheVariants.{End, Counted, Fault, HeapFull, SinkFault, LineLimit, Flawed}
+use Rattle.heap_script.specs.declared.finished.How.TheVariants.{End, Counted, Fault, HeapFull, SinkFault, LineLimit}
+use Rattle.heap_script.specs.declared.finished.How.TheVariants.{Flawed}
 use Rattle.heap_script.specs.declared.finished.Finished.{Finished}
 use Rattle.heap_script.specs.Stages.{Stage, Collections}
 use Rattle.heap_script.specs.Reached.{RanTo}
@@ -41,7 +42,8 @@ spent_all {stage = stage} {collections = collections} reached spends free = reco
 }
 
 -- the sink failed between two lines
-pub Finishes-cut : (counted : Bool) (script : ScriptText) (heap : HeapState) (waiting : List ℕ) (how : How) (line n need : ℕ)
+pub Finishes-cut : (counted : Bool) (script : ScriptText) (heap : HeapState) (waiting : List ℕ) (how : How)
+    (line n need : ℕ)
     (old new : List ℕ → Type 0) (faults_old faults_new : ℕ) → how ≡ SinkFault need
     → Pauses counted script heap waiting (finished_by how line n) old new faults_old faults_new
     → Finishes counted script (heap_of heap.main) (finished_by how line n) old new faults_old faults_new
@@ -50,7 +52,11 @@ Finishes-cut counted script heap waiting (Fault word) line n need old new faults
 Finishes-cut counted script heap waiting (HeapFull words) line n need old new faults_old faults_new is p = absurd (cc)
 Finishes-cut counted script heap waiting (SinkFault none) line n need old new faults_old faults_new is p =
     let (between, some, rose) = p.halts in
-    record { reached = p.reached; spent = spent_all p.reached p.spends p.shown.main.free; writes = (inl between, some, rose) }
+    record {
+      reached = p.reached;
+      spent = spent_all p.reached p.spends p.shown.main.free;
+      writes = (inl between, some, rose);
+    }
 Finishes-cut counted script heap waiting LineLimit line n need old new faults_old faults_new is p = absurd (cc)
 Finishes-cut counted script heap waiting (Counted counts) line n need old new faults_old faults_new is p = absurd (cc)
 Finishes-cut counted script heap waiting (Flawed flaw) line n need old new faults_old faults_new is p = absurd (cc)
@@ -74,7 +80,8 @@ paused_at counted script heap waiting (Fault word) line n old mid faults_old fau
     record { comes = p.halts.0; handed = p.halts.1; steady = p.halts.2 }
 paused_at counted script heap waiting (HeapFull need) line n old mid faults_old faults_mid other p =
     record { comes = p.halts.0; handed = p.halts.1; steady = p.halts.2 }
-paused_at counted script heap waiting (SinkFault need) line n old mid faults_old faults_mid other p = absurd (other need refl)
+paused_at counted script heap waiting (SinkFault need) line n old mid faults_old faults_mid other p =
+    absurd (other need refl)
 paused_at counted script heap waiting LineLimit line n old mid faults_old faults_mid other p =
     record { comes = p.halts.0; handed = p.halts.1; steady = p.halts.2 }
 paused_at counted script heap waiting (Counted counts) line n old mid faults_old faults_mid other p =
@@ -102,13 +109,15 @@ writes_at counted script heap rows collections (Flawed flaw) line n so_far old n
     absurd (comes)
 
 -- what waited was written
-pub Finishes-written : (counted : Bool) (script : ScriptText) (heap : HeapState) (waiting : List ℕ) (how : How) (line n : ℕ)
+pub Finishes-written : (counted : Bool) (script : ScriptText) (heap : HeapState) (waiting : List ℕ) (how : How)
+    (line n : ℕ)
     (old mid new : List ℕ → Type 0) (faults_old faults_mid faults_new : ℕ)
     → ((need : ℕ) → how ≡ SinkFault need → ⊥)
     → Pauses counted script heap waiting (finished_by how line n) old mid faults_old faults_mid
     → Appends mid new waiting → faults_new ≡ faults_mid
     → Finishes counted script (heap_of heap.main) (finished_by how line n) old new faults_old faults_new
-Finishes-written counted script heap waiting how line n old mid new faults_old faults_mid faults_new other p wrote same =
+Finishes-written counted script heap waiting how line n old mid new faults_old faults_mid faults_new other p wrote
+    same =
     let at = paused_at counted script heap waiting how line n old mid faults_old faults_mid other p in
     record {
       reached = p.reached;
@@ -118,12 +127,14 @@ Finishes-written counted script heap waiting how line n old mid new faults_old f
     }
 
 -- writing what waited failed
-pub Finishes-failed : (counted : Bool) (script : ScriptText) (heap : HeapState) (waiting : List ℕ) (how : How) (line n : ℕ)
+pub Finishes-failed : (counted : Bool) (script : ScriptText) (heap : HeapState) (waiting : List ℕ) (how : How)
+    (line n : ℕ)
     (old mid new : List ℕ → Type 0) (faults_old faults_mid faults_new : ℕ)
     → ((need : ℕ) → how ≡ SinkFault need → ⊥)
     → Pauses counted script heap waiting (finished_by how line n) old mid faults_old faults_mid
     → CutsOff mid new waiting → Rose faults_mid faults_new
-    → Finishes counted script (heap_of heap.main) (finished_by (SinkFault (need_at how)) line n) old new faults_old faults_new
+    → Finishes counted script (heap_of heap.main) (finished_by (SinkFault (need_at how)) line n) old new faults_old
+    faults_new
 Finishes-failed counted script heap waiting how line n old mid new faults_old faults_mid faults_new other p wrote rose =
     let at = paused_at counted script heap waiting how line n old mid faults_old faults_mid other p in
     record {

@@ -1,5 +1,5 @@
 -- What a check of a whole heap answers: no flaw, and the counts of what can be reached, if the heap keeps nothing else.
-use Rattle.std.proofs.Common.{◌≡◌, ◌∙◌, Result, Ok, Err, OnErr, IfOk}
+use Rattle.std.proofs.Common.{◌∙◌, Result, Ok, Err, OnErr, IfOk}
 use Rattle.object_graph.specs.Graphs.{Graph}
 use Rattle.object_graph.specs.Invariants.{IsGraph}
 use Rattle.page_space.specs.Sizes.{AreWithin}

@@ -36,9 +36,9 @@ beside heap rest = record { main = heap.main; rest = rest }
 Running-beside : {script : ScriptText} {heap : HeapState} {objects : ℕ} {waiting : List ℕ} {old new : List ℕ → Type 0}
     {at : ℕ} {ts : List ℕ} {n : ℕ} {collections : Collections} (rest : Rest)
     → (r : Running script heap objects waiting old new at ts n collections)
-    → HeapShows (beside heap rest) r.reached.so_far.graph
+    → rest.in_cycle ≡ heap.rest.in_cycle → HeapShows (beside heap rest) r.reached.so_far.graph
     → Running script (beside heap rest) objects waiting old new at ts n collections
-Running-beside rest r shown = record {
+Running-beside rest r cycle shown = record {
   reached = r.reached;
   spends = r.spends;
   ungranted = r.ungranted;
@@ -47,19 +47,21 @@ Running-beside rest r shown = record {
   handed = r.handed;
   made = r.made;
   few = r.few;
+  cycle = cycle ∙ r.cycle;
 }
 
 -- so it does once an image of it was judged
 pub Running-judged : {script : ScriptText} {heap after : HeapState} {objects : ℕ} {waiting : List ℕ}
     {old new : List ℕ → Type 0} {at : ℕ} {ts : List ℕ} {n : ℕ} {collections : Collections}
     → (r : Running script heap objects waiting old new at ts n collections) → after.main ≡ heap.main
-    → ((graph : Graph) → HeapShows heap graph → HeapShows after graph)
+    → after.rest.in_cycle ≡ heap.rest.in_cycle → ((graph : Graph) → HeapShows heap graph → HeapShows after graph)
     → Running script after objects waiting old new at ts n collections
-Running-judged {script} {heap} {after} {objects} {waiting} {old} {new} {at} {ts} {n} {collections} r main shows =
+Running-judged {script} {heap} {after} {objects} {waiting} {old} {new} {at} {ts} {n} {collections} r main cycle
+    shows =
     let same : after ≡ beside heap after.rest = same_heap (beside heap after.rest) after main refl in
     let graph = r.reached.so_far.graph in
     subst (λ one. Running script one objects waiting old new at ts n collections) (sym same)
-    (Running-beside after.rest r (subst (λ one. HeapShows one graph) same (shows graph r.shown)))
+    (Running-beside after.rest r cycle (subst (λ one. HeapShows one graph) same (shows graph r.shown)))
 
 -- a run halts alike, whatever image was made
 Pauses-beside : {counted : Bool} {script : ScriptText} {heap : HeapState} {waiting : List ℕ} {finished : Finished}
@@ -81,7 +83,8 @@ pub Pauses-judged : {counted : Bool} {script : ScriptText} {heap after : HeapSta
     → (p : Pauses counted script heap waiting finished old new faults_old faults_new) → after.main ≡ heap.main
     → ((graph : Graph) → HeapShows heap graph → HeapShows after graph)
     → Pauses counted script after waiting finished old new faults_old faults_new
-Pauses-judged {counted} {script} {heap} {after} {waiting} {finished} {old} {new} {faults_old} {faults_new} p main shows =
+Pauses-judged {counted} {script} {heap} {after} {waiting} {finished} {old} {new} {faults_old} {faults_new} p main
+    shows =
     let same : after ≡ beside heap after.rest = same_heap (beside heap after.rest) after main refl in
     let graph = p.reached.so_far.graph in
     subst (λ one. Pauses counted script one waiting finished old new faults_old faults_new) (sym same)

@@ -3,6 +3,7 @@ mod FewWords
 mod Lacking
 mod Carrying
 mod Trying
+mod Asking
 mod Retrying
 mod Stopping
 mod Serving

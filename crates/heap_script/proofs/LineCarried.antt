@@ -1,6 +1,6 @@
 -- A run behind a line that was executed, whose command may have found the heap collected, and words of a page granted.
-use Rattle.std.proofs.Common.{◌≡◌, ℕ, ◌+◌, ◌<◌, false, List, ◌++◌, Option, Some, None}
-use Rattle.std.proofs.Common.{Ok, refl, sym, ap, subst, add-zero, append-nil, arith}
+use Rattle.std.proofs.Common.{◌≡◌, ◌∙◌, ℕ, ◌+◌, ◌<◌, Bool, false, List, ◌++◌, length, Option, Some, None}
+use Rattle.std.proofs.Common.{Ok, refl, sym, ap, subst, add-zero, append-nil}
 use Rattle.heap_model.specs.Types.{Command}
 use Rattle.object_graph.specs.Graphs.{Graph}
 use Rattle.object_graph.specs.Limits.{ideal_limits}
@@ -10,20 +10,22 @@ use Rattle.script_text.specs.Scripts.{ScriptText}
 use Rattle.script_text.specs.Unrolled.{executed, executed_lines}
 use Rattle.script_text.specs.Left.{Goes}
 use Rattle.heap_model.specs.Heaps.{Heap}
-use Rattle.nursery.specs.Young.{Young}
+use Rattle.nursery.specs.Young.{Young, in_eden}
 use Rattle.write_barrier.specs.MutatorState.{Mutator}
 use Rattle.collector.specs.Making.{Serves, MakesRoom}
-use Rattle.collector.specs.States.{HeapState}
+use Rattle.collector.specs.States.{HeapState, with_cycle}
 use Rattle.collector.proofs.Keeping.{same_heap}
 use Rattle.mutator.specs.CarriesOut.{Carries, FindsMapNotFull}
-use Rattle.heap_script.specs.Collecting.{AsksForNone, IsSound, LacksWords, CollectsFully, Collects, CarriesAsked}
-use Rattle.heap_script.specs.Collecting.{IsCarriedOut}
+use Rattle.heap_script.specs.Cycles.{cycle_after_command, cycle_after_line}
+use Rattle.heap_script.specs.Collecting.{IsApart, IsSound, LacksWords, CollectsFully, Collects, CarriesAsked}
+use Rattle.heap_script.specs.Collecting.{CarriesCommand}
 use Rattle.heap_script.specs.Stages.{Collections, uncollected, scavenged, fully_collected, stage_of}
 use Rattle.heap_script.specs.Reached.{left_after, RanTo}
 use Rattle.heap_script.specs.Spending.{LineAllocates}
 use Rattle.heap_script.specs.Runs.{TellsAt}
 use Rattle.heap_script.specs.Progress.{objects_made, made_by, CarriesLine}
 use Rattle.heap_script.proofs.Carrying.{unfull_behind}
+use Rattle.heap_script.proofs.Asking.{rest_stays}
 use Rattle.heap_script.proofs.Retrying.{fully_collects}
 use Rattle.heap_script.proofs.Serving.{Served, served, allocated}
 use Rattle.heap_script.specs.Between.{Running}
@@ -31,12 +33,12 @@ use Rattle.heap_script.proofs.Running.{Running-passed, Running-carried, next-dro
 use Rattle.heap_script.proofs.Collected.{collected_by, Wants, wants, ungranted_by, heap_with}
 use Rattle.heap_script.proofs.Collected.{Running-once, Running-fully}
 
--- a command was carried out that asks for no collection, on what it found of the heap
+-- a command was carried out that is none of the collector's, on what it found of the heap
 Running-served : (script : ScriptText) (heap after : HeapState) (found : Mutator) (objects : ℕ) (waiting : List ℕ)
     (old new : List ℕ → Type 0) (at at' : ℕ) (ts ts' : List ℕ) (n number : ℕ) (command : Command) (text : List ℕ)
     {collections : Collections} → (r : Running script heap objects waiting old new at ts n collections) → n < lines_most
     → Goes script.lines at' ts' (left_after script n) (executed number (Some command))
-    → after.rest ≡ heap.rest → AsksForNone command → Served heap.main found r.reached.so_far.graph collections command
+    → after.rest ≡ heap.rest → IsApart command → Served heap.main found r.reached.so_far.graph collections command
     → FindsMapNotFull found r.reached.so_far.graph command
     → Carries script.fields found after.main r.reached.so_far.graph command text (Ok tt)
     → Running script after (objects + objects_made command) (waiting ++ text) old new at' ts' (n + 1) uncollected
@@ -44,7 +46,8 @@ Running-served script heap after found objects waiting old new at at' ts ts' n n
     apart served_so unfull (graph, does-is, shown, takes) =
     let done = allocated command r.shown.main r.ungranted served_so unfull takes in
     Running-carried script heap after objects waiting old new at at' ts ts' n number command text graph r below goes
-    rest done.allocates.space does-is shown (LineAllocates.allocates command apart done.allocates) done.ungranted
+    (rest ∙ sym (rest_stays heap.rest command apart)) done.allocates.space does-is shown
+    (LineAllocates.allocates command apart done.allocates) done.ungranted
     done.rows
 
 -- it was carried out once a scavenge had made room for the words that it lacked
@@ -52,7 +55,7 @@ Running-scavenged : (script : ScriptText) (heap after : HeapState) (found : Muta
     (old new : List ℕ → Type 0) (at at' : ℕ) (ts ts' : List ℕ) (n number : ℕ) (command : Command) (text : List ℕ)
     (need : ℕ) → (r : Running script heap objects waiting old new at ts n uncollected) → n < lines_most
     → Goes script.lines at' ts' (left_after script n) (executed number (Some command))
-    → after.rest ≡ heap.rest → AsksForNone command → Wants script n r.reached.so_far command
+    → after.rest ≡ heap.rest → IsApart command → Wants script n r.reached.so_far command
     → IsSound script.fields r.reached.so_far.graph command
     → LacksWords heap.main r.reached.so_far.graph command need → MakesRoom heap.main found false need
     → FindsMapNotFull found r.reached.so_far.graph command
@@ -74,7 +77,7 @@ Running-granted : (script : ScriptText) (heap after : HeapState) (last found : M
     (waiting : List ℕ) (old new : List ℕ → Type 0) (at at' : ℕ) (ts ts' : List ℕ) (n number : ℕ) (command : Command)
     (text : List ℕ) (need : ℕ) → (r : Running script heap objects waiting old new at ts n uncollected) → n < lines_most
     → Goes script.lines at' ts' (left_after script n) (executed number (Some command))
-    → after.rest ≡ heap.rest → AsksForNone command → Wants script n r.reached.so_far command
+    → after.rest ≡ heap.rest → IsApart command → Wants script n r.reached.so_far command
     → CollectsFully script.fields heap.main last r.reached.so_far.graph command
     → LacksWords last r.reached.so_far.graph command need → Serves last found need
     → FindsMapNotFull found r.reached.so_far.graph command
@@ -93,7 +96,7 @@ Running-found : (script : ScriptText) (heap after : HeapState) (found : Mutator)
     (old new : List ℕ → Type 0) (at at' : ℕ) (ts ts' : List ℕ) (n number : ℕ) (command : Command) (text : List ℕ)
     → (r : Running script heap objects waiting old new at ts n uncollected) → n < lines_most
     → Goes script.lines at' ts' (left_after script n) (executed number (Some command))
-    → after.rest ≡ heap.rest → AsksForNone command
+    → after.rest ≡ heap.rest → IsApart command
     → Collects script.fields heap.main found r.reached.so_far.graph command
     → FindsMapNotFull found r.reached.so_far.graph command
     → Carries script.fields found after.main r.reached.so_far.graph command text (Ok tt)
@@ -116,44 +119,51 @@ Running-found script heap after found objects waiting old new at at' ts ts' n nu
     Running-granted script heap after last found objects waiting old new at at' ts ts' n number command text need r
     below goes rest apart (wants r.reached.so_far below goes) fully lacks serves unfull carries
 
--- a command was carried out that asks for a collection
+-- a command of the collector's was carried out
 Running-asked : (script : ScriptText) (heap after : HeapState) (objects : ℕ) (waiting : List ℕ)
     (old new : List ℕ → Type 0) (at at' : ℕ) (ts ts' : List ℕ) (n number : ℕ) (command : Command) (text : List ℕ)
     → (r : Running script heap objects waiting old new at ts n uncollected) → n < lines_most
     → Goes script.lines at' ts' (left_after script n) (executed number (Some command))
-    → after.rest ≡ heap.rest
-    → CarriesAsked script.fields heap.main after.main r.reached.so_far.graph command text
+    → after.rest ≡ with_cycle heap.rest (cycle_after_command heap.rest.in_cycle command)
+    → CarriesAsked script.fields heap.rest.in_cycle heap.main after.main r.reached.so_far.graph command text
     → Running script after (objects + objects_made command) (waiting ++ text) old new at' ts' (n + 1) uncollected
 Running-asked script heap after objects waiting old new at at' ts ts' n number command text r below goes rest
     (CarriesAsked.scavenges is scavenges keeps (graph, does-is, shown, takes)) =
     let before = r.reached.so_far.graph in
     let Uses : Command → Type 0 =
-    λ one. LineAllocates (stage_of heap.main) (stage_of after.main) before graph uncollected (Some one) in
+    λ one. LineAllocates heap.rest.in_cycle (stage_of heap.main) (stage_of after.main) before graph uncollected
+    (Some one) in
     let uses : Uses command =
-    subst Uses (sym is) (LineAllocates.collects (collected_by scavenges keeps r.shown.main)) in
+    subst Uses (sym is) (LineAllocates.scavenges (collected_by scavenges keeps r.shown.main)) in
     Running-carried script heap after objects waiting old new at at' ts ts' n number command text graph r below goes
     rest scavenges.seat.space does-is shown uses (ungranted_by scavenges) scavenges.rows
 Running-asked script heap after objects waiting old new at at' ts ts' n number command text r below goes rest
-    (CarriesAsked.collects asks collects (graph, does-is, shown, takes)) =
+    (CarriesAsked.collects_all asks collects (graph, does-is, shown, takes)) =
     Running-carried script heap after objects waiting old new at at' ts ts' n number command text graph r below goes
     rest collects.seat.space does-is shown (LineAllocates.collects_all command asks collects.leaves) collects.ungranted
     collects.rows
+Running-asked script heap after objects waiting old new at at' ts ts' n number command text r below goes rest
+    (CarriesAsked.collects_nothing none same (graph, does-is, shown, takes)) =
+    Running-carried script heap after objects waiting old new at at' ts ts' n number command text graph r below goes
+    rest (ap (λ (main : Mutator). main.seat.space) same) does-is shown
+    (LineAllocates.collects_nothing command none (ap stage_of same))
+    (ap (λ (main : Mutator). in_eden main.young) same ∙ r.ungranted) (ap (λ (main : Mutator). length main.free) same)
 
--- whichever the command asks for
+-- whichever the command is
 Running-by : (script : ScriptText) (heap after : HeapState) (objects : ℕ) (waiting : List ℕ)
     (old new : List ℕ → Type 0) (at at' : ℕ) (ts ts' : List ℕ) (n number : ℕ) (command : Command) (text : List ℕ)
     → (r : Running script heap objects waiting old new at ts n uncollected) → n < lines_most
     → Goes script.lines at' ts' (left_after script n) (executed number (Some command))
-    → after.rest ≡ heap.rest
-    → IsCarriedOut script.fields heap.main after.main r.reached.so_far.graph command text
+    → after.rest ≡ with_cycle heap.rest (cycle_after_command heap.rest.in_cycle command)
+    → CarriesCommand script.fields heap.rest.in_cycle heap.main after.main r.reached.so_far.graph command text (Ok tt)
     → Running script after (objects + objects_made command) (waiting ++ text) old new at' ts' (n + 1) uncollected
 Running-by script heap after objects waiting old new at at' ts ts' n number command text r below goes rest
-    (IsCarriedOut.asked asked) =
+    (CarriesCommand.asked is asked) =
     Running-asked script heap after objects waiting old new at at' ts ts' n number command text r below goes rest asked
 Running-by script heap after objects waiting old new at at' ts ts' n number command text r below goes rest
-    (IsCarriedOut.unasked found apart collects shows unfull carries) =
-    Running-found script heap after found objects waiting old new at at' ts ts' n number command text r below goes rest
-    apart collects unfull carries
+    (CarriesCommand.apart apart carried) =
+    Running-found script heap after carried.found objects waiting old new at at' ts ts' n number command text r below
+    goes (rest ∙ rest_stays heap.rest command apart) apart carried.collects carried.unfull carried.carries
 
 -- a line was executed
 pub Running-line : (script : ScriptText) (heap after : HeapState) (objects : ℕ) (waiting : List ℕ)
@@ -161,8 +171,8 @@ pub Running-line : (script : ScriptText) (heap after : HeapState) (objects : ℕ
     (text : List ℕ)
     → (r : Running script heap objects waiting old new at ts n uncollected) → n < lines_most
     → Goes script.lines at' ts' (left_after script n) (executed number command)
-    → after.rest ≡ heap.rest
-    → CarriesLine script.fields heap.main after.main r.reached.so_far.graph command text (Ok tt)
+    → after.rest ≡ with_cycle heap.rest (cycle_after_line heap.rest.in_cycle command)
+    → CarriesLine script.fields heap.rest.in_cycle heap.main after.main r.reached.so_far.graph command text (Ok tt)
     → Running script after (objects + made_by command) (waiting ++ text) old new at' ts' (n + 1) uncollected
 Running-line script heap after objects waiting old new at at' ts ts' n number None text r below goes rest
     (same, nothing, is) =
@@ -172,22 +182,26 @@ Running-line script heap after objects waiting old new at at' ts ts' n number (S
     carries =
     Running-by script heap after objects waiting old new at at' ts ts' n number command text r below goes rest carries
 
--- a command that was carried out is no fault, and told its text
-carried_means : {names : List (List ℕ)} {old new : Mutator} {graph : Graph} {command : Command} {text : List ℕ}
-    → IsCarriedOut names old new graph command text
+-- a command that was carried out is no fault
+carried_means : {names : List (List ℕ)} {in_cycle : Bool} {old new : Mutator} {graph : Graph} {command : Command}
+    {text : List ℕ} → CarriesCommand names in_cycle old new graph command text (Ok tt)
     → (after : Graph) × (does ideal_limits names graph command ≡ done after text)
-carried_means (IsCarriedOut.asked (CarriesAsked.scavenges is scavenges keeps (after, does-is, shown, takes))) =
+carried_means (CarriesCommand.asked is (CarriesAsked.scavenges same scavenges keeps (after, does-is, shown, takes))) =
     (after, does-is)
-carried_means (IsCarriedOut.asked (CarriesAsked.collects asks collects (after, does-is, shown, takes))) =
+carried_means (CarriesCommand.asked is (CarriesAsked.collects_all asks collects (after, does-is, shown, takes))) =
     (after, does-is)
-carried_means (IsCarriedOut.unasked found apart collects shows unfull (after, does-is, shown, takes)) = (after, does-is)
+carried_means (CarriesCommand.asked is (CarriesAsked.collects_nothing none same (after, does-is, shown, takes))) =
+    (after, does-is)
+carried_means (CarriesCommand.apart apart carried) =
+    let (after, does-is, shown, takes) = carried.carries in
+    (after, does-is)
 
 -- and it told its text
 pub TellsAt-line : (script : ScriptText) (heap : Heap) (old new : Mutator) (at' : ℕ) (ts' : List ℕ) (n number : ℕ)
-    (command : Option Command) (text : List ℕ) → (r : RanTo script heap n)
+    (command : Option Command) (text : List ℕ) (in_cycle : Bool) → (r : RanTo script heap n)
     → Goes script.lines at' ts' (left_after script n) (executed number command)
-    → CarriesLine script.fields old new r.so_far.graph command text (Ok tt) → TellsAt script n text
-TellsAt-line script heap old new at' ts' n number None text r goes (same, nothing, is) =
+    → CarriesLine script.fields in_cycle old new r.so_far.graph command text (Ok tt) → TellsAt script n text
+TellsAt-line script heap old new at' ts' n number None text in_cycle r goes (same, nothing, is) =
     let line = executed number None in
     let next = next-drop (executed_lines script.lines) n line goes.rest goes.is in
     rw nothing
@@ -198,7 +212,7 @@ TellsAt-line script heap old new at' ts' n number None text r goes (same, nothin
       said_after = said-next script n r.so_far r.so_far line goes.rest next r.said refl;
       adds = sym (append-nil r.so_far.bytes);
     })
-TellsAt-line script heap old new at' ts' n number (Some command) text r goes carries =
+TellsAt-line script heap old new at' ts' n number (Some command) text in_cycle r goes carries =
     let (graph, does-is) = carried_means carries in
     let line = executed number (Some command) in
     let next = next-drop (executed_lines script.lines) n line goes.rest goes.is in

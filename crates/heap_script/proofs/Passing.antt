@@ -17,7 +17,7 @@ use Rattle.byte_ends.specs.Sink.{Appends}
 use Rattle.heap_script.specs.Progress.{Handed}
 use Rattle.heap_script.specs.Between.{Running, only}
 use Rattle.heap_script.specs.Stages.{uncollected}
-use Rattle.heap_script.proofs.Carrying.{stopped_there, same_stopped}
+use Rattle.heap_script.proofs.Carrying.{same_stopped}
 
 -- a command that was tried and did not stop was carried out
 pub tried_well : {names : List (List ℕ)} {old new : Mutator} {graph : Graph} {command : Command} {text : List ℕ}
@@ -36,8 +36,7 @@ pub tried_ill : (names : List (List ℕ)) (heap : HeapState) {new : Mutator} (gr
     → Tries names heap.main new graph command text result → with_main new heap ≡ heap
 tried_ill names heap graph command text (Ok done) ill tries = absurd (cc)
 tried_ill names heap {new} graph command text (Err stop) ill tries =
-    let (none, carries, asks) = stopped_there tries in
-    same_heap heap (with_main new heap) (same_stopped names heap.main new graph command text stop carries) refl
+    same_heap heap (with_main new heap) (same_stopped names heap.main new graph command text stop tries.carries) refl
 
 -- nor did one that left the mutator's side, which it was lent, as it was
 pub lent_still : (heap : HeapState) {lent new : Mutator} → lent ≡ heap.main → new ≡ lent → with_main new heap ≡ heap
@@ -60,6 +59,7 @@ as_taken r = record {
   };
   made = r.made;
   few = r.few;
+  cycle = r.cycle;
 }
 
 -- where nothing was taken before, what is taken was handed on
@@ -68,7 +68,8 @@ taken_bytes h = h.taken.appended [] refl
 
 -- and what was handed on is so still, if no more was
 pub as_handed : {script : ScriptText} {heap : HeapState} {objects at n : ℕ} {waiting taken : List ℕ}
-    {old new : List ℕ → Type 0} {ts : List ℕ} → Running script heap objects waiting (only []) (only taken) at ts n uncollected
+    {old new : List ℕ → Type 0} {ts : List ℕ} → Running script heap objects waiting (only [])
+    (only taken) at ts n uncollected
     → Appends old new taken → Running script heap objects waiting old new at ts n uncollected
 as_handed {taken = taken} {old} {new} r appends = record {
   reached = r.reached;
@@ -83,6 +84,7 @@ as_handed {taken = taken} {old} {new} r appends = record {
   };
   made = r.made;
   few = r.few;
+  cycle = r.cycle;
 }
 
 -- an output that is not full holds what it held and what the next line writes behind it

@@ -1,6 +1,6 @@
 -- A heap on which a command is tried: it is as it was, or way was made for the command.
-use Rattle.std.proofs.Common.{◌≡◌, ◌∙◌, ℕ, ◌≤◌, List, false, length, Ok}
-use Rattle.std.proofs.Common.{ap, sym, subst, refl, inl, inr}
+use Rattle.std.proofs.Common.{◌≡◌, ◌∙◌, ℕ, ◌≤◌, Bool, List, false, length, Ok}
+use Rattle.std.proofs.Common.{ap, sym, subst, refl}
 use Rattle.heap_model.specs.Types.{Command, FaultWord}
 use Rattle.heap_command.specs.declared.command.FaultWord.TheVariants.{WeakFull}
 use Rattle.object_graph.specs.Graphs.{Graph}
@@ -15,23 +15,23 @@ use Rattle.write_barrier.specs.MutatorState.{Mutator, heap_of, MainShows}
 use Rattle.scavenger.specs.Laws.{KeepsGraphs}
 use Rattle.exact_heaps.specs.Collected.{CollectsAll}
 use Rattle.collector.specs.Making.{IsOutOfRoom, Serves, MakesRoom}
-use Rattle.collector.specs.States.{HeapState, HeapShows, Rest}
+use Rattle.collector.specs.States.{HeapState, HeapShows, Rest, with_cycle}
 use Rattle.heap_script.specs.declared.making_way.Tried.{Tried}
 use Rattle.heap_script.specs.declared.making_way.Tried.TheVariants.{Once, Scavenged, Collected, Granted}
-use Rattle.heap_script.specs.Collecting.{AsksForNone, IsSound, LacksWords, FindsPairs, CollectsFully, Collects, Tries}
-use Rattle.heap_script.specs.Collecting.{CarriesAsked, IsCarriedOut}
+use Rattle.heap_script.specs.Collecting.{IsApart, IsSound, LacksWords, FindsPairs, CollectsFully, Collects, Tries}
+use Rattle.heap_script.specs.Collecting.{IsCarriedOut}
 use Rattle.heap_script.proofs.Carrying.{never_faults, pairs_fault}
 use Rattle.heap_script.proofs.Lacking.{full_for}
 
 -- What became of the heap, by what was done for the command.
 pub data Stands (names : List (List ℕ)) (old now : Mutator) (graph : Graph) (command : Command) : Tried → Type 0 where
   once : now ≡ old → Stands names old now graph command Once
-  scavenged : (need : ℕ) → AsksForNone command → IsSound names graph command → LacksWords old graph command need
+  scavenged : (need : ℕ) → IsApart command → IsSound names graph command → LacksWords old graph command need
       → MakesRoom old now false need → HasRoom now.young need → KeepsGraphs old now
       → Stands names old now graph command Scavenged
-  collected : AsksForNone command → CollectsFully names old now graph command
+  collected : IsApart command → CollectsFully names old now graph command
       → Stands names old now graph command Collected
-  granted : (last : Mutator) (need : ℕ) → AsksForNone command → IsSound names graph command
+  granted : (last : Mutator) (need : ℕ) → IsApart command → IsSound names graph command
       → CollectsFully names old last graph command → LacksWords last graph command need → Serves last now need
       → HasRoom now.young need → KeepsGraphs last now → Stands names old now graph command Granted
 
@@ -59,9 +59,11 @@ ready_first names heap objects command = record {
   stands = λ graph shown made. Stands.once refl;
 }
 
--- a heap that shows a graph has the regions of one that shows one, with the same memory for an image
-pub same_regions : (heap after : HeapState) {graph other : Graph} → HeapShows heap graph → HeapShows after other
-    → after.rest ≡ heap.rest → after.main.seat.space ≡ heap.main.seat.space
+-- a heap that shows a graph has the regions of one that shows one, with the same memory for an image, whether a cycle
+-- was opened or ended or not
+pub same_regions : (heap after : HeapState) {graph other : Graph} {cycle : Bool} → HeapShows heap graph
+    → HeapShows after other → after.rest ≡ with_cycle heap.rest cycle
+    → after.main.seat.space ≡ heap.main.seat.space
 same_regions heap after shown shows rest =
     sym shows.regions ∙ ap (λ (s : Rest). s.image.regions) rest ∙ shown.regions
 
@@ -71,7 +73,7 @@ pub ready_space : {names : List (List ℕ)} {old now : HeapState} {objects : ℕ
     → (graph : Graph) × HeapShows old graph × (objects ≡ length graph.objects)
     → now.main.seat.space ≡ old.main.seat.space
 ready_space {old = old} {now} ready (graph, shown, made) =
-    same_regions old now shown (ready.shows graph shown) ready.rest
+    same_regions old now {cycle = old.rest.in_cycle} shown (ready.shows graph shown) ready.rest
 
 -- a full collection came last
 pub fully_collects : {names : List (List ℕ)} {old new : Mutator} {graph : Graph} {command : Command}
@@ -118,30 +120,24 @@ nowhere {main = main} {need = need} runs some collects out =
     runs (heap_of main) main.free need some leaves.apart leaves.dead out.runs
     (full_for main need collects.shows.tied out.ungranted out.lacks)
 
--- a command that asks for no collection is none that asks
-asks_for_none : {A : Type 0} {names : List (List ℕ)} {old new : Mutator} {graph : Graph} {command : Command}
-    {text : List ℕ} → AsksForNone command → CarriesAsked names old new graph command text → A
-asks_for_none none (CarriesAsked.scavenges is scavenges keeps carries) = absurd (none (inl is))
-asks_for_none none (CarriesAsked.collects asks collects carries) = absurd (none (inr asks))
+-- what a command finds of the heap, by what was done for it
+found_at : {names : List (List ℕ)} {old now : Mutator} {graph : Graph} {command : Command} {tried : Tried}
+    → Stands names old now graph command tried → Collects names old now graph command
+found_at (Stands.once same) = Collects.unchanged same
+found_at (Stands.scavenged need apart sound lacks makes room keeps) = Collects.scavenged need sound lacks makes
+found_at (Stands.collected apart fully) = Collects.collected fully
+found_at (Stands.granted last need apart sound fully lacks serves room keeps) =
+    Collects.granted last need fully lacks serves
 
 -- a command that was carried out at whichever try was carried out on what it found
 pub carried_at : {names : List (List ℕ)} {old new : Mutator} {now : HeapState} {graph : Graph} {command : Command}
     {text : List ℕ} {tried : Tried} → Stands names old now.main graph command tried → HeapShows now graph
     → Tries names now.main new graph command text (Ok tt) → IsCarriedOut names old new graph command text
-carried_at {names} {new = new} {graph = graph} {command} {text} (Stands.once same) shows (Tries.asked is asked) =
-    subst (λ main. IsCarriedOut names main new graph command text) same (IsCarriedOut.asked asked)
-carried_at {now = now} (Stands.once same) shows (Tries.unasked none carries asks) =
-    IsCarriedOut.unasked now.main none (Collects.unchanged same) shows.main asks carries
-carried_at (Stands.scavenged need apart sound lacks makes room keeps) shows (Tries.asked is asked) =
-    asks_for_none apart asked
-carried_at {now = now} (Stands.scavenged need apart sound lacks makes room keeps) shows
-    (Tries.unasked none carries asks) =
-    IsCarriedOut.unasked now.main none (Collects.scavenged need sound lacks makes) shows.main asks carries
-carried_at (Stands.collected apart fully) shows (Tries.asked is asked) = asks_for_none apart asked
-carried_at {now = now} (Stands.collected apart fully) shows (Tries.unasked none carries asks) =
-    IsCarriedOut.unasked now.main none (Collects.collected fully) shows.main asks carries
-carried_at (Stands.granted last need apart sound fully lacks serves room keeps) shows (Tries.asked is asked) =
-    asks_for_none apart asked
-carried_at {now = now} (Stands.granted last need apart sound fully lacks serves room keeps) shows
-    (Tries.unasked none carries asks) =
-    IsCarriedOut.unasked now.main none (Collects.granted last need fully lacks serves) shows.main asks carries
+carried_at {now = now} stands shows tries = record {
+  found = now.main;
+  apart = tries.apart;
+  collects = found_at stands;
+  shows = shows.main;
+  unfull = tries.asks;
+  carries = tries.carries;
+}

@@ -1,5 +1,5 @@
 -- What holds of a run between two of its lines, and how a line carries it on.
-use Rattle.std.proofs.Common.{◌≡◌, ℕ, suc, zero, ◌+◌, ◌<◌, true, List, [], ◌∷◌, ◌++◌, length, take, drop}
+use Rattle.std.proofs.Common.{◌≡◌, ℕ, suc, zero, ◌+◌, ◌<◌, Bool, true, false, List, [], ◌∷◌, ◌++◌, length, take, drop}
 use Rattle.std.proofs.Common.{Some}
 use Rattle.std.proofs.Common.{None, refl, sym, ap, subst, ◌∙◌, add-one, arith}
 use Rattle.std.specs.Prelude.{option_and_then, slice_get}
@@ -18,13 +18,15 @@ use Rattle.object_graph.specs.Limits.{ideal_limits}
 use Rattle.page_space.specs.Extents.{Space}
 use Rattle.nursery.specs.Young.{Young, in_eden}
 use Rattle.write_barrier.specs.MutatorState.{heap_of, MainShows, IsOpened}
-use Rattle.collector.specs.States.{HeapState, HeapShows}
-use Rattle.collector.proofs.Keeping.{still_shows}
+use Rattle.collector.specs.States.{HeapState, HeapShows, Rest, with_cycle}
+use Rattle.collector.proofs.Keeping.{still_shows, cycled_shows}
+use Rattle.heap_script.specs.Cycles.{cycle_after_command}
 use Rattle.heap_script.specs.Stages.{Collections, uncollected, stage_of}
 use Rattle.heap_script.specs.Reached.{left_after, RanTo}
 use Rattle.heap_script.specs.Spending.{Spends, LineAllocates}
 use Rattle.heap_script.specs.Progress.{objects_made, Handed}
 use Rattle.heap_script.specs.Between.{Running}
+use Rattle.heap_script.proofs.Asking.{cycle_next}
 use Rattle.heap_script.proofs.Counts.{length-does, makes_one}
 use Rattle.heap_script.proofs.Handing.{Handed-none, Handed-more, Handed-told}
 
@@ -66,9 +68,10 @@ next_at (first ∷ xs) (suc n) x rest e = next_at xs n x rest e
 
 -- a script begins
 pub Running-start : (script : ScriptText) (heap : HeapState) (old : List ℕ → Type 0) → IsPlaced 0 script.lines
-    → HeapShows heap start → IsOpened heap.main → heap.main.seat.space.variables ≡ length script.variables
+    → HeapShows heap start → IsOpened heap.main → heap.rest.in_cycle ≡ false
+    → heap.main.seat.space.variables ≡ length script.variables
     → Running script heap 0 [] old old 0 [] 0 uncollected
-Running-start script heap old placed shown opened variables =
+Running-start script heap old placed shown opened none variables =
     let reached : RanTo script (heap_of heap.main) 0 = record {
       within = omega arith;
       few = omega arith;
@@ -87,6 +90,7 @@ Running-start script heap old placed shown opened variables =
       handed = Handed-none old;
       made = refl;
       few = omega arith;
+      cycle = none;
     }
 
 -- what waits is handed on
@@ -103,6 +107,7 @@ Running-handed script heap objects waiting rest old mid new at ts n collections 
   handed = Handed-more r.handed h;
   made = r.made;
   few = r.few;
+  cycle = r.cycle;
 }
 
 -- one line more is told: what the run tells after it
@@ -153,7 +158,12 @@ Running-passed script heap objects waiting old new at at' ts ts' n number r belo
       handed = r.handed;
       made = r.made;
       few = omega (arith, r.few);
+      cycle = r.cycle ∙ sym (cycle_next script n line next.taken);
     }
+
+-- a heap with a cycle open or not
+abbrev cycled : HeapState → Bool → HeapState
+cycled heap cycle = record heap { rest = with_cycle heap.rest cycle }
 
 -- a command was carried out, did this with the heap, and left nothing granted
 pub Running-carried : (script : ScriptText) (heap after : HeapState) (objects : ℕ) (waiting : List ℕ)
@@ -161,9 +171,11 @@ pub Running-carried : (script : ScriptText) (heap after : HeapState) (objects : 
     (graph : Graph) {collections : Collections} → (r : Running script heap objects waiting old new at ts n collections)
     → n < lines_most
     → Goes script.lines at' ts' (left_after script n) (executed number (Some command))
-    → after.rest ≡ heap.rest → after.main.seat.space ≡ heap.main.seat.space
+    → after.rest ≡ with_cycle heap.rest (cycle_after_command heap.rest.in_cycle command)
+    → after.main.seat.space ≡ heap.main.seat.space
     → does ideal_limits script.fields r.reached.so_far.graph command ≡ done graph text → MainShows after.main graph
-    → LineAllocates (stage_of heap.main) (stage_of after.main) r.reached.so_far.graph graph collections (Some command)
+    → LineAllocates heap.rest.in_cycle (stage_of heap.main) (stage_of after.main) r.reached.so_far.graph graph collections
+    (Some command)
     → in_eden after.main.young ≡ true → length after.main.free ≡ length heap.main.free
     → Running script after (objects + objects_made command) (waiting ++ text) old new at' ts' (n + 1) uncollected
 Running-carried script heap after objects waiting old new at at' ts ts' n number command text graph {collections} r
@@ -171,6 +183,7 @@ Running-carried script heap after objects waiting old new at at' ts ts' n number
     let so_far = r.reached.so_far in
     let later : Told = record { graph = graph; bytes = so_far.bytes ++ text } in
     let line = executed number (Some command) in
+    let cycle = cycle_after_command heap.rest.in_cycle command in
     let next = next-drop (executed_lines script.lines) n line goes.rest goes.is in
     let reached : RanTo script (heap_of after.main) (n + 1) = record {
       within = omega (arith, next.within);
@@ -183,12 +196,17 @@ Running-carried script heap after objects waiting old new at at' ts ts' n number
     record {
       reached = reached;
       spends = Spends.one_more (stage_of heap.main) (stage_of after.main) n collections line r.spends
-          (next_at (executed_lines script.lines) n line goes.rest goes.is) r.reached reached uses;
+          (next_at (executed_lines script.lines) n line goes.rest goes.is) r.reached reached
+          (subst (λ in_cycle. LineAllocates in_cycle (stage_of heap.main) (stage_of after.main) so_far.graph graph
+          collections (Some command)) r.cycle uses);
       ungranted = ungranted;
-      shown = still_shows heap after graph r.shown rest space rows shown;
+      shown = still_shows (cycled heap cycle) after graph (cycled_shows heap cycle so_far.graph r.shown) rest space rows
+          shown;
       left = subst (IsLeft script.lines at' ts') (sym (dropped-next script n next)) goes.left;
       handed = Handed-told text r.handed;
       made = ap (λ m. m + objects_made command) r.made
           ∙ sym (length-does ideal_limits script.fields so_far.graph graph command text does-is);
       few = omega (arith, r.few, makes_one command);
+      cycle = ap (λ (one : Rest). one.in_cycle) rest ∙ ap (λ in_cycle. cycle_after_command in_cycle command) r.cycle
+          ∙ sym (cycle_next script n line next.taken);
     }

@@ -24,7 +24,7 @@ use Rattle.heap_script.specs.Spending.{UsesNeed, Allocates}
 use Rattle.heap_script.specs.Stages.{Collections, uncollected, SpendsWords, stage_of}
 use Rattle.heap_script.proofs.Lacking.{not_lacking, full_for}
 
--- What a command that asks for no collection finds of a heap in which nothing is granted, behind these collections
+-- What a command that is none of the collector's finds of a heap in which nothing is granted, behind these collections
 -- since the last line: the heap itself; or, where a collection came, and left eden empty and without the
 -- words that the command needs, the heap with so many words granted.
 pub data Served (old found : Mutator) (graph : Graph) (collections : Collections) (command : Command) : Type 0 where

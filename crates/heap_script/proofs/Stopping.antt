@@ -14,10 +14,10 @@ use Rattle.mutator.specs.declared.stop.Stop.TheVariants.{Fault, NoRoom, NoClear}
 use Rattle.mutator.specs.CarriesOut.{Carries, AsksWhereFull, field_numbers}
 use Rattle.heap_script.specs.declared.making_way.Tried.{Tried}
 use Rattle.heap_script.specs.declared.making_way.Tried.TheVariants.{Once, Scavenged, Collected, Granted}
-use Rattle.heap_script.specs.Collecting.{AsksForNone, IsSound, LacksWords, FindsPairs, CollectsFully, Tries, FaultsOn}
+use Rattle.heap_script.specs.Collecting.{IsApart, IsSound, LacksWords, FindsPairs, CollectsFully, Tries, FaultsOn}
 use Rattle.heap_script.specs.Collecting.{StopsAt}
 use Rattle.heap_script.specs.MakingWay.{IsServable, IsClearable, DoesNothing, FindsFirst, FindsLast, MakesWay}
-use Rattle.heap_script.proofs.Carrying.{wants_some, refused, stopped_there, same_stopped, never_faults, unfull_behind}
+use Rattle.heap_script.proofs.Carrying.{wants_some, refused, same_stopped, never_faults, unfull_behind}
 use Rattle.heap_script.proofs.Retrying.{Stands, IsReady, fully_collects, fully_faults, no_more}
 use Rattle.heap_script.proofs.Retrying.{pairs_are_full, nowhere}
 
@@ -43,7 +43,7 @@ nothing_done : {A : Type 0} {old new : HeapState} {next : Tried} → DoesNothing
 nothing_done (none, same) = absurd (cc)
 
 module _ (names : List (List ℕ)) (old now made : HeapState) (after : Mutator) (graph : Graph) (command : Command)
-    (text : List ℕ) (shown : HeapShows old graph) (shows : HeapShows now graph) (apart : AsksForNone command) where
+    (text : List ℕ) (shown : HeapShows old graph) (shows : HeapShows now graph) (apart : IsApart command) where
   -- at first a scavenge makes room for the words that a command lacks, or a full collection comes
   first_room : (need : ℕ) (next : Tried) → Carries names now.main after graph command text (Err (NoRoom need))
       → AsksWhereFull now.main graph command (Err (NoRoom need))
@@ -176,14 +176,14 @@ module _ (names : List (List ℕ)) {old now : HeapState} (after : HeapState) {ob
     (some : (graph : Graph) × HeapShows old graph × (objects ≡ length graph.objects))
     (carried : (graph : Graph) → HeapShows now graph → counted ≡ length graph.objects
     → (text : List ℕ) × Tries names now.main after.main graph command text (Err stop) × Rest) where
-  -- it asks for no collection, and stopped on the heap as it was, which it tells of a map that is full, and of no other
+  -- it is none of the collector's, and stopped on the heap as it was, which it tells of a map that is full, and of no
+  -- other
   stopped_on : (graph : Graph) → HeapShows old graph → objects ≡ length graph.objects
-      → (text : List ℕ) × AsksForNone command × Carries names now.main after.main graph command text (Err stop)
+      → (text : List ℕ) × IsApart command × Carries names now.main after.main graph command text (Err stop)
       × AsksWhereFull now.main graph command (Err stop)
   stopped_on graph shown made =
       let (text, tries, rest) = carried graph (ready.shows graph shown) (same ∙ made) in
-      let (apart, carries, asks) = stopped_there tries in
-      (text, apart, carries, asks)
+      (text, tries.apart, tries.carries, tries.asks)
 
   -- the heap is as it was at the try
   pub unchanged : after ≡ now

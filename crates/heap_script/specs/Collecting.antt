@@ -1,5 +1,5 @@
 -- When a command finds its heap collected.
-use Rattle.std.specs.Prelude.{◌≡◌, ℕ, false, List, Result, Ok, Err}
+use Rattle.std.specs.Prelude.{◌≡◌, ℕ, Bool, false, List, Result, Ok, Err}
 use Rattle.heap_model.specs.Types.{Command, FaultWord}
 use Rattle.heap_command.specs.declared.command.Command.TheVariants.{Scavenge}
 use Rattle.heap_command.specs.declared.command.FaultWord.TheVariants.{WeakFull}
@@ -18,11 +18,12 @@ use Rattle.collector.specs.Making.{IsOutOfRoom, Serves, MakesRoom}
 use Rattle.mutator.specs.declared.stop.Stop.{Stop}
 use Rattle.mutator.specs.declared.stop.Stop.TheVariants.{Fault, NoRoom, NoClear}
 use Rattle.mutator.specs.CarriesOut.{Carries, FindsMapNotFull, AsksWhereFull}
-use Rattle.heap_script.specs.Spending.{AsksForAll, AsksToCollect}
+use Rattle.heap_script.specs.Cycles.{asks_collector}
+use Rattle.heap_script.specs.Spending.{AsksForAll, CollectsNothing}
 
--- the command asks for no collection
-abbrev pub AsksForNone : Command → Type 0
-AsksForNone command = AsksToCollect command → ⊥
+-- the command is none of the collector's
+abbrev pub IsApart : Command → Type 0
+IsApart command = asks_collector command ≡ false
 
 -- The command is no fault.
 pub record IsSound (names : List (List ℕ)) (graph : Graph) (command : Command) : Type 0 where
@@ -42,21 +43,24 @@ abbrev pub FindsPairs : Heap → Graph → Command → ℕ → Type 0
 FindsPairs heap graph command entries =
     (rooms : ℕ → Room) → HasRooms heap graph rooms → FindsMapFull graph rooms command entries
 
--- A command that asks for a collection was carried out on what that left of the heap, and leaves that.
-pub data CarriesAsked (names : List (List ℕ)) (old new : Mutator) (graph : Graph) (command : Command) (text : List ℕ)
-    : Type 0 where
+-- A command of the collector's was carried out, where a cycle was open or not: it did with the heap what it asks for,
+-- and on what that left it leads to its graph.
+pub data CarriesAsked (names : List (List ℕ)) (in_cycle : Bool) (old new : Mutator) (graph : Graph) (command : Command)
+    (text : List ℕ) : Type 0 where
   scavenges : command ≡ Scavenge → Scavenges old new false → KeepsGraphs old new
-      → Carries names new new graph command text (Ok tt) → CarriesAsked names old new graph command text
-  collects : AsksForAll command → CollectsAll old new graph → Carries names new new graph command text (Ok tt)
-      → CarriesAsked names old new graph command text
+      → Carries names new new graph command text (Ok tt) → CarriesAsked names in_cycle old new graph command text
+  collects_all : AsksForAll in_cycle command → CollectsAll old new graph
+      → Carries names new new graph command text (Ok tt) → CarriesAsked names in_cycle old new graph command text
+  collects_nothing : CollectsNothing in_cycle command → new ≡ old
+      → Carries names new new graph command text (Ok tt) → CarriesAsked names in_cycle old new graph command text
 
--- The command was tried once. One that asks for a collection was carried out; any other was so on the heap as it was,
--- or stopped there, and it did not find its weak map full of pairs, unless it stopped for that.
-pub data Tries (names : List (List ℕ)) (old new : Mutator) (graph : Graph) (command : Command) (text : List ℕ)
+-- A command that is none of the collector's was tried once: it was carried out on the heap as it was, or stopped there,
+-- and it did not find its weak map full of pairs, unless it stopped for that.
+pub record Tries (names : List (List ℕ)) (old new : Mutator) (graph : Graph) (command : Command) (text : List ℕ)
     (result : Result (Unit {0}) Stop) : Type 0 where
-  asked : result ≡ Ok tt → CarriesAsked names old new graph command text → Tries names old new graph command text result
-  unasked : AsksForNone command → Carries names old new graph command text result
-      → AsksWhereFull old graph command result → Tries names old new graph command text result
+  pub apart : IsApart command
+  pub carries : Carries names old new graph command text result
+  pub asks : AsksWhereFull old graph command result
 
 -- A full collection came for a command. Either it lacked words, and a scavenge made no room for them. Or it found its
 -- weak map full of pairs, on the heap as it was.
@@ -67,9 +71,9 @@ pub data CollectsFully (names : List (List ℕ)) (old new : Mutator) (graph : Gr
   for_pairs : (entries : ℕ) → FindsPairs (heap_of old) graph command entries → CollectsAll old new graph
       → CollectsFully names old new graph command
 
--- What a command that asks for no collection finds of a heap on which it is carried out: the heap as it was; or what
--- a scavenge left of it, for the words that the command lacked, which have room there; or what a full collection left,
--- with room for the words that the command lacked there, if it lacked some.
+-- What a command that is none of the collector's finds of a heap on which it is carried out: the heap as it was; or
+-- what a scavenge left of it, for the words that the command lacked, which have room there; or what a full collection
+-- left, with room for the words that the command lacked there, if it lacked some.
 pub data Collects (names : List (List ℕ)) (old mid : Mutator) (graph : Graph) (command : Command) : Type 0 where
   unchanged : mid ≡ old → Collects names old mid graph command
   scavenged : (need : ℕ) → IsSound names graph command → LacksWords old graph command need
@@ -78,14 +82,16 @@ pub data Collects (names : List (List ℕ)) (old mid : Mutator) (graph : Graph) 
   granted : (last : Mutator) (need : ℕ) → CollectsFully names old last graph command
       → LacksWords last graph command need → Serves last mid need → Collects names old mid graph command
 
--- The command was carried out: one that asks for a collection on what that left, and any other on what it found, where
--- its weak map is not full of pairs.
-pub data IsCarriedOut (names : List (List ℕ)) (old new : Mutator) (graph : Graph) (command : Command) (text : List ℕ)
+-- A command that is none of the collector's was carried out on what it found of the heap, where its weak map is not
+-- full of pairs.
+pub record IsCarriedOut (names : List (List ℕ)) (old new : Mutator) (graph : Graph) (command : Command) (text : List ℕ)
     : Type 0 where
-  asked : CarriesAsked names old new graph command text → IsCarriedOut names old new graph command text
-  unasked : (mid : Mutator) → AsksForNone command → Collects names old mid graph command → MainShows mid graph
-      → FindsMapNotFull mid graph command → Carries names mid new graph command text (Ok tt)
-      → IsCarriedOut names old new graph command text
+  pub found : Mutator
+  pub apart : IsApart command
+  pub collects : Collects names old found graph command
+  pub shows : MainShows found graph
+  pub unfull : FindsMapNotFull found graph command
+  pub carries : Carries names found new graph command text (Ok tt)
 
 -- Behind a full collection there is no room for the words that the command needs: they fit nowhere.
 pub record HasNoPlace (main : Mutator) (graph : Graph) (command : Command) (need : ℕ) : Type 0 where
@@ -109,8 +115,17 @@ StopsAt names old new graph command (NoRoom need) =
 StopsAt names old new graph command (NoClear entries) =
     (does ideal_limits names graph command ≡ fault WeakFull) × CollectsFully names old new graph command
 
--- the command was carried out at last, or stopped for good
+-- a command that is none of the collector's was carried out at last, or stopped for good
 abbrev pub CarriesAtLast : List (List ℕ) → Mutator → Mutator → Graph → Command → List ℕ
     → Result (Unit {0}) Stop → Type 0
 CarriesAtLast names old new graph command text (Ok _) = IsCarriedOut names old new graph command text
 CarriesAtLast names old new graph command text (Err stop) = StopsAt names old new graph command stop
+
+-- A command was carried out at last, or stopped for good, where a cycle was open or not. Those of the collector never
+-- stop.
+pub data CarriesCommand (names : List (List ℕ)) (in_cycle : Bool) (old new : Mutator) (graph : Graph)
+    (command : Command) (text : List ℕ) (result : Result (Unit {0}) Stop) : Type 0 where
+  asked : result ≡ Ok tt → CarriesAsked names in_cycle old new graph command text
+      → CarriesCommand names in_cycle old new graph command text result
+  apart : IsApart command → CarriesAtLast names old new graph command text result
+      → CarriesCommand names in_cycle old new graph command text result

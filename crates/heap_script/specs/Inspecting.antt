@@ -23,7 +23,8 @@ IsFor heap Nothing = Unit {0}
 IsFor heap ByCensus = Unit {0}
 IsFor heap (Checks words) = words ≡ marks_start heap.main.seat.space
 
--- The heap, which shows a graph, was fully collected and shows it still, and these are the counts of what can be reached.
+-- The heap, which shows a graph, was fully collected and shows it still, and these are the counts of what can be
+-- reached.
 pub record EndsCounted (old new : HeapState) (graph : Graph) (how : How) : Type 0 where
   pub collects : CollectsAll old.main new.main graph
   pub shows : HeapShows new graph

@@ -1,3 +1,4 @@
+pub mod Cycles
 pub mod Stages
 pub mod Reached
 pub mod Spending

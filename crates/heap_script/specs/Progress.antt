@@ -17,7 +17,7 @@ use Rattle.byte_ends.specs.Sink.{Appends}
 use Rattle.heap_script.specs.declared.finished.How.{How}
 use Rattle.heap_script.specs.declared.finished.How.TheVariants.{Fault, HeapFull, SinkFault}
 use Rattle.heap_script.specs.declared.finished.Finished.{Finished}
-use Rattle.heap_script.specs.Collecting.{CarriesAtLast}
+use Rattle.heap_script.specs.Collecting.{CarriesCommand}
 use Rattle.heap_script.specs.Stages.{Stage, Collections, uncollected, stage_of}
 use Rattle.heap_script.specs.Reached.{RanTo}
 use Rattle.heap_script.specs.Spending.{Spends}
@@ -42,10 +42,11 @@ made_by (Some command) = objects_made command
 
 -- a line that runs a command does with the heap what the command does, once way is made for it if need be, and one that
 -- runs none does nothing
-abbrev pub CarriesLine : List (List ℕ) → Mutator → Mutator → Graph → Option Command → List ℕ
+abbrev pub CarriesLine : List (List ℕ) → Bool → Mutator → Mutator → Graph → Option Command → List ℕ
     → Result (Unit {0}) Stop → Type 0
-CarriesLine names old new graph None text result = (new ≡ old) × (text ≡ []) × (result ≡ Ok tt)
-CarriesLine names old new graph (Some command) text result = CarriesAtLast names old new graph command text result
+CarriesLine names in_cycle old new graph None text result = (new ≡ old) × (text ≡ []) × (result ≡ Ok tt)
+CarriesLine names in_cycle old new graph (Some command) text result =
+    CarriesCommand names in_cycle old new graph command text result
 
 -- what became of a line, whatever the place where the run goes on: it was executed, or this stopped it
 abbrev pub outcome_of : Result ℕ Stop → Result (Unit {0}) Stop
@@ -76,7 +77,7 @@ Halts counted script stage collections waiting finished so_far old new faults_ol
     EndsRun counted script stage.heap stage.rows collections finished.executed so_far came finished.line
     × Handed old new waiting so_far.bytes × (faults_new ≡ faults_old)
 
--- The run before its last bytes are handed on, which is checked or not: how far it came, which collections came since
+-- The run before its last bytes are handed on, which is to count its heap or not: how far it came, which collections came since
 -- the last line, what it spent, what the heap shows, and how it halted.
 pub record Pauses (counted : Bool) (script : ScriptText) (heap : HeapState) (waiting : List ℕ) (finished : Finished)
     (old new : List ℕ → Type 0) (faults_old faults_new : ℕ) : Type 0 where

@@ -1,6 +1,6 @@
 -- How the run of a script on a heap ends, and what its sink takes.
 use Rattle.std.specs.Prelude.{◌≡◌, ◌⊎◌, ℕ, ◌+◌, ◌<◌, ◌≤◌, List, ◌∷◌}
-use Rattle.std.specs.Prelude.{[], ◌++◌, length, take, All, Option, Some, None, Bool, true, false, IsTrue, nat_lt}
+use Rattle.std.specs.Prelude.{[], ◌++◌, length, take, Option, Some, None, Bool, true, false, IsTrue, nat_lt}
 use Rattle.std.specs.Prelude.{if◌then◌else◌}
 use Rattle.heap_model.specs.Types.{Command, FaultWord, Run}
 use Rattle.heap_command.specs.Executed.{Executed}
@@ -10,9 +10,6 @@ use Rattle.object_graph.specs.Limits.{ideal_limits}
 use Rattle.object_graph.specs.Reach.{reached_objects, reached_entries}
 use Rattle.object_graph.specs.Run.{Told, told, lines_most, end, fault_at, limit_at, ending}
 use Rattle.script_text.specs.Scripts.{ScriptText}
-use Rattle.script_text.specs.Table.{unbuilt_keywords}
-use Rattle.script_text.specs.declared.script.Line.{Line}
-use Rattle.script_text.specs.Sound.{IsBuilt}
 use Rattle.script_text.specs.Unrolled.{executed_lines}
 use Rattle.heap_model.specs.Heaps.{Heap}
 use Rattle.heap_model.specs.Needs.{lacks_room}
@@ -32,10 +29,6 @@ use Rattle.heap_script.specs.declared.finished.Finished.{Finished}
 use Rattle.heap_script.specs.Stages.{Collections, uncollected, fully_collected, finally_collected}
 use Rattle.heap_script.specs.Reached.{left_after, RanTo, EndsAs}
 use Rattle.heap_script.specs.Spending.{HasSpent}
-
--- each line is one that is built
-abbrev pub AreBuilt : List Line → Type 0
-AreBuilt lines = All (λ line. IsBuilt unbuilt_keywords line.what) lines
 
 -- The heap, which shows a graph and whose pages have these free runs, is full for so many words: it keeps exactly what
 -- can be reached, and they fit nowhere beside that. Eden is empty, each young cell is reached from a variable or a slot
@@ -82,9 +75,9 @@ abbrev pub HasCounts : Graph → Counts → Type 0
 HasCounts graph counts = (counts.objects ≡ reached_objects graph) × (counts.entries ≡ reached_entries graph)
 
 -- After so many lines the run comes to an end, in this way and at this line, on a heap whose pages have these free
--- runs, behind these collections since the last line: none, but where it, or a weak map, is full. A run that is to count
--- its heap comes to the end of its script behind one full collection more, with the counts of what can be reached. No
--- flaw is found, and a sink that fails is no end of a script.
+-- runs, behind these collections since the last line: none, but where it, or a weak map, is full. A run that is to
+-- count its heap comes to the end of its script behind one full collection more, with the counts of what can be
+-- reached. No flaw is found, and a sink that fails is no end of a script.
 abbrev pub EndsRun : Bool → ScriptText → Heap → List (List Run) → Collections → ℕ → Told → How → ℕ → Type 0
 EndsRun counted script heap rows collections executed so_far how.End line =
     (counted ≡ false) × (line ≡ 0) × (collections ≡ uncollected) × EndsAs script executed so_far end
@@ -166,8 +159,8 @@ Writes counted script heap rows collections finished so_far old new faults_old f
     EndsRun counted script heap rows collections finished.executed so_far came finished.line
     × Appends old new so_far.bytes × (faults_new ≡ faults_old)
 
--- The run of a script, which is checked or not: how far it came, what it spent, how it ended, and what the sink took,
--- which may have taken these bytes before and after, with so many faults.
+-- The run of a script, which is to count its heap or not: how far it came, what it spent, how it ended, and what the
+-- sink took, which may have taken these bytes before and after, with so many faults.
 pub record Finishes (counted : Bool) (script : ScriptText) (heap : Heap) (finished : Finished)
     (old new : List ℕ → Type 0) (faults_old faults_new : ℕ) : Type 0 where
   pub reached : RanTo script heap finished.executed

@@ -1,9 +1,9 @@
 -- What the executed lines of a script spend of a heap, and how it is collected between them.
 use Rattle.std.specs.Prelude.{◌≡◌, ◌⊎◌, ◌↔◌, ℕ, ◌+◌, ◌<◌, ◌≤◌}
-use Rattle.std.specs.Prelude.{Option, Some, None, IsTrue, false, slice_get}
+use Rattle.std.specs.Prelude.{Bool, Option, Some, None, IsTrue, true, false, slice_get}
 use Rattle.heap_model.specs.Types.{Command}
 use Rattle.heap_command.specs.Executed.{Executed}
-use Rattle.heap_command.specs.declared.command.Command.TheVariants.{Scavenge, Gc, Census}
+use Rattle.heap_command.specs.declared.command.Command.TheVariants.{Scavenge, Mark, Finish, Gc, Census}
 use Rattle.object_graph.specs.Graphs.{Graph}
 use Rattle.object_graph.specs.Limits.{ideal_limits}
 use Rattle.object_graph.specs.Run.{Told, lines_most, ending, end}
@@ -20,6 +20,7 @@ use Rattle.live_cells.specs.Exact.{Exact}
 use Rattle.exact_heaps.specs.Collected.{LeavesExact}
 use Rattle.scavenger.specs.Laws.{KeepsPlaces, TakesWords, PromotesWhatFits, PromotesNoOther}
 use Rattle.mutator.specs.Capacities.{KeepsStores}
+use Rattle.heap_script.specs.Cycles.{asks_collector, is_in_cycle}
 use Rattle.heap_script.specs.Stages.{Stage, Collections, uncollected, scavenged, fully_collected, finally_collected}
 use Rattle.heap_script.specs.Stages.{SpendsWords}
 use Rattle.heap_script.specs.Reached.{left_after, RanTo, EndsAs}
@@ -72,26 +73,29 @@ pub record IsCollected (old new : Stage) (graph : Graph) : Type 0 where
 abbrev pub IsFullyCollected : Stage → Stage → Graph → Type 0
 IsFullyCollected old new graph = LeavesExact old.heap new.heap new.rows graph
 
--- the command asks for a full collection: `gc`, or `census`, which counts what is left
-abbrev pub AsksForAll : Command → Type 0
-AsksForAll command = (command ≡ Gc) ⊎ (command ≡ Census)
+-- the command asks for a full collection: `gc`, `census`, which counts what is left, or `finish` where a cycle is open
+abbrev pub AsksForAll : Bool → Command → Type 0
+AsksForAll in_cycle command = (command ≡ Gc) ⊎ (command ≡ Census) ⊎ ((command ≡ Finish) × (in_cycle ≡ true))
 
--- the command asks for a collection
-abbrev pub AsksToCollect : Command → Type 0
-AsksToCollect command = (command ≡ Scavenge) ⊎ AsksForAll command
+-- the command is one of the collector's that collects nothing: `mark`, or `finish` where no cycle is open
+abbrev pub CollectsNothing : Bool → Command → Type 0
+CollectsNothing in_cycle command = (command ≡ Mark) ⊎ ((command ≡ Finish) × (in_cycle ≡ false))
 
--- What a line does with the heap, before which these collections came since the last line: one that runs no command
--- leaves it as it is, `scavenge` collects and promotes survivors alone, `gc` and `census` collect fully, and any other
--- command allocates.
-pub data LineAllocates (old new : Stage) (graph after : Graph) (collections : Collections)
+-- What a line does with the heap, where a cycle is open before it or not, and these collections came since the last
+-- line. One that runs no command leaves it as it is. `scavenge` collects, and promotes survivors alone. `gc` and
+-- `census` collect fully, and so does `finish` where a cycle is open. `mark`, and `finish` where none is open, leave it
+-- as it is. Any other command allocates.
+pub data LineAllocates (in_cycle : Bool) (old new : Stage) (graph after : Graph) (collections : Collections)
     : Option Command → Type 0 where
-  passes : new ≡ old → LineAllocates old new graph after collections None
-  collects : IsCollected old new graph → LineAllocates old new graph after collections (Some Scavenge)
-  collects_all : (command : Command) → AsksForAll command → IsFullyCollected old new graph
-      → LineAllocates old new graph after collections (Some command)
-  allocates : (command : Command) → (AsksToCollect command → ⊥)
+  passes : new ≡ old → LineAllocates in_cycle old new graph after collections None
+  scavenges : IsCollected old new graph → LineAllocates in_cycle old new graph after collections (Some Scavenge)
+  collects_all : (command : Command) → AsksForAll in_cycle command → IsFullyCollected old new graph
+      → LineAllocates in_cycle old new graph after collections (Some command)
+  collects_nothing : (command : Command) → CollectsNothing in_cycle command → new ≡ old
+      → LineAllocates in_cycle old new graph after collections (Some command)
+  allocates : (command : Command) → asks_collector command ≡ false
       → Allocates old new graph after collections command
-      → LineAllocates old new graph after collections (Some command)
+      → LineAllocates in_cycle old new graph after collections (Some command)
 
 -- the heap lacks room for the words that the command of a line needs, whatever rooms objects have in it
 abbrev pub LacksWordsFor : Heap → Graph → Option Command → Type 0
@@ -132,7 +136,8 @@ pub record WantsClearing (script : ScriptText) (heap : Heap) (executed : ℕ) (s
 -- heap is scavenged once where its eden lacks room for the words that the next line needs, and then survivors alone are
 -- promoted; and where eden lacks room for them still, and no free run has them, a full collection comes. It comes too,
 -- and alone, where the next line finds its weak map full of pairs, since some of them may be such as it clears. Nothing
--- comes behind it. A script that is checked may be followed, at its end alone, by one full collection more.
+-- comes behind it. A run that is to count its heap may be followed, at the script's end alone, by one full collection
+-- more.
 pub data Spends (script : ScriptText) : Stage → ℕ → Collections → Type 0 where
   none : (stage : Stage) → stage.heap.used ≡ 0 → stage.heap.survivors ≡ 0
       → stage.rows ≡ whole_rows stage.heap.space.sizes.pages → RanTo script stage.heap 0
@@ -141,7 +146,8 @@ pub data Spends (script : ScriptText) : Stage → ℕ → Collections → Type 0
       → Spends script old executed collections
       → slice_get (executed_lines script.lines) executed ≡ Some line
       → (before : RanTo script old.heap executed) (after : RanTo script new.heap (executed + 1))
-      → LineAllocates old new before.so_far.graph after.so_far.graph collections line.command
+      → LineAllocates (is_in_cycle script executed) old new before.so_far.graph after.so_far.graph collections
+      line.command
       → Spends script new (executed + 1) uncollected
   once : (old new : Stage) (executed : ℕ) → Spends script old executed uncollected
       → (before : RanTo script old.heap executed) → WantsRoom script old.heap executed before.so_far
@@ -162,8 +168,8 @@ pub data Spends (script : ScriptText) : Stage → ℕ → Collections → Type 0
 
 -- The heap has the regions of the one to which the lines led that spent words, behind the collections that came since
 -- the last of them; and as many words are used and have survived. Each object stands where it stands there, with a
--- store of as many slots. The rooms that the objects of the graph after the lines have there are their rooms in the heap
--- too. Its pages have the free runs of that one. It keeps exactly what can be reached, if that one does.
+-- store of as many slots. The rooms that the objects of the graph after the lines have there are their rooms in the
+-- heap too. Its pages have the free runs of that one. It keeps exactly what can be reached, if that one does.
 pub record HasSpent (script : ScriptText) (heap : Heap) (executed : ℕ) : Type 0 where
   pub last : Stage
   pub collections : Collections

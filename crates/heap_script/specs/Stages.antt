@@ -16,7 +16,7 @@ abbrev pub stage_of : Mutator → Stage
 stage_of main = record { heap = heap_of main; rows = main.free }
 
 -- Which collections of the heap came since the last line: none; a scavenge; a full collection, by itself or behind a
--- scavenge; or the one with which a script that is checked ends.
+-- scavenge; or the one with which a run ends that counts its heap.
 pub data Collections : Type 0 where
   uncollected : Collections
   scavenged : Collections

@@ -1,27 +1,22 @@
-//! One command of a script on the heap. What is done where it stops stands in `making_way`, and which line comes next
-//! in `interpreter` and `loop_counters`.
+//! One command of a script on the heap. Those of the collector stand in `collecting`, what is done where a command
+//! stops in `making_way`, and which line comes next in `interpreter` and `loop_counters`.
 ghost use Rattle.std.specs.Prelude.{◌≡◌, ◌+◌, ◌<◌, ◌≤◌, ◌^◌};
 ghost use Rattle.std.specs.Prelude.{ℕ, List, ◌++◌, length, if◌then◌else◌};
 ghost use Rattle.std.specs.Prelude.{false, is_ok, OnOk, OnErr, IfOk};
 ghost use Rattle.object_graph.specs.Graphs.{Graph};
-ghost use Rattle.object_graph.specs.Reach.{reached_objects, reached_entries};
 ghost use Rattle.object_graph.specs.Run.{lines_most};
-ghost use Rattle.object_graph.specs.Texts.{line, census_text};
 ghost use Rattle.heap_command.specs.Commands.{IsWithin};
-ghost use Rattle.script_text.specs.declared.script.What.TheVariants.{Run};
 ghost use Rattle.script_text.specs.Limits.{open_most};
-ghost use Rattle.script_text.specs.Table.{unbuilt_keywords};
-ghost use Rattle.script_text.specs.Sound.{IsBuilt, NamesWithin, AreShort};
-ghost use Rattle.scavenger.specs.Scavenged.{Scavenges};
-ghost use Rattle.scavenger.specs.Laws.{KeepsGraphs};
+ghost use Rattle.script_text.specs.Sound.{NamesWithin, AreShort};
 ghost use Rattle.mutator.specs.CarriesOut.{field_numbers};
-ghost use Rattle.exact_heaps.specs.Collected.{CollectsAll};
-ghost use Rattle.collector.specs.States.{HeapShows};
+ghost use Rattle.collector.specs.States.{HeapShows, with_cycle};
 ghost use Rattle.heap_script.specs.Collecting.{Tries, CarriesAtLast};
+ghost use Rattle.heap_script.specs.Cycles.{asks_collector, cycle_after_line};
 ghost use Rattle.heap_script.specs.Progress.{objects_made, made_by, command_in};
 ghost use Rattle.heap_script.specs.Progress.{CarriesLine, outcome_of};
 ghost use Rattle.heap_script.specs.LoopCounters.{standing_after};
 
+use crate::collecting::{asks_collector, collect_as_asked};
 use crate::loop_counters::LoopCounters;
 use crate::making_way::{Tried, make_way};
 use collector::Heap;
@@ -41,7 +36,6 @@ pub(crate) fn execute_line(
     what: &What,
     out: &mut Output,
 ) -> Result<usize, Stop>
-    requires built { IsBuilt unbuilt_keywords what.now }
     requires shown { (graph : Graph) × HeapShows heap.old graph × (objects.old ≡ length graph.objects) }
     requires within { NamesWithin heap.old.main.seat.space.variables field_numbers what.now }
     requires few { objects.old < lines_most }
@@ -51,26 +45,31 @@ pub(crate) fn execute_line(
     requires deep { length (standing_after at turns.old what.now).turns ≤ open_most }
     ensures carried { (graph : Graph) → HeapShows heap.old graph →
         objects.old ≡ length graph.objects → (text : List ℕ)
-        × CarriesLine script.now.fields heap.old.main heap.new.main graph (command_in what.now) text
-        (outcome_of result)
+        × CarriesLine script.now.fields heap.old.rest.in_cycle heap.old.main heap.new.main graph (command_in what.now)
+        text (outcome_of result)
         × (out.new ≡ (if is_ok result then out.old ++ text else out.old)) }
     ensures place { IfOk result (λ place. place ≡ (standing_after at turns.old what.now).at) }
     ensures turned { OnOk result (turns.new ≡ (standing_after at turns.old what.now).turns) }
     ensures unturned { OnErr result (turns.new ≡ turns.old) }
-    ensures rest { heap.new.rest ≡ heap.old.rest }
+    ensures rest { heap.new.rest ≡
+        with_cycle heap.old.rest (cycle_after_line heap.old.rest.in_cycle (command_in what.now)) }
     ensures counted { OnOk result (objects.new ≡ objects.old + made_by (command_in what.now)) }
 {
     match what {
         What::Run(command) => {
-            carry_out(heap, script, objects, command, out)?;
+            if asks_collector(command) {
+                collect_as_asked(heap, command, out);
+            } else {
+                carry_out(heap, script, objects, command, out)?;
+            }
             Ok(at + 1)
         }
         What::Repeat { .. } | What::End { .. } => Ok(turns.next(at, what)),
     }
 }
 
-/// Carries a command out. Where it stops for want of room, or since its weak map is full of pairs, way is made for it,
-/// and then it is tried again.
+/// Carries a command out that is none of the collector's. Where it stops for want of room, or since its weak map is
+/// full of pairs, way is made for it, and then it is tried again.
 #[inline(always)]
 fn carry_out(
     heap: &mut Heap,
@@ -79,7 +78,7 @@ fn carry_out(
     command: &Command,
     out: &mut Output,
 ) -> Result<(), Stop>
-    requires built { IsBuilt unbuilt_keywords (Run command.now) }
+    requires apart { asks_collector command.now ≡ false }
     requires shown { (graph : Graph) × HeapShows heap.old graph × (objects.old ≡ length graph.objects) }
     requires within { IsWithin heap.old.main.seat.space.variables field_numbers command.now }
     requires few { objects.old < lines_most }
@@ -110,47 +109,8 @@ fn carry_out(
     }
 }
 
-/// Scavenges the heap, as the command asks.
-#[cold]
-#[inline(never)]
-fn scavenge(heap: &mut Heap)
-    requires shown { (graph : Graph) × HeapShows heap.old graph }
-    ensures scavenged { Scavenges heap.old.main heap.new.main false }
-    ensures rooms { KeepsGraphs heap.old.main heap.new.main }
-    ensures rest { heap.new.rest ≡ heap.old.rest }
-{
-    heap.scavenge();
-}
-
-/// Collects the heap fully, as the command asks.
-#[cold]
-#[inline(never)]
-fn collect_all(heap: &mut Heap)
-    requires shown { (graph : Graph) × HeapShows heap.old graph }
-    ensures collected { (graph : Graph) → HeapShows heap.old graph →
-        CollectsAll heap.old.main heap.new.main graph }
-    ensures rest { heap.new.rest ≡ heap.old.rest }
-{
-    heap.collect_all();
-}
-
-/// Collects the heap fully, and tells how many objects and entries of weak maps are left.
-#[cold]
-#[inline(never)]
-fn tell_census(heap: &mut Heap, out: &mut Output)
-    requires shown { (graph : Graph) × HeapShows heap.old graph }
-    requires room { length out.old + ROOM ≤ OUTPUT_BYTES }
-    ensures collected { (graph : Graph) → HeapShows heap.old graph →
-        CollectsAll heap.old.main heap.new.main graph }
-    ensures told { (graph : Graph) → HeapShows heap.old graph →
-        out.new ≡ out.old ++ line (census_text (reached_objects graph) (reached_entries graph)) }
-    ensures rest { heap.new.rest ≡ heap.old.rest }
-{
-    let census = heap.census();
-    mutator::put_census(census.objects, census.entries, out);
-}
-
-/// Carries a command out, if there is room for it. `objects` counts the objects that were made.
+/// Carries a command out that is none of the collector's, if there is room for it. `objects` counts the objects that
+/// were made.
 #[inline(always)]
 fn execute(
     heap: &mut Heap,
@@ -159,7 +119,7 @@ fn execute(
     command: &Command,
     out: &mut Output,
 ) -> Result<(), Stop>
-    requires built { IsBuilt unbuilt_keywords (Run command.now) }
+    requires apart { asks_collector command.now ≡ false }
     requires shown { (graph : Graph) × HeapShows heap.old graph × (objects.old ≡ length graph.objects) }
     requires within { IsWithin heap.old.main.seat.space.variables field_numbers command.now }
     requires few { objects.old < lines_most }
@@ -198,18 +158,6 @@ fn execute(
         Command::Same { a, b } => mutator::same(heap.main_mut(), *a, *b, out),
         Command::Alike { x, y } => mutator::alike(heap.main_mut(), *x, *y, out),
         Command::Shape { x } => mutator::shape(heap.main_mut(), script, *x, out),
-        Command::Scavenge => {
-            scavenge(heap);
-            Ok(())
-        }
-        Command::Gc => {
-            collect_all(heap);
-            Ok(())
-        }
-        Command::Census => {
-            tell_census(heap, out);
-            Ok(())
-        }
         _ => unreachable!(),
     }
 }

@@ -1,5 +1,5 @@
-//! Inspecting the heap of a run: behind its full collections, and at its end. No flaw is ever found where the program is
-//! built as it is proved; so these judgements are of the build, and of the machine.
+//! Inspecting the heap of a run: behind its full collections, and at its end. No flaw is ever found where the program
+//! is built as it is proved; so these judgements are of the build, and of the machine.
 ghost use Rattle.std.specs.Prelude.{◌≡◌, IfOk, OnErr, None};
 ghost use Rattle.object_graph.specs.Graphs.{Graph};
 ghost use Rattle.page_space.specs.Extents.{marks_start};
@@ -86,6 +86,7 @@ pub(crate) fn flaw_behind(heap: &mut Heap, inspection: &mut Inspection) -> Optio
     requires for_heap { IsFor heap.old inspection.old }
     ensures none { result ≡ None }
     ensures main { heap.new.main ≡ heap.old.main }
+    ensures cycle { heap.new.rest.in_cycle ≡ heap.old.rest.in_cycle }
     ensures shows { (graph : Graph) → HeapShows heap.old graph → HeapShows heap.new graph }
     ensures same { inspection.new ≡ inspection.old }
 {
@@ -106,6 +107,7 @@ fn judge(heap: &mut Heap, checker: &mut Checker) -> Result<Counts, Flaw>
     ensures counted { (graph : Graph) → HeapShows heap.old graph → Exact (heap_of heap.old.main) graph
         → IfOk result (HasCounts graph) }
     ensures main { heap.new.main ≡ heap.old.main }
+    ensures cycle { heap.new.rest.in_cycle ≡ heap.old.rest.in_cycle }
     ensures shows { (graph : Graph) → HeapShows heap.old graph → HeapShows heap.new graph }
     ensures same { checker.new ≡ checker.old }
 {

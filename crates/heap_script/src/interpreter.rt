@@ -6,7 +6,7 @@ ghost use Rattle.write_barrier.specs.MutatorState.{heap_of, IsOpened};
 ghost use Rattle.collector.specs.States.{HeapShows};
 ghost use Rattle.byte_ends.specs.Faults.{Rose};
 ghost use Rattle.script_text.specs.Sound.{AreShort};
-ghost use Rattle.heap_script.specs.Runs.{AreBuilt, Finishes, CutsOff, FillsOutput, waiting_of, IsCut};
+ghost use Rattle.heap_script.specs.Runs.{Finishes, CutsOff, FillsOutput, waiting_of, IsCut};
 ghost use Rattle.heap_script.specs.Inspecting.{counts_at_end, IsFor};
 ghost use Rattle.heap_script.specs.Progress.{Handed, Pauses, how_of};
 
@@ -44,8 +44,8 @@ pub fn run_script<K: Sink, G: Gate, R: Threads + Sync>(
 ) -> Finished
     requires shown { HeapShows heap.old start }
     requires opened { IsOpened heap.old.main }
+    requires closed { heap.old.rest.in_cycle ≡ false }
     requires variables { heap.old.main.seat.space.variables ≡ length script.now.variables }
-    requires built { AreBuilt script.now.lines }
     requires empty { out.old ≡ [] }
     requires for_heap { IsFor heap.old inspection.old }
     ensures finishes { Finishes (counts_at_end inspection.old) script.now (heap_of heap.new.main) result
@@ -84,11 +84,11 @@ fn run_lines<K: Sink>(
 ) -> Finished
     requires shown { HeapShows heap.old start }
     requires opened { IsOpened heap.old.main }
+    requires closed { heap.old.rest.in_cycle ≡ false }
     requires variables { heap.old.main.seat.space.variables ≡ length script.now.variables }
     requires for_heap { IsFor heap.old inspection.old }
     requires fields { length script.now.fields ≤ field_numbers }
     requires short { AreShort script.now.fields }
-    requires built { AreBuilt script.now.lines }
     requires empty { out.old ≡ [] }
     ensures pauses { Pauses false script.now heap.new out.new result
         (K.HasTaken sink.old) (K.HasTaken sink.new) (K.faults sink.old) (K.faults sink.new) }
@@ -131,7 +131,8 @@ fn run_lines<K: Sink>(
     Finished::after(How::End, 0, executed)
 }
 
-/// How a run ends at a line whose command was not carried out. If that came behind a full collection, the heap is judged.
+/// How a run ends at a line whose command was not carried out. If that came behind a full collection, the heap is
+/// judged.
 fn stopped(stop: Stop, heap: &mut Heap, inspection: &mut Inspection) -> How
     requires shown { (graph : Graph) × HeapShows heap.old graph }
     requires for_heap { IsFor heap.old inspection.old }

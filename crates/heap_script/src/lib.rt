@@ -10,6 +10,7 @@
 //! word of a page is granted.
 #![tactic(auto)]
 
+mod collecting;
 mod execute;
 mod finished;
 mod flushing;

@@ -1,16 +1,17 @@
-//! Lines that are executed ahead of the next one that collects the heap, writes or does not come through: the short path
-//! of a run. What stops here changes nothing, and is executed by `execute`, which knows why.
+//! Lines that are executed ahead of the next one that collects the heap, writes or does not come through: the short
+//! path of a run. What stops here changes nothing, and is executed by `execute`, which knows why.
 ghost use Rattle.std.specs.Prelude.{◌≡◌, ◌+◌, ◌<◌, ◌≤◌, ◌^◌, ℕ, List, [], length, false, is_ok};
 ghost use Rattle.std.specs.Prelude.{Ok, IsTrue, IsNone, IfSome, OnSome};
 ghost use Rattle.object_graph.specs.Graphs.{Graph};
 ghost use Rattle.object_graph.specs.Run.{lines_most};
 ghost use Rattle.heap_command.specs.Commands.{IsWithin};
 ghost use Rattle.mutator.specs.CarriesOut.{field_numbers};
-ghost use Rattle.collector.specs.States.{HeapShows};
+ghost use Rattle.collector.specs.States.{HeapShows, with_cycle};
 ghost use Rattle.heap_script.specs.Collecting.{Tries};
-ghost use Rattle.heap_script.specs.Runs.{AreBuilt, OutputHolds};
+ghost use Rattle.heap_script.specs.Runs.{OutputHolds};
 ghost use Rattle.script_text.specs.Limits.{open_most};
 ghost use Rattle.script_text.specs.Sound.{NamesWithin};
+ghost use Rattle.heap_script.specs.Cycles.{cycle_after_line};
 ghost use Rattle.heap_script.specs.Progress.{objects_made, made_by, command_in, CarriesLine};
 ghost use Rattle.heap_script.specs.LoopCounters.{standing_after};
 ghost use Rattle.heap_script.specs.Between.{Running, only};
@@ -30,8 +31,8 @@ pub(crate) struct Reached {
     pub(crate) executed: u64,
 }
 
-/// Executes lines from a place on, as long as they come through and write nothing. No line is executed on an output that
-/// is full, which is handed on before the next one; since none writes, it is asked for once.
+/// Executes lines from a place on, as long as they come through and write nothing. No line is executed on an output
+/// that is full, which is handed on before the next one; since none writes, it is asked for once.
 #[inline(never)]
 pub(crate) fn run_ahead(
     heap: &mut Heap,
@@ -42,12 +43,13 @@ pub(crate) fn run_ahead(
     out: &Output,
 ) -> Reached
     requires runs { (taken : List ℕ)
-        × Running script.now heap.old objects.old out.now (only []) (only taken) from.at turns.old from.executed uncollected }
+        × Running script.now heap.old objects.old out.now (only []) (only taken) from.at turns.old from.executed
+        uncollected }
     requires variables { heap.old.main.seat.space.variables ≡ length script.now.variables }
     requires fields { length script.now.fields ≤ field_numbers }
-    requires built { AreBuilt script.now.lines }
     ensures runs { (taken : List ℕ)
-        → Running script.now heap.old objects.old out.now (only []) (only taken) from.at turns.old from.executed uncollected
+        → Running script.now heap.old objects.old out.now (only []) (only taken) from.at turns.old from.executed
+        uncollected
         → Running script.now heap.new objects.new out.now (only []) (only taken) result.at turns.new
         result.executed uncollected }
     ensures holds { OutputHolds script.now from.executed out.now → OutputHolds script.now result.executed out.now }
@@ -97,11 +99,12 @@ fn passes(
     requires deep { length (standing_after at turns.old what.now).turns ≤ open_most }
     ensures carried { OnSome result ((names : List (List ℕ)) (graph : Graph) → HeapShows heap.old graph →
         objects.old ≡ length graph.objects →
-        CarriesLine names heap.old.main heap.new.main graph (command_in what.now) [] (Ok tt)) }
+        CarriesLine names heap.old.rest.in_cycle heap.old.main heap.new.main graph (command_in what.now) [] (Ok tt)) }
     ensures place { IfSome result (λ place. place ≡ (standing_after at turns.old what.now).at) }
     ensures turned { OnSome result (turns.new ≡ (standing_after at turns.old what.now).turns) }
     ensures unturned { IsNone result → turns.new ≡ turns.old }
-    ensures rest { heap.new.rest ≡ heap.old.rest }
+    ensures rest { OnSome result (heap.new.rest ≡
+        with_cycle heap.old.rest (cycle_after_line heap.old.rest.in_cycle (command_in what.now))) }
     ensures unchanged { IsNone result → heap.new ≡ heap.old }
     ensures counted { OnSome result (objects.new ≡ objects.old + made_by (command_in what.now)) }
     ensures uncounted { IsNone result → objects.new ≡ objects.old }

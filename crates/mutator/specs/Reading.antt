@@ -1,16 +1,18 @@
 -- What is read from a heap that shows a graph: what is held of the values that are sought, and the objects that it
 -- refers to.
-use Rattle.std.specs.Prelude.{◌≡◌, ℕ, ℤ, ◌+ℤ◌, ◌⊎◌, IsTrue, List, Option, Some, None, Result, Ok, Err, slice_get}
+use Rattle.std.specs.Prelude.{◌≡◌, ℕ, ℤ, ◌⊎◌, IsTrue, List, [], Option, Some, None, Result, Ok, Err, slice_get}
 use Rattle.tagged_word.specs.Shapes.{list_shape, weak_shape}
 use Rattle.heap_model.specs.Types.{FaultWord, Value, Held, Object, Path, Operand}
-use Rattle.heap_command.specs.declared.command.Operand.TheVariants.{Var}
+use Rattle.heap_command.specs.declared.command.Command.TheVariants.{Add}
 use Rattle.heap_command.specs.declared.command.FaultWord.TheVariants.{Unbound, NotObject, NotList}
 use Rattle.heap_command.specs.declared.command.FaultWord.TheVariants.{NotWeak, NotInt, BadKey}
-use Rattle.object_graph.specs.declared.value.Value.TheVariants.{Ref}
+use Rattle.object_graph.specs.declared.value.Value.TheVariants.{Int, Ref}
 use Rattle.object_graph.specs.declared.object.Object.TheVariants as kind
 use Rattle.object_graph.specs.Paths.{path_of}
-use Rattle.object_graph.specs.Graphs.{Graph, PlainObject, ListObject, WeakObject, value_of, integer_in, object_in}
-use Rattle.object_graph.specs.Graphs.{plain_at, list_at, weak_at}
+use Rattle.object_graph.specs.Graphs.{Graph, PlainObject, ListObject, WeakObject, integer_in, object_in}
+use Rattle.object_graph.specs.Graphs.{plain_at, list_at, weak_at, bind}
+use Rattle.object_graph.specs.Limits.{ideal_limits}
+use Rattle.object_graph.specs.Meaning.{done, fault, does}
 use Rattle.object_graph.specs.Reach.{is_marked, reach}
 use Rattle.shape_tree.specs.Shapes.{IsShapeOf}
 use Rattle.handle_roots.specs.Roots.{FitsHeld}
@@ -127,14 +129,7 @@ abbrev pub FindsInteger : Value → Result ℤ FaultWord → Type 0
 FindsInteger value (Ok v) = integer_in value ≡ Some v
 FindsInteger value (Err word) = (integer_in value ≡ None) × (word ≡ NotInt)
 
--- the operand stands for an integer, which is this
-abbrev pub IsIntegerOf : Graph → Operand → ℤ → Type 0
-IsIntegerOf graph v i = (value : Value) × (value_of graph v ≡ Some value) × (integer_in value ≡ Some i)
-
--- the integer is the sum of the one to which the variable is bound and the one that the operand stands for
-pub record IsSum (graph : Graph) (x : ℕ) (v : Operand) (sum : ℤ) : Type 0 where
-  pub first : ℤ
-  pub is_first : IsIntegerOf graph (Var x) first
-  pub second : ℤ
-  pub is_second : IsIntegerOf graph v second
-  pub is : sum ≡ first +ℤ second
+-- the sum that the command `add` binds was found; where there is none, what the command means is a fault
+abbrev pub FindsSum : List (List ℕ) → Graph → ℕ → Operand → Option ℤ → Type 0
+FindsSum names graph x v (Some sum) = does ideal_limits names graph (Add x v) ≡ done (bind graph x (Int sum)) []
+FindsSum names graph x v None = (word : FaultWord) × (does ideal_limits names graph (Add x v) ≡ fault word)

@@ -1,11 +1,11 @@
 //! The commands `let`, `drop` and `add`, on what variables are bound to. How a variable is bound to
 //! a field is said in `fields.rt`, and to a new object in `making.rt`.
-ghost use Rattle.std.specs.Prelude.{◌≡◌, ℕ, false, List, [], Ok, OnOk, IfSome, IsTrue};
+ghost use Rattle.std.specs.Prelude.{◌≡◌, ℕ, false, List, [], Ok, Err, OnOk, IsTrue};
 ghost use Rattle.heap_command.specs.Commands.{IsWithin};
 ghost use Rattle.object_graph.specs.Graphs.{Graph};
 ghost use Rattle.write_barrier.specs.MutatorState.{MainShows};
 ghost use Rattle.mutator.specs.Binding.{Binds};
-ghost use Rattle.mutator.specs.Reading.{IsSum};
+ghost use Rattle.mutator.specs.Reading.{FindsSum};
 ghost use Rattle.mutator.specs.CarriesOut.{Carries, field_numbers};
 
 use crate::lookups::{bound, integer, integer_of, operands};
@@ -86,6 +86,8 @@ pub fn add_ahead(main: &mut Main, x: u32, v: Operand) -> bool
     ensures carried { IsTrue result → (graph : Graph) (names : List (List ℕ)) → MainShows main.old graph →
         Carries names main.old main.new graph (Command.Add x v) [] (Ok tt) }
     ensures unchanged { result ≡ false → main.new ≡ main.old }
+    ensures faulted { result ≡ false → (graph : Graph) (names : List (List ℕ)) → MainShows main.old graph →
+        (word : FaultWord) × Carries names main.old main.new graph (Command.Add x v) [] (Err (Stop.Fault word)) }
 {
     match sum(main, x, v) {
         Some(sum) => {
@@ -101,7 +103,8 @@ pub fn add_ahead(main: &mut Main, x: u32, v: Operand) -> bool
 fn sum(main: &mut Main, x: u32, v: Operand) -> Option<i64>
     requires shown { (graph : Graph) × MainShows main.old graph }
     requires within { IsWithin main.old.seat.space.variables field_numbers (Command.Add x v) }
-    ensures sum { IfSome result (λ sum. (graph : Graph) → MainShows main.old graph → IsSum graph x v sum) }
+    ensures found { (graph : Graph) (names : List (List ℕ)) → MainShows main.old graph →
+        FindsSum names graph x v result }
     ensures same { main.new ≡ main.old }
 {
     let first = integer_of(main, Operand::Var(x))?;

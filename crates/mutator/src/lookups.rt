@@ -1,13 +1,13 @@
 //! What a command reads: variables, operands, and the objects that values refer to. A read changes
 //! nothing. The fields of an object are read by `shape_change`.
-ghost use Rattle.std.specs.Prelude.{◌≡◌, ◌<◌, IfSome};
+ghost use Rattle.std.specs.Prelude.{◌≡◌, ◌<◌, option_and_then};
 ghost use Rattle.std.specs.FinMap.{get};
 ghost use Rattle.heap_command.specs.Commands.{NamesBelow};
-ghost use Rattle.object_graph.specs.Graphs.{Graph, value_of};
+ghost use Rattle.object_graph.specs.Graphs.{Graph, value_of, integer_in};
 ghost use Rattle.object_graph.specs.declared.value.Value.{Value};
 ghost use Rattle.write_barrier.specs.MutatorState.{Mutator, MainShows};
 ghost use Rattle.mutator.specs.Reading.{StandsFor, Finds, FindsBoth, IsShownValue, FindsObject, FindsPlain};
-ghost use Rattle.mutator.specs.Reading.{FindsInteger, IsIntegerOf, FindsKey, FindsList, FindsWeak};
+ghost use Rattle.mutator.specs.Reading.{FindsInteger, FindsKey, FindsList, FindsWeak};
 
 use handle_roots::Held;
 use heap_command::{FaultWord, Operand};
@@ -166,8 +166,8 @@ pub(crate) fn integer(held: Held) -> Result<i64, FaultWord>
 pub(crate) fn integer_of(main: &mut Main, v: Operand) -> Option<i64>
     requires shown { (graph : Graph) × MainShows main.old graph }
     requires within { NamesBelow main.old.seat.space.variables v }
-    ensures found { IfSome result (λ i. (graph : Graph) → MainShows main.old graph →
-        IsIntegerOf graph v i) }
+    ensures found { (graph : Graph) → MainShows main.old graph →
+        result ≡ option_and_then integer_in (value_of graph v) }
     ensures same { main.new ≡ main.old }
 {
     match operand(main, v) {

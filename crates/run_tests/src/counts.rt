@@ -9,7 +9,8 @@ use std::test::Fail;
 /// twice the entries are more. A box has 2. A scavenge comes where the words that are wanted are not there, and leaves
 /// those of what lives, but for what was there at the scavenge before: that goes to pages. Where it leaves no room the
 /// words are granted of a page, and neither used words nor survivors come of it. All goes to pages where no run of one
-/// has the words. Rows that begin with 512 objects of 4 words fill the only page with them.
+/// has the words, and where `finish` ends a cycle. Rows that begin with 512 objects of 4 words fill the only page with
+/// them. A soak collects fully at its end.
 const COUNTS: &str = "\
 run |  | 0 0 0 | 0 0
 run | new x 2; set x a 5; get y x a; print y | 4 0 0 | 4 0
@@ -20,8 +21,17 @@ run | let i 0; repeat 2; repeat 3; add i 1; end; print i; end | 20 0 0 | 0 0
 run | repeat 2; repeat 0; print 1; end; end; print 3 | 6 0 0 | 0 0
 run | print 1; repeat 3; get y q f; end | 2 3 0 | 0 0
 run | gc | 1 0 0 | 0 0
-run | mark | 
+run | mark | 1 0 0 | 0 0
+run | mark x | 
+run | new x 0; mark | 2 0 0 | 2 0
+run | new x 0; finish | 2 0 0 | 2 0
+run | new x 0; mark; finish | 3 0 0 | 0 0
+run | new x 0; mark; scavenge; finish | 4 0 0 | 0 0
+run | mark; finish; new x 0; finish | 4 0 0 | 2 0
+run | mark; gc; new x 0; finish | 4 0 0 | 2 0
+run | repeat 2; new x 0; finish; mark; end | 9 0 0 | 0 0
 run x | print 5 | 
+soak 0 1 |  | 137 0 0 | 0 0
 run | scavenge | 1 0 0 | 0 0
 run | repeat 6000; new x 8; end | 12001 0 0 | 2730 10
 run | let p undefined; repeat 6000; new x 8; set x n p; let p x; end | 24002 0 0 | 2600 0

@@ -120,6 +120,7 @@ fn move_cell(
 }
 
 /// Where the cell at an address that is left has its home. It is copied if it has none.
+#[inline(never)]
 pub(crate) fn home_of(
     main: &mut Main,
     spaces: &Spaces,

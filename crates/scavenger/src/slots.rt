@@ -15,7 +15,8 @@ use write_barrier::Main;
 
 /// Follows a slot: where it refers to a word that is left, it comes to refer to the home of the cell
 /// there, which is copied if it has none. A slot of a page is recorded then exactly where that home is
-/// young.
+/// young. Most words of slots refer to none that is left, so only those that do are worth a call.
+#[inline(always)]
 pub(crate) fn follow(
     main: &mut Main,
     spaces: &Spaces,

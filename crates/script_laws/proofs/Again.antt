@@ -22,74 +22,72 @@ use Rattle.script_laws.proofs.Spacing.{Avoids, AllAvoid, is_feed}
 use Rattle.script_laws.proofs.Spelling.{statements_are_read_again, feed-statement_text}
 
 -- the canonical form of the statement is one line, which is read as the statement
-pub record IsReadAgain (unbuilt : List Keyword) (statement : Statement) : Type 0 where
-  pub read : statement_of_line unbuilt (statement_text statement) ≡ Ok (Some statement)
+pub record IsReadAgain (statement : Statement) : Type 0 where
+  pub read : statement_of_line (statement_text statement) ≡ Ok (Some statement)
   pub one_line : Avoids is_feed (statement_text statement)
 
 -- the canonical form of each statement is one line, which is read as the statement
-abbrev pub AreReadAgain : List Keyword → List NumberedStatement → Type 0
-AreReadAgain unbuilt [] = Unit {0}
-AreReadAgain unbuilt (stated ∷ more) = IsReadAgain unbuilt stated.statement × AreReadAgain unbuilt more
+abbrev pub AreReadAgain : List NumberedStatement → Type 0
+AreReadAgain [] = Unit {0}
+AreReadAgain (stated ∷ more) = IsReadAgain stated.statement × AreReadAgain more
 
 -- a statement and those that follow it are read again
 followed-AreReadAgain :
-    (unbuilt : List Keyword) (stated : NumberedStatement) (more : Result (List NumberedStatement) BadScript)
-    (all : List NumberedStatement)
-    → IsReadAgain unbuilt stated.statement
-    → ((rest : List NumberedStatement) → more ≡ Ok rest → AreReadAgain unbuilt rest) → followed stated more ≡ Ok all
-    → AreReadAgain unbuilt all
-followed-AreReadAgain unbuilt stated (Err stop) all is step e = cc
-followed-AreReadAgain unbuilt stated (Ok rest) all is step e =
+    (stated : NumberedStatement) (more : Result (List NumberedStatement) BadScript) (all : List NumberedStatement)
+    → IsReadAgain stated.statement
+    → ((rest : List NumberedStatement) → more ≡ Ok rest → AreReadAgain rest) → followed stated more ≡ Ok all
+    → AreReadAgain all
+followed-AreReadAgain stated (Err stop) all is step e = cc
+followed-AreReadAgain stated (Ok rest) all is step e =
     let same : stated ∷ rest ≡ all = cc in
-    subst (AreReadAgain unbuilt) same (is, step rest refl)
+    subst AreReadAgain same (is, step rest refl)
 
 -- so they are where the first may stand in its place
-nested-AreReadAgain : (unbuilt : List Keyword) (stated : NumberedStatement) (inner : Result (List ℕ) Why) (more : List ℕ
-    → Result (List NumberedStatement) BadScript) (all : List NumberedStatement) → IsReadAgain unbuilt stated.statement
-    → ((deep : List ℕ) (rest : List NumberedStatement) → more deep ≡ Ok rest → AreReadAgain unbuilt rest)
-    → nested stated inner more ≡ Ok all → AreReadAgain unbuilt all
-nested-AreReadAgain unbuilt stated (Err reason) more all is step e = cc
-nested-AreReadAgain unbuilt stated (Ok inner) more all is step e =
-    followed-AreReadAgain unbuilt stated (more inner) all is (step inner) e
+nested-AreReadAgain : (stated : NumberedStatement) (inner : Result (List ℕ) Why) (more : List ℕ
+    → Result (List NumberedStatement) BadScript) (all : List NumberedStatement) → IsReadAgain stated.statement
+    → ((deep : List ℕ) (rest : List NumberedStatement) → more deep ≡ Ok rest → AreReadAgain rest)
+    → nested stated inner more ≡ Ok all → AreReadAgain all
+nested-AreReadAgain stated (Err reason) more all is step e = cc
+nested-AreReadAgain stated (Ok inner) more all is step e =
+    followed-AreReadAgain stated (more inner) all is (step inner) e
 
 -- and where the first is what its line says
 then-AreReadAgain :
-    (unbuilt : List Keyword) (number : ℕ) (open' : List ℕ) (first : Result (Option Statement) Why) (more : List ℕ
+    (number : ℕ) (open' : List ℕ) (first : Result (Option Statement) Why) (more : List ℕ
     → Result (List NumberedStatement) BadScript) (all : List NumberedStatement) → ((statement : Statement)
     → first ≡ Ok (Some statement)
-    → IsReadAgain unbuilt statement)
-    → ((deep : List ℕ) (rest : List NumberedStatement) → more deep ≡ Ok rest → AreReadAgain unbuilt rest)
-    → stated_then number open' first more ≡ Ok all → AreReadAgain unbuilt all
-then-AreReadAgain unbuilt number open' (Err reason) more all is step e = cc
-then-AreReadAgain unbuilt number open' (Ok None) more all is step e = step open' all e
-then-AreReadAgain unbuilt number open' (Ok (Some statement)) more all is step e =
-    nested-AreReadAgain unbuilt (record { number = number; statement = statement })
+    → IsReadAgain statement)
+    → ((deep : List ℕ) (rest : List NumberedStatement) → more deep ≡ Ok rest → AreReadAgain rest)
+    → stated_then number open' first more ≡ Ok all → AreReadAgain all
+then-AreReadAgain number open' (Err reason) more all is step e = cc
+then-AreReadAgain number open' (Ok None) more all is step e = step open' all e
+then-AreReadAgain number open' (Ok (Some statement)) more all is step e =
+    nested-AreReadAgain (record { number = number; statement = statement })
     (nest number open' statement.keyword) more all (is statement refl) step e
 
 -- each statement of lines is read again from its canonical form
 pub stated_from-AreReadAgain :
-    (unbuilt : List Keyword) (number : ℕ) (open' : List ℕ) (lines : List (List ℕ)) (all : List NumberedStatement)
-    → AllAvoid is_feed lines → stated_from unbuilt number open' lines ≡ Ok all → AreReadAgain unbuilt all
-stated_from-AreReadAgain unbuilt number [] [] all h e =
+    (number : ℕ) (open' : List ℕ) (lines : List (List ℕ)) (all : List NumberedStatement)
+    → AllAvoid is_feed lines → stated_from number open' lines ≡ Ok all → AreReadAgain all
+stated_from-AreReadAgain number [] [] all h e =
     let same : [] ≡ all = cc in
-    subst (AreReadAgain unbuilt) same tt
-stated_from-AreReadAgain unbuilt number (innermost ∷ outer) [] all h e = cc
-stated_from-AreReadAgain unbuilt number open' (line ∷ lines) all h e =
-    then-AreReadAgain unbuilt number open' (statement_of_line unbuilt line)
-    (λ inner. stated_from unbuilt (suc number) inner lines) all
+    subst AreReadAgain same tt
+stated_from-AreReadAgain number (innermost ∷ outer) [] all h e = cc
+stated_from-AreReadAgain number open' (line ∷ lines) all h e =
+    then-AreReadAgain number open' (statement_of_line line)
+    (λ inner. stated_from (suc number) inner lines) all
     (λ statement p. record
-    { read = statements_are_read_again unbuilt line statement p; one_line = feed-statement_text unbuilt line statement p h.0 })
-    (λ deep rest p. stated_from-AreReadAgain unbuilt (suc number) deep lines rest h.1 p) e
+    { read = statements_are_read_again line statement p; one_line = feed-statement_text line statement p h.0 })
+    (λ deep rest p. stated_from-AreReadAgain (suc number) deep lines rest h.1 p) e
 
 -- statements in canonical form
 abbrev pub statement_lines : List NumberedStatement → List (List ℕ)
 statement_lines all = map (λ stated. statement_text stated.statement) all
 
 -- the canonical form of each statement has no line feed
-pub feed-statement_lines : (unbuilt : List Keyword) (all : List NumberedStatement) → AreReadAgain unbuilt all
-    → AllAvoid is_feed (statement_lines all)
-feed-statement_lines unbuilt [] h = tt
-feed-statement_lines unbuilt (stated ∷ more) h = (h.0.one_line, feed-statement_lines unbuilt more h.1)
+pub feed-statement_lines : (all : List NumberedStatement) → AreReadAgain all → AllAvoid is_feed (statement_lines all)
+feed-statement_lines [] h = tt
+feed-statement_lines (stated ∷ more) h = (h.0.one_line, feed-statement_lines more h.1)
 
 -- a statement of a line with this number
 abbrev pub at_line : ℕ → Statement → NumberedStatement
@@ -120,20 +118,20 @@ nest-IsAllowed number (innermost ∷ outer) keyword.End may = record { inner = o
 nest-IsAllowed number open' other may = record { inner = open'; is = refl; deep = refl }
 
 -- statements in canonical form are read as they are, inside as many `repeat`s
-pub stated_from-again : (unbuilt : List Keyword) (all : List NumberedStatement) (number : ℕ) (open' : List ℕ)
-    → AreStated unbuilt (length open') all → AreReadAgain unbuilt all
-    → stated_from unbuilt number open' (statement_lines all) ≡ Ok (renumbered number all)
-stated_from-again unbuilt [] number [] h again = refl
-stated_from-again unbuilt [] number (innermost ∷ outer) h again = absurd (omega (arith, h))
-stated_from-again unbuilt (stated ∷ more) number open' h again =
+pub stated_from-again : (all : List NumberedStatement) (number : ℕ) (open' : List ℕ)
+    → AreStated (length open') all → AreReadAgain all
+    → stated_from number open' (statement_lines all) ≡ Ok (renumbered number all)
+stated_from-again [] number [] h again = refl
+stated_from-again [] number (innermost ∷ outer) h again = absurd (omega (arith, h))
+stated_from-again (stated ∷ more) number open' h again =
     let statement = stated.statement in
     let allowed = nest-IsAllowed number open' statement.keyword h.1 in
-    let later = λ (inner : List ℕ). stated_from unbuilt (suc number) inner (statement_lines more) in
-    let deeper_in = subst (λ depth. AreStated unbuilt depth more) (sym allowed.deep) h.2 in
+    let later = λ (inner : List ℕ). stated_from (suc number) inner (statement_lines more) in
+    let deeper_in = subst (λ depth. AreStated depth more) (sym allowed.deep) h.2 in
     ap (λ read. stated_then number open' read later) again.0.read
     ∙ ap (λ inner. nested (at_line number statement) inner later) allowed.is
     ∙ ap (followed (at_line number statement))
-    (stated_from-again unbuilt more (suc number) allowed.inner deeper_in again.1)
+    (stated_from-again more (suc number) allowed.inner deeper_in again.1)
 
 -- where `repeat`s end doesn't depend on the numbers of the lines
 end_after-renumbered : (all : List NumberedStatement) (inside at number : ℕ)

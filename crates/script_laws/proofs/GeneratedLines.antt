@@ -10,7 +10,7 @@ use Rattle.script_text.specs.declared.table.Keyword.{Keyword}
 use Rattle.script_text.specs.declared.table.Keyword.TheVariants as keyword
 use Rattle.script_text.specs.Lines.{is_blank, is_some_bytes}
 use Rattle.script_text.specs.Table.{keyword_text, places_of}
-use Rattle.script_text.specs.Statements.{Statement, RawOperand, joined, written_all, statement_with, if_built}
+use Rattle.script_text.specs.Statements.{Statement, RawOperand, joined, written_all, statement_with, if_command}
 use Rattle.script_text.specs.Statements.{statement_of}
 use Rattle.script_text.specs.Names.{variable_in, field_in, variables_of, fields_of}
 use Rattle.script_text.specs.Grammar.{nest}
@@ -71,7 +71,7 @@ and_says place places word words m n first more =
 -- The line is read as a statement that opens and ends no block. It has at most 24 bytes, and its names are known.
 pub record IsPlain (line : Line) : Type 0 where
   pub statement : Statement
-  pub read : statement_of [] (line.command ∷ line.operands) ≡ Ok (Some statement)
+  pub read : statement_of (line.command ∷ line.operands) ≡ Ok (Some statement)
   pub stays : (number : ℕ) (open' : List ℕ) → nest number open' statement.keyword ≡ Ok open'
   pub blank : AllAvoid is_blank (line.command ∷ line.operands)
   pub hash : AllAvoid is_hash (line.command ∷ line.operands)
@@ -105,7 +105,7 @@ IsPlain-command k words most all stays few =
     let counted = counts (length words) (length (places_of k)) all.count in
     record {
       statement = record { keyword = k; operands = all.operands };
-      read = ap (if_built [] words) (keywords_are_found k)
+      read = ap (if_command words) (keywords_are_found k)
           ∙ ap (λ v. cond v (statement_with k (written_all (places_of k) words)) (Err why.Count)) counted
           ∙ ap (statement_with k) all.read;
       stays = stays;

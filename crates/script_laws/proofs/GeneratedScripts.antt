@@ -25,10 +25,10 @@ use Rattle.script_laws.proofs.GeneratedLines.{IsPlain}
 use Rattle.script_laws.proofs.GeneratedLists.{written, AllPlain, form_lines-plain, lines_of-generated}
 
 -- a plain line is read as its statement
-IsPlain-read : (l : Line) → (h : IsPlain l) → statement_of_line [] (written l) ≡ Ok (Some h.statement)
+IsPlain-read : (l : Line) → (h : IsPlain l) → statement_of_line (written l) ≡ Ok (Some h.statement)
 IsPlain-read l h =
-    ap (λ long. cond long (Err why.Long) (statement_of [] (tokens_of (written l)))) (short (length (written l)) h.short)
-    ∙ ap (statement_of []) (tokens_of-spaced (l.command ∷ l.operands) h.blank h.hash h.some) ∙ h.read
+    ap (λ long. cond long (Err why.Long) (statement_of (tokens_of (written l)))) (short (length (written l)) h.short)
+    ∙ ap statement_of (tokens_of-spaced (l.command ∷ l.operands) h.blank h.hash h.some) ∙ h.read
   where
     short : (n : ℕ) → n ≤ 24 → nat_lt line_bytes_most n ≡ false
     short n h = grind (arith, nat_tests)
@@ -45,11 +45,11 @@ number_after number (l ∷ lines) = number_after (suc number) lines
 
 -- plain lines are read as their statements, and then come those of the rest
 stated_from-plain : (number : ℕ) (open' : List ℕ) (lines : List Line) (h : AllPlain lines) (rest : List (List ℕ))
-    (more : List NumberedStatement) → stated_from [] (number_after number lines) open' rest ≡ Ok more
-    → stated_from [] number open' (map written lines ++ rest) ≡ Ok (statements number lines h ++ more)
+    (more : List NumberedStatement) → stated_from (number_after number lines) open' rest ≡ Ok more
+    → stated_from number open' (map written lines ++ rest) ≡ Ok (statements number lines h ++ more)
 stated_from-plain number open' [] h rest more e = e
 stated_from-plain number open' (l ∷ lines) h rest more e =
-    let later = λ (inner : List ℕ). stated_from [] (suc number) inner (map written lines ++ rest) in
+    let later = λ (inner : List ℕ). stated_from (suc number) inner (map written lines ++ rest) in
     let here = at_line number h.0.statement in
     ap (λ read. stated_then number open' read later) (IsPlain-read l h.0)
     ∙ ap (λ inner. nested here inner later) (h.0.stays number open')
@@ -101,7 +101,7 @@ all_fields (stated ∷ more) known =
     AreKnown-append known_fields (fields_of stated.statement) _ known.1 (all_fields more known.2)
 
 -- statements of known names are a script
-IsScript-known : (source : List ℕ) (all : List NumberedStatement) → stated_from [] 1 [] (lines_of source) ≡ Ok all
+IsScript-known : (source : List ℕ) (all : List NumberedStatement) → stated_from 1 [] (lines_of source) ≡ Ok all
     → AllKnown all → IsScript source 15 4
 IsScript-known source all e known =
     let variables = flat_map (λ (s : NumberedStatement). variables_of s.statement) all in
@@ -127,7 +127,7 @@ end_statement = record { keyword = keyword.End; operands = [] }
 
 -- a block of plain lines is read as its statements
 stated_from-block : (lines : List Line) (h : AllPlain lines)
-    → stated_from [] 1 [] (codes "repeat 8" ∷ (map written lines ++ codes "end" ∷ []))
+    → stated_from 1 [] (codes "repeat 8" ∷ (map written lines ++ codes "end" ∷ []))
     ≡ Ok (at_line 1 repeat_statement ∷ (statements 2 lines h ++ at_line (number_after 2 lines) end_statement ∷ []))
 stated_from-block lines h =
     ap (followed (at_line 1 repeat_statement))
@@ -142,6 +142,6 @@ generated_are_scripts seed n =
     let all = at_line 1 repeat_statement ∷ (statements 2 forms plain ++ last ∷ []) in
     let known : AllKnown all = (tt, tt, statements-known 2 forms plain (last ∷ []) (tt, tt, tt)) in
     IsScript-known (generated seed n) all
-    (ap (stated_from [] 1 []) (lines_of-generated seed n
+    (ap (stated_from 1 []) (lines_of-generated seed n
     ∙ ap (λ lines. codes "repeat 8" ∷ lines) (map-append written forms (line (codes "end") [] ∷ [])))
     ∙ stated_from-block forms plain) known

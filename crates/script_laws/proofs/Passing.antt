@@ -1,7 +1,6 @@
 -- Lines that are all read have passed.
 use Rattle.std.proofs.Common.{◌≡◌, ◌⊎◌, inl, inr, ℕ, suc, List, [], ◌∷◌, Option, Some, None, Result}
 use Rattle.std.proofs.Common.{Ok, Err, refl, sym, ap, ◌∙◌}
-use Rattle.script_text.specs.declared.table.Keyword.{Keyword}
 use Rattle.script_text.specs.declared.script.Why.{Why}
 use Rattle.script_text.specs.declared.script.Why.TheVariants as why
 use Rattle.script_text.specs.declared.script.BadScript.{BadScript}
@@ -13,11 +12,11 @@ use Rattle.script_text.specs.Grammar.{nest, nested, followed, stated_then, state
 use Rattle.script_laws.specs.Refusals.{Pass, none, empty, stated, CountsNamesLast}
 
 -- all lines were read and have passed
-record ArePassed (unbuilt : List Keyword) (number : ℕ) (open' : List ℕ) (lines : List (List ℕ))
+record ArePassed (number : ℕ) (open' : List ℕ) (lines : List (List ℕ))
     (read : Result (List NumberedStatement) BadScript) : Type 0 where
   all : List NumberedStatement
   is : read ≡ Ok all
-  passed : Pass unbuilt number open' lines []
+  passed : Pass number open' lines []
 
 -- a line is refused, or a `repeat` is open
 record IsBadLine (read : Result (List NumberedStatement) BadScript) : Type 0 where
@@ -26,19 +25,19 @@ record IsBadLine (read : Result (List NumberedStatement) BadScript) : Type 0 whe
   is : read ≡ Err (BadLine line reason)
 
 -- lines pass, or one is refused
-abbrev Passes : List Keyword → ℕ → List ℕ → List (List ℕ) → Result (List NumberedStatement) BadScript → Type 0
-Passes unbuilt number open' lines read = ArePassed unbuilt number open' lines read ⊎ IsBadLine read
+abbrev Passes : ℕ → List ℕ → List (List ℕ) → Result (List NumberedStatement) BadScript → Type 0
+Passes number open' lines read = ArePassed number open' lines read ⊎ IsBadLine read
 
 -- a statement that may stand where it does passes where the lines after it do
-nested-passes : (unbuilt : List Keyword) (number : ℕ) (open' first : List ℕ) (lines : List (List ℕ)) (statement : Statement)
-    (inner : Result (List ℕ) Why) → statement_of_line unbuilt first ≡ Ok (Some statement)
+nested-passes : (number : ℕ) (open' first : List ℕ) (lines : List (List ℕ)) (statement : Statement)
+    (inner : Result (List ℕ) Why) → statement_of_line first ≡ Ok (Some statement)
     → nest number open' statement.keyword ≡ inner
-    → ((deep : List ℕ) → Passes unbuilt (suc number) deep lines (stated_from unbuilt (suc number) deep lines))
-    → Passes unbuilt number open' (first ∷ lines)
-    (nested (record { number = number; statement = statement }) inner (λ deep. stated_from unbuilt (suc number) deep lines))
-nested-passes unbuilt number open' first lines statement (Err reason) p n step =
+    → ((deep : List ℕ) → Passes (suc number) deep lines (stated_from (suc number) deep lines))
+    → Passes number open' (first ∷ lines)
+    (nested (record { number = number; statement = statement }) inner (λ deep. stated_from (suc number) deep lines))
+nested-passes number open' first lines statement (Err reason) p n step =
     inr (record { line = number; reason = reason; is = refl })
-nested-passes unbuilt number open' first lines statement (Ok inner) p n step =
+nested-passes number open' first lines statement (Ok inner) p n step =
     let here : NumberedStatement = record { number = number; statement = statement } in
     elim (step inner) [
       | inl h ↦
@@ -53,30 +52,29 @@ nested-passes unbuilt number open' first lines statement (Ok inner) p n step =
 
 -- so does a line
 then-passes :
-    (unbuilt : List Keyword) (number : ℕ) (open' first : List ℕ) (lines : List (List ℕ))
-    (read : Result (Option Statement) Why)
-    → statement_of_line unbuilt first ≡ read
-    → ((deep : List ℕ) → Passes unbuilt (suc number) deep lines (stated_from unbuilt (suc number) deep lines))
-    → Passes unbuilt number open' (first ∷ lines)
-    (stated_then number open' read (λ deep. stated_from unbuilt (suc number) deep lines))
-then-passes unbuilt number open' first lines (Err reason) p step =
+    (number : ℕ) (open' first : List ℕ) (lines : List (List ℕ)) (read : Result (Option Statement) Why)
+    → statement_of_line first ≡ read
+    → ((deep : List ℕ) → Passes (suc number) deep lines (stated_from (suc number) deep lines))
+    → Passes number open' (first ∷ lines)
+    (stated_then number open' read (λ deep. stated_from (suc number) deep lines))
+then-passes number open' first lines (Err reason) p step =
     inr (record { line = number; reason = reason; is = refl })
-then-passes unbuilt number open' first lines (Ok None) p step =
+then-passes number open' first lines (Ok None) p step =
     elim (step open') [
       | inl h ↦ inl (record { all = h.all; is = h.is; passed = empty number open' [] first lines p h.passed })
       | inr h ↦ inr h
     ]
-then-passes unbuilt number open' first lines (Ok (Some statement)) p step =
-    nested-passes unbuilt number open' first lines statement (nest number open' statement.keyword) p refl step
+then-passes number open' first lines (Ok (Some statement)) p step =
+    nested-passes number open' first lines statement (nest number open' statement.keyword) p refl step
 
 -- all lines pass, or one is refused
-passes : (unbuilt : List Keyword) (number : ℕ) (open' : List ℕ) (lines : List (List ℕ))
-    → Passes unbuilt number open' lines (stated_from unbuilt number open' lines)
-passes unbuilt number [] [] = inl (record { all = []; is = refl; passed = none number [] })
-passes unbuilt number (innermost ∷ outer) [] = inr (record { line = innermost; reason = why.Open; is = refl })
-passes unbuilt number open' (first ∷ lines) =
-    then-passes unbuilt number open' first lines (statement_of_line unbuilt first) refl
-    (λ deep. passes unbuilt (suc number) deep lines)
+passes : (number : ℕ) (open' : List ℕ) (lines : List (List ℕ))
+    → Passes number open' lines (stated_from number open' lines)
+passes number [] [] = inl (record { all = []; is = refl; passed = none number [] })
+passes number (innermost ∷ outer) [] = inr (record { line = innermost; reason = why.Open; is = refl })
+passes number open' (first ∷ lines) =
+    then-passes number open' first lines (statement_of_line first) refl
+    (λ deep. passes (suc number) deep lines)
 
 -- a bad line is not too many names
 bad_line-names : (line number : ℕ) (reason : Why)
@@ -85,8 +83,8 @@ bad_line-names line number reason e = cc
 
 -- too many names are found only where no line is refused
 pub counts_names_last : CountsNamesLast
-counts_names_last unbuilt source line e =
-    elim (passes unbuilt 1 [] (lines_of source)) [
+counts_names_last source line e =
+    elim (passes 1 [] (lines_of source)) [
       | inl h ↦ h.passed
       | inr h ↦ absurd (bad_line-names h.line line h.reason (sym (ap script_or_stop h.is) ∙ e))
     ]

@@ -3,7 +3,6 @@ use Rattle.std.proofs.Common.{◌≡◌, ℕ, suc, List, [], ◌∷◌, map, sli
 use Rattle.std.proofs.Common.{Result, Ok, Err, refl, ap, ◌∙◌, subst, arith}
 use Rattle.std.specs.List.{flat_map}
 use Rattle.script_text.specs.declared.script.BadScript.{BadScript}
-use Rattle.script_text.specs.declared.table.Keyword.{Keyword}
 use Rattle.script_text.specs.declared.script.Line.{Line}
 use Rattle.script_text.specs.Lines.{lines_of}
 use Rattle.script_text.specs.Table.{keyword_text, places_of}
@@ -11,15 +10,15 @@ use Rattle.script_text.specs.Statements.{Statement, RawOperand, variable, field,
 use Rattle.script_text.specs.Names.{number_of_name, variable_in, field_in, variables_of, fields_of, first_uses}
 use Rattle.script_text.specs.Scripts.{ScriptText, NumberedStatement, argument_of, argument_at, what_in, end_after}
 use Rattle.script_text.specs.Grammar.{stated_from, past_limit, lines_from, open_after, innermost_of, script_of}
-use Rattle.script_text.specs.Grammar.{within_limit, script_or_stop, reading_with}
+use Rattle.script_text.specs.Grammar.{within_limit, script_or_stop, reading}
 use Rattle.script_laws.specs.Canonical.{spaced, ended, written_token, statement_text, token_of, arguments_in, what_text}
 use Rattle.script_laws.specs.Canonical.{printed, ParsesAs, PrintedIsReadAgain}
 use Rattle.script_text.proofs.Fits.{AllFit}
 use Rattle.script_text.proofs.Speaking.{AreStated, deeper, stated_from-AreStated}
 use Rattle.script_text.proofs.Numbers.{Contains-first_uses}
 use Rattle.script_laws.proofs.Naming.{slice_get-number_of}
-use Rattle.script_text.proofs.Within.{AreIn, AreIn-left, AreIn-right, keyword_of-what_of}
-use Rattle.script_laws.proofs.Standing.{AllStand-arguments, arguments_in-what}
+use Rattle.script_text.proofs.Within.{AreIn, AreIn-left, AreIn-right}
+use Rattle.script_laws.proofs.Standing.{keyword_of-what_of, AllStand-arguments, arguments_in-what}
 use Rattle.script_laws.proofs.Feeds.{lines_of-ended, feed-lines_of}
 use Rattle.script_laws.proofs.Again.{AreReadAgain, statement_lines, renumbered, stated_from-AreReadAgain}
 use Rattle.script_laws.proofs.Again.{feed-statement_lines, stated_from-again, past_limit-renumbered}
@@ -73,13 +72,12 @@ what_text-statement_text variables fields ends repeats statement fits vs fs =
 
 -- the lines of statements are printed as the statements
 what_texts-statement_lines :
-    (unbuilt : List Keyword) (depth : ℕ) (variables fields : List (List ℕ)) (at : ℕ)
-    (open' : List ℕ) (all : List NumberedStatement)
-    → AreStated unbuilt depth all → AreIn variables (flat_map (λ s. variables_of s.statement) all)
+    (depth : ℕ) (variables fields : List (List ℕ)) (at : ℕ) (open' : List ℕ) (all : List NumberedStatement)
+    → AreStated depth all → AreIn variables (flat_map (λ s. variables_of s.statement) all)
     → AreIn fields (flat_map (λ s. fields_of s.statement) all)
     → map (λ line. what_text variables fields line.what) (lines_from variables fields at open' all) ≡ statement_lines all
-what_texts-statement_lines unbuilt depth variables fields at open' [] h vs fs = refl
-what_texts-statement_lines unbuilt depth variables fields at open' (stated ∷ more) h vs fs =
+what_texts-statement_lines depth variables fields at open' [] h vs fs = refl
+what_texts-statement_lines depth variables fields at open' (stated ∷ more) h vs fs =
     let statement = stated.statement in
     let vs_more = flat_map (λ (s : NumberedStatement). variables_of s.statement) more in
     let fs_more = flat_map (λ (s : NumberedStatement). fields_of s.statement) more in
@@ -92,64 +90,62 @@ what_texts-statement_lines unbuilt depth variables fields at open' (stated ∷ m
     (lines_from variables fields (suc at) (open_after at open' statement.keyword) more) in
     ap (λ first. first ∷ later) (what_text-statement_text variables fields (end_after 0 (suc at) more)
     (innermost_of open') statement h.0.fitting vs_here fs_here)
-    ∙ ap (λ rest. statement_text statement ∷ rest) (what_texts-statement_lines unbuilt
+    ∙ ap (λ rest. statement_text statement ∷ rest) (what_texts-statement_lines
     (deeper depth statement.keyword) variables fields (suc at)
     (open_after at open' statement.keyword) more h.2 vs_later fs_later)
 
 -- a script of statements that were read is printed as the statements
-printed-script_of : (unbuilt : List Keyword) (all : List NumberedStatement) → AreStated unbuilt 0 all
+printed-script_of : (all : List NumberedStatement) → AreStated 0 all
     → printed (script_of all) ≡ ended (statement_lines all)
-printed-script_of unbuilt all h =
+printed-script_of all h =
     let vs = flat_map (λ (s : NumberedStatement). variables_of s.statement) all in
     let fs = flat_map (λ (s : NumberedStatement). fields_of s.statement) all in
-    ap ended (what_texts-statement_lines unbuilt 0 (first_uses vs) (first_uses fs) 0 [] all h
+    ap ended (what_texts-statement_lines 0 (first_uses vs) (first_uses fs) 0 [] all h
     (record { each = Contains-first_uses vs }) (record { each = Contains-first_uses fs }))
 
 -- a script that is printed is read as the same statements, one on each line
-reading-printed : (unbuilt : List Keyword) (all : List NumberedStatement) → AreStated unbuilt 0 all
-    → AreReadAgain unbuilt all
-    → past_limit [] [] all ≡ None → reading_with unbuilt (printed (script_of all)) ≡ Ok (script_of (renumbered 1 all))
-reading-printed unbuilt all h again few =
-    ap (λ text. reading_with unbuilt text) (printed-script_of unbuilt all h)
-    ∙ ap (λ lines. script_or_stop (stated_from unbuilt 1 [] lines))
-    (lines_of-ended (statement_lines all) (feed-statement_lines unbuilt all again))
-    ∙ ap script_or_stop (stated_from-again unbuilt all 1 [] h again)
+reading-printed : (all : List NumberedStatement) → AreStated 0 all → AreReadAgain all
+    → past_limit [] [] all ≡ None → reading (printed (script_of all)) ≡ Ok (script_of (renumbered 1 all))
+reading-printed all h again few =
+    ap reading (printed-script_of all h)
+    ∙ ap (λ lines. script_or_stop (stated_from 1 [] lines))
+    (lines_of-ended (statement_lines all) (feed-statement_lines all again))
+    ∙ ap script_or_stop (stated_from-again all 1 [] h again)
     ∙ ap (within_limit (renumbered 1 all)) (past_limit-renumbered [] [] all 1 few)
 
 -- the script of statements that were read is read again
-ParsesAs-script_of : (unbuilt : List Keyword) (all : List NumberedStatement) → AreStated unbuilt 0 all
-    → AreReadAgain unbuilt all
-    → past_limit [] [] all ≡ None → ParsesAs unbuilt (printed (script_of all)) (script_of all)
-ParsesAs-script_of unbuilt all h again few =
+ParsesAs-script_of : (all : List NumberedStatement) → AreStated 0 all → AreReadAgain all
+    → past_limit [] [] all ≡ None → ParsesAs (printed (script_of all)) (script_of all)
+ParsesAs-script_of all h again few =
     let same = script_of-renumbered all 1 in
     record {
       again = script_of (renumbered 1 all);
-      read = reading-printed unbuilt all h again few;
+      read = reading-printed all h again few;
       lines = same.lines;
       variables = same.variables;
       fields = same.fields;
     }
 
 -- so is what was read where there are not too many names
-limit-ParsesAs : (unbuilt : List Keyword) (all : List NumberedStatement) (past : Option ℕ) (script : ScriptText)
-    → AreStated unbuilt 0 all → AreReadAgain unbuilt all → past_limit [] [] all ≡ past
-    → within_limit all past ≡ Ok script → ParsesAs unbuilt (printed script) script
-limit-ParsesAs unbuilt all None script h again few e =
+limit-ParsesAs : (all : List NumberedStatement) (past : Option ℕ) (script : ScriptText)
+    → AreStated 0 all → AreReadAgain all → past_limit [] [] all ≡ past
+    → within_limit all past ≡ Ok script → ParsesAs (printed script) script
+limit-ParsesAs all None script h again few e =
     let same : script_of all ≡ script = cc in
-    subst (λ s. ParsesAs unbuilt (printed s) s) same (ParsesAs-script_of unbuilt all h again few)
-limit-ParsesAs unbuilt all (Some line) script h again few e = cc
+    subst (λ s. ParsesAs (printed s) s) same (ParsesAs-script_of all h again few)
+limit-ParsesAs all (Some line) script h again few e = cc
 
 -- and where no line is refused
 statements-ParsesAs :
-    (unbuilt : List Keyword) (source : List ℕ) (read : Result (List NumberedStatement) BadScript) (script : ScriptText)
-    → stated_from unbuilt 1 [] (lines_of source) ≡ read → script_or_stop read ≡ Ok script
-    → ParsesAs unbuilt (printed script) script
-statements-ParsesAs unbuilt source (Err stop) script h e = cc
-statements-ParsesAs unbuilt source (Ok all) script h e =
-    limit-ParsesAs unbuilt all (past_limit [] [] all) script (stated_from-AreStated unbuilt 1 [] (lines_of source) all h)
-    (stated_from-AreReadAgain unbuilt 1 [] (lines_of source) all (feed-lines_of source) h) refl e
+    (source : List ℕ) (read : Result (List NumberedStatement) BadScript) (script : ScriptText)
+    → stated_from 1 [] (lines_of source) ≡ read → script_or_stop read ≡ Ok script
+    → ParsesAs (printed script) script
+statements-ParsesAs source (Err stop) script h e = cc
+statements-ParsesAs source (Ok all) script h e =
+    limit-ParsesAs all (past_limit [] [] all) script (stated_from-AreStated 1 [] (lines_of source) all h)
+    (stated_from-AreReadAgain 1 [] (lines_of source) all (feed-lines_of source) h) refl e
 
 -- a script that was read is read again from its canonical form
 pub printed_is_read_again : PrintedIsReadAgain
-printed_is_read_again unbuilt source script e =
-    statements-ParsesAs unbuilt source (stated_from unbuilt 1 [] (lines_of source)) script refl e
+printed_is_read_again source script e =
+    statements-ParsesAs source (stated_from 1 [] (lines_of source)) script refl e

@@ -2,7 +2,6 @@
 use Rattle.std.proofs.Common.{◌≡◌, ◌≢◌, ℕ, Bool, true, false, cond, eqb, nat_le, nat_lt, List, []}
 use Rattle.std.proofs.Common.{◌∷◌, length, Option, Some, None, Result, Ok, Err, pos, negsuc, ℤ, ap, bytes_eq}
 use Rattle.std.proofs.Common.{codes}
-use Rattle.std.specs.List.{list_any}
 use Rattle.script_text.specs.declared.table.Keyword.{Keyword}
 use Rattle.script_text.specs.declared.table.Keyword.TheVariants as keyword
 use Rattle.script_text.specs.declared.table.OperandKind.{OperandKind}
@@ -11,11 +10,11 @@ use Rattle.script_text.specs.declared.script.Why.{Why}
 use Rattle.script_text.specs.declared.script.Why.TheVariants as why
 use Rattle.script_text.specs.Limits.{line_bytes_most, open_most}
 use Rattle.script_text.specs.Lines.{tokens_of}
-use Rattle.script_text.specs.Table.{places_of, same_keyword, keyword_among, keywords}
+use Rattle.script_text.specs.Table.{places_of, keyword_among, keywords}
 use Rattle.script_text.specs.Tokens.{is_name, integer_of}
 use Rattle.script_text.specs.Statements.{RawOperand, variable, field, literal, undefined, bound, integer_or_bound}
-use Rattle.script_text.specs.Statements.{literal_up_to, written_at, written_all, joined, statement_with, with_operands}
-use Rattle.script_text.specs.Statements.{if_built, statement_of}
+use Rattle.script_text.specs.Statements.{literal_up_to, written_at, written_all, joined, statement_with}
+use Rattle.script_text.specs.Statements.{if_command, statement_of}
 use Rattle.script_text.specs.Grammar.{nest}
 use Rattle.script_laws.specs.Refusals.{IsRefused, unread, misplaced}
 
@@ -97,28 +96,21 @@ even-open true k tokens e =
     statement_with-open k (written_all (places_of k) tokens) (λ h. written_all-open (places_of k) tokens h) e
 even-open false k tokens e = cc
 
--- nor is one whose command is judged
-built-open : (b : Bool) (k : Keyword) (tokens : List (List ℕ))
-    → cond b (Err why.NotBuilt) (with_operands k tokens) ≡ Err why.Open → ⊥
-built-open true k tokens e = cc
-built-open false k tokens e = even-open (eqb (length tokens) (length (places_of k))) k tokens e
-
 -- nor is one whose command is looked up
-if_built-open : (unbuilt : List Keyword) (tokens : List (List ℕ)) (k : Option Keyword)
-    → if_built unbuilt tokens k ≡ Err why.Open → ⊥
-if_built-open unbuilt tokens None e = cc
-if_built-open unbuilt tokens (Some k) e = built-open (list_any (same_keyword k) unbuilt) k tokens e
+if_command-open : (tokens : List (List ℕ)) (k : Option Keyword) → if_command tokens k ≡ Err why.Open → ⊥
+if_command-open tokens None e = cc
+if_command-open tokens (Some k) e = even-open (eqb (length tokens) (length (places_of k))) k tokens e
 
 -- nor are tokens
-statement_of-open : (unbuilt : List Keyword) (tokens : List (List ℕ)) → statement_of unbuilt tokens ≡ Err why.Open → ⊥
-statement_of-open unbuilt [] e = cc
-statement_of-open unbuilt (first ∷ tokens) e = if_built-open unbuilt tokens (keyword_among keywords first) e
+statement_of-open : (tokens : List (List ℕ)) → statement_of tokens ≡ Err why.Open → ⊥
+statement_of-open [] e = cc
+statement_of-open (first ∷ tokens) e = if_command-open tokens (keyword_among keywords first) e
 
 -- nor is a line
-long-open : (b : Bool) (unbuilt : List Keyword) (tokens : List (List ℕ))
-    → cond b (Err why.Long) (statement_of unbuilt tokens) ≡ Err why.Open → ⊥
-long-open true unbuilt tokens e = cc
-long-open false unbuilt tokens e = statement_of-open unbuilt tokens e
+long-open : (b : Bool) (tokens : List (List ℕ))
+    → cond b (Err why.Long) (statement_of tokens) ≡ Err why.Open → ⊥
+long-open true tokens e = cc
+long-open false tokens e = statement_of-open tokens e
 
 -- no `repeat` is misplaced for an open one
 shallow-open : (b : Bool) (inner : List ℕ) → cond b (Ok inner) (Err why.Nesting) ≡ Err why.Open → ⊥
@@ -133,8 +125,7 @@ nest-open number (innermost ∷ outer) keyword.End e = cc
 nest-open number open' other e = cc
 
 -- no line is refused because a `repeat` is open
-pub refused-open : (unbuilt : List Keyword) (number : ℕ) (open' line : List ℕ)
-    → IsRefused unbuilt number open' line why.Open → ⊥
-refused-open unbuilt number open' line (unread e) =
-    long-open (nat_lt line_bytes_most (length line)) unbuilt (tokens_of line) e
-refused-open unbuilt number open' line (misplaced statement p e) = nest-open number open' statement.keyword e
+pub refused-open : (number : ℕ) (open' line : List ℕ) → IsRefused number open' line why.Open → ⊥
+refused-open number open' line (unread e) =
+    long-open (nat_lt line_bytes_most (length line)) (tokens_of line) e
+refused-open number open' line (misplaced statement p e) = nest-open number open' statement.keyword e

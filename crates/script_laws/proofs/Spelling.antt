@@ -2,7 +2,6 @@
 use Rattle.std.proofs.Common.{◌≡◌, inl, inr, ℕ, ◌≤◌, Bool, true, false, cond, eqb, nat_le, nat_lt, List}
 use Rattle.std.proofs.Common.{[], ◌∷◌, length, map, ℤ, pos, negsuc, Option, Some, None, Result, Ok, Err, codes}
 use Rattle.std.proofs.Common.{refl, sym, ap, ◌∙◌, subst, arith}
-use Rattle.std.specs.List.{list_any}
 use Rattle.std.proofs.lemmas.Bool.Decides.{nat_tests}
 use Rattle.script_text.specs.declared.script.Why.{Why}
 use Rattle.script_text.specs.declared.script.Why.TheVariants as why
@@ -12,11 +11,11 @@ use Rattle.script_text.specs.declared.table.OperandKind.TheVariants.{Variable, F
 use Rattle.script_text.specs.Limits.{line_bytes_most}
 use Rattle.script_text.specs.Tokens.{is_name, integer_of}
 use Rattle.script_text.specs.Lines.{tokens_of}
-use Rattle.script_text.specs.Table.{keyword_text, keywords, keyword_among, same_keyword, places_of}
+use Rattle.script_text.specs.Table.{keyword_text, keywords, keyword_among, places_of}
 use Rattle.script_text.specs.Statements.{Statement, RawOperand, variable, field, literal, integer, undefined, bound}
 use Rattle.script_text.specs.Statements.{literal_up_to, integer_or_bound, written_at, written_all, joined}
 use Rattle.script_text.specs.Statements.{statement_with}
-use Rattle.script_text.specs.Statements.{with_operands, if_built, statement_of, statement_of_line}
+use Rattle.script_text.specs.Statements.{if_command, statement_of, statement_of_line}
 use Rattle.script_laws.specs.Canonical.{written_token, spaced, statement_text, StatementsAreReadAgain}
 use Rattle.script_text.proofs.Numbers.{bytes_tell}
 use Rattle.script_laws.proofs.Integers.{integers_are_written}
@@ -143,43 +142,34 @@ count-words true k tokens statement h e =
     (λ operands read. written_all-tokens (places_of k) tokens operands (h refl) read) e
 count-words false k tokens statement h e = cc
 
--- and where the command is built
-built-words : (out : Bool) (k : Keyword) (tokens : List (List ℕ)) (statement : Statement)
-    → cond out (Err why.NotBuilt) (with_operands k tokens) ≡ Ok (Some statement)
-    → statement_words statement ≡ keyword_text k ∷ tokens
-built-words true k tokens statement e = cc
-built-words false k tokens statement e =
-    count-words (eqb (length tokens) (length (places_of k))) k tokens statement (λ h. grind (arith, nat_tests)) e
-
 -- and where the command is found by its word
-if_built-words :
-    (unbuilt : List Keyword) (first : List ℕ) (tokens : List (List ℕ)) (k : Option Keyword) (statement : Statement)
-    → keyword_among keywords first ≡ k → if_built unbuilt tokens k ≡ Ok (Some statement)
+if_command-words : (first : List ℕ) (tokens : List (List ℕ)) (k : Option Keyword) (statement : Statement)
+    → keyword_among keywords first ≡ k → if_command tokens k ≡ Ok (Some statement)
     → statement_words statement ≡ first ∷ tokens
-if_built-words unbuilt first tokens None statement found e = cc
-if_built-words unbuilt first tokens (Some k) statement found e =
-    built-words (list_any (same_keyword k) unbuilt) k tokens statement e
+if_command-words first tokens None statement found e = cc
+if_command-words first tokens (Some k) statement found e =
+    count-words (eqb (length tokens) (length (places_of k))) k tokens statement (λ h. grind (arith, nat_tests)) e
     ∙ ap (λ word. word ∷ tokens) (keyword_among-text keywords first k found)
 
 -- the words of a statement are the tokens that it was read from
-statement_of-words : (unbuilt : List Keyword) (tokens : List (List ℕ)) (statement : Statement)
-    → statement_of unbuilt tokens ≡ Ok (Some statement) → statement_words statement ≡ tokens
-statement_of-words unbuilt [] statement e = cc
-statement_of-words unbuilt (first ∷ tokens) statement e =
-    if_built-words unbuilt first tokens (keyword_among keywords first) statement refl e
+statement_of-words : (tokens : List (List ℕ)) (statement : Statement)
+    → statement_of tokens ≡ Ok (Some statement) → statement_words statement ≡ tokens
+statement_of-words [] statement e = cc
+statement_of-words (first ∷ tokens) statement e =
+    if_command-words first tokens (keyword_among keywords first) statement refl e
 
 -- a line with a statement is not too long, and its tokens make the statement
-record IsShort (unbuilt : List Keyword) (line : List ℕ) (statement : Statement) : Type 0 where
+record IsShort (line : List ℕ) (statement : Statement) : Type 0 where
   short : nat_lt line_bytes_most (length line) ≡ false
-  read : statement_of unbuilt (tokens_of line) ≡ Ok (Some statement)
+  read : statement_of (tokens_of line) ≡ Ok (Some statement)
 
 -- a line that is not refused as too long is short
-short-test : (unbuilt : List Keyword) (line : List ℕ) (statement : Statement) (long : Bool)
+short-test : (line : List ℕ) (statement : Statement) (long : Bool)
     → nat_lt line_bytes_most (length line) ≡ long
-    → cond long (Err why.Long) (statement_of unbuilt (tokens_of line)) ≡ Ok (Some statement)
-    → IsShort unbuilt line statement
-short-test unbuilt line statement true h e = cc
-short-test unbuilt line statement false h e = record { short = h; read = e }
+    → cond long (Err why.Long) (statement_of (tokens_of line)) ≡ Ok (Some statement)
+    → IsShort line statement
+short-test line statement true h e = cc
+short-test line statement false h e = record { short = h; read = e }
 
 -- what is no longer than a short line is short
 still_short : (some more : ℕ) → some ≤ more → nat_lt line_bytes_most more ≡ false
@@ -187,30 +177,30 @@ still_short : (some more : ℕ) → some ≤ more → nat_lt line_bytes_most mor
 still_short some more le h = grind (arith, nat_tests)
 
 -- the line of a statement is short
-line-IsShort : (unbuilt : List Keyword) (line : List ℕ) (statement : Statement)
-    → statement_of_line unbuilt line ≡ Ok (Some statement) → IsShort unbuilt line statement
-line-IsShort unbuilt line statement e = short-test unbuilt line statement (nat_lt line_bytes_most (length line)) refl e
+line-IsShort : (line : List ℕ) (statement : Statement)
+    → statement_of_line line ≡ Ok (Some statement) → IsShort line statement
+line-IsShort line statement e = short-test line statement (nat_lt line_bytes_most (length line)) refl e
 
 -- the canonical form of a statement is that of the line that it was read from
-statement_text-line : (unbuilt : List Keyword) (line : List ℕ) (statement : Statement)
-    → statement_of_line unbuilt line ≡ Ok (Some statement) → statement_text statement ≡ spaced (tokens_of line)
-statement_text-line unbuilt line statement e =
-    ap spaced (statement_of-words unbuilt (tokens_of line) statement (line-IsShort unbuilt line statement e).read)
+statement_text-line : (line : List ℕ) (statement : Statement)
+    → statement_of_line line ≡ Ok (Some statement) → statement_text statement ≡ spaced (tokens_of line)
+statement_text-line line statement e =
+    ap spaced (statement_of-words (tokens_of line) statement (line-IsShort line statement e).read)
 
 -- the canonical form of a statement is read as the statement
 pub statements_are_read_again : StatementsAreReadAgain
-statements_are_read_again unbuilt line statement e =
-    let parts = line-IsShort unbuilt line statement e in
+statements_are_read_again line statement e =
+    let parts = line-IsShort line statement e in
     let form = spaced (tokens_of line) in
     let short = still_short (length form) (length line) (length-spaced line) parts.short in
-    ap (statement_of_line unbuilt) (statement_text-line unbuilt line statement e)
-    ∙ ap (λ long. cond long (Err why.Long) (statement_of unbuilt (tokens_of form))) short
-    ∙ ap (statement_of unbuilt) (tokens_of-again line) ∙ parts.read
+    ap statement_of_line (statement_text-line line statement e)
+    ∙ ap (λ long. cond long (Err why.Long) (statement_of (tokens_of form))) short
+    ∙ ap statement_of (tokens_of-again line) ∙ parts.read
 
 -- it is one line, where the statement was read from one
-pub feed-statement_text : (unbuilt : List Keyword) (line : List ℕ) (statement : Statement)
-    → statement_of_line unbuilt line ≡ Ok (Some statement) → Avoids is_feed line
+pub feed-statement_text : (line : List ℕ) (statement : Statement)
+    → statement_of_line line ≡ Ok (Some statement) → Avoids is_feed line
     → Avoids is_feed (statement_text statement)
-feed-statement_text unbuilt line statement e h =
-    subst (Avoids is_feed) (sym (statement_text-line unbuilt line statement e))
+feed-statement_text line statement e h =
+    subst (Avoids is_feed) (sym (statement_text-line line statement e))
     (Avoids-spaced is_feed (tokens_of line) refl (AllAvoid-tokens_of is_feed line h))

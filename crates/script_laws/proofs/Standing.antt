@@ -8,10 +8,16 @@ use Rattle.script_text.specs.declared.table.OperandKind.{OperandKind}
 use Rattle.script_text.specs.declared.table.OperandKind.TheVariants.{Variable, Field, Value, Literal}
 use Rattle.script_text.specs.Table.{places_of}
 use Rattle.script_text.specs.Statements.{RawOperand, variable, field, literal, integer, undefined, bound}
-use Rattle.script_text.specs.Scripts.{argument_of}
+use Rattle.script_text.specs.Scripts.{argument_of, what_of}
 use Rattle.script_text.proofs.Fits.{Fits, AllFit}
 use Rattle.script_text.proofs.Within.{what_at_places}
-use Rattle.script_laws.specs.Canonical.{arguments_in}
+use Rattle.script_laws.specs.Canonical.{keyword_of, arguments_in}
+
+-- what a command does is of this command
+pub keyword_of-what_of : (ends repeats : ℕ) (k : Keyword) (a b c : Argument)
+    → keyword_of (what_of ends repeats k a b c) ≡ k
+keyword_of-what_of ends repeats keyword.New a b c = refl
+keyword_of-what_of ends repeats other a b c = refl
 
 -- the argument is of the kind that its place wants
 abbrev pub Stands : OperandKind → Argument → Type 0

@@ -13,10 +13,10 @@ use Rattle.script_text.proofs.Reading.{script-parts}
 
 -- the lines of a script that was read are whole
 pub scripts_are_whole : ScriptsAreWhole
-scripts_are_whole unbuilt source script e =
-    let parts = script-parts (stated_from unbuilt 1 [] (lines_of source)) script e in
-    let are = stated_from-AreStated unbuilt 1 [] (lines_of source) parts.stated parts.is in
+scripts_are_whole source script e =
+    let parts = script-parts (stated_from 1 [] (lines_of source)) script e in
+    let are = stated_from-AreStated 1 [] (lines_of source) parts.stated parts.is in
     let vs = first_uses (flat_map (λ (s : NumberedStatement). variables_of s.statement) parts.stated) in
     let fs = first_uses (flat_map (λ (s : NumberedStatement). fields_of s.statement) parts.stated) in
     subst (λ s. AreBlocks s.lines) parts.same
-    (AreBlocks-placed 0 (lines_from vs fs 0 [] parts.stated) (lines_from-IsPlaced unbuilt vs fs parts.stated are))
+    (AreBlocks-placed 0 (lines_from vs fs 0 [] parts.stated) (lines_from-IsPlaced vs fs parts.stated are))

@@ -7,14 +7,14 @@ use Rattle.heap_command.specs.declared.command.Command.TheVariants as command
 use Rattle.script_text.specs.declared.commands.Argument.{Argument}
 use Rattle.script_text.specs.declared.commands.Argument.TheVariants.{Variable, Field, Literal, Value}
 use Rattle.script_text.specs.declared.table.Keyword.{Keyword}
+use Rattle.script_text.specs.declared.table.Keyword.TheVariants as keyword
 use Rattle.script_text.specs.declared.script.What.{What}
-use Rattle.script_text.specs.declared.script.What.TheVariants.{Run, Repeat}
+use Rattle.script_text.specs.declared.script.What.TheVariants.{Run, Repeat, End}
 use Rattle.script_text.specs.Table.{keyword_text}
 use Rattle.script_text.specs.Statements.{Statement, RawOperand, variable, field, literal, integer, undefined, bound}
 use Rattle.script_text.specs.Statements.{statement_of_line}
 use Rattle.script_text.specs.Scripts.{ScriptText}
-use Rattle.script_text.specs.Sound.{keyword_of}
-use Rattle.script_text.specs.Grammar.{reading_with}
+use Rattle.script_text.specs.Grammar.{reading}
 
 -- each of the words after a space
 abbrev pub spaced_after : List (List ℕ) → List ℕ
@@ -51,6 +51,37 @@ token_of variables fields (Literal n) = signed_decimal (pos n)
 token_of variables fields (Value (Int v)) = signed_decimal v
 token_of variables fields (Value Undefined) = codes "undefined"
 token_of variables fields (Value (Var number)) = unwrap_or (slice_get variables number) []
+
+-- the command of a line
+abbrev pub keyword_of : What → Keyword
+keyword_of (Run (command.New x cap)) = keyword.New
+keyword_of (Run (command.List x)) = keyword.List
+keyword_of (Run (command.Weak x)) = keyword.Weak
+keyword_of (Run (command.LetValue x v)) = keyword.Let
+keyword_of (Run (command.DropVar x)) = keyword.Drop
+keyword_of (Run (command.Add x v)) = keyword.Add
+keyword_of (Run (command.Set x f v)) = keyword.Set
+keyword_of (Run (command.Get y x f)) = keyword.Get
+keyword_of (Run (command.Del x f)) = keyword.Del
+keyword_of (Run (command.Push x v)) = keyword.Push
+keyword_of (Run (command.Put x i v)) = keyword.Put
+keyword_of (Run (command.At y x i)) = keyword.At
+keyword_of (Run (command.Shift x n)) = keyword.Shift
+keyword_of (Run (command.Trunc x n)) = keyword.Trunc
+keyword_of (Run (command.WPut m k v)) = keyword.WPut
+keyword_of (Run (command.WGet y m k)) = keyword.WGet
+keyword_of (Run (command.WDel m k)) = keyword.WDel
+keyword_of (Run (command.Print v)) = keyword.Print
+keyword_of (Run (command.Same a b)) = keyword.Same
+keyword_of (Run (command.Alike x y)) = keyword.Alike
+keyword_of (Run (command.Shape x)) = keyword.Shape
+keyword_of (Run command.Scavenge) = keyword.Scavenge
+keyword_of (Run command.Mark) = keyword.Mark
+keyword_of (Run command.Finish) = keyword.Finish
+keyword_of (Run command.Gc) = keyword.Gc
+keyword_of (Run command.Census) = keyword.Census
+keyword_of (Repeat times end_at) = keyword.Repeat
+keyword_of (End repeat_at) = keyword.End
 
 -- the arguments of a line's command, in their order
 abbrev pub arguments_in : What → List Argument
@@ -90,14 +121,13 @@ printed script = ended (map (λ line. what_text script.variables script.fields l
 -- a statement that is read from a line is read from its canonical form too
 abbrev pub StatementsAreReadAgain : Type 0
 StatementsAreReadAgain =
-    (unbuilt : List Keyword) (line : List ℕ) (statement : Statement)
-    → statement_of_line unbuilt line ≡ Ok (Some statement)
-    → statement_of_line unbuilt (statement_text statement) ≡ Ok (Some statement)
+    (line : List ℕ) (statement : Statement) → statement_of_line line ≡ Ok (Some statement)
+    → statement_of_line (statement_text statement) ≡ Ok (Some statement)
 
 -- the source is read as a script that does the same, line for line, with the same names by number
-pub record ParsesAs (unbuilt : List Keyword) (source : List ℕ) (script : ScriptText) : Type 0 where
+pub record ParsesAs (source : List ℕ) (script : ScriptText) : Type 0 where
   pub again : ScriptText
-  pub read : reading_with unbuilt source ≡ Ok again
+  pub read : reading source ≡ Ok again
   pub lines : map (λ line. line.what) again.lines ≡ map (λ line. line.what) script.lines
   pub variables : again.variables ≡ script.variables
   pub fields : again.fields ≡ script.fields
@@ -105,5 +135,4 @@ pub record ParsesAs (unbuilt : List Keyword) (source : List ℕ) (script : Scrip
 -- what was read is read again from its canonical form
 abbrev pub PrintedIsReadAgain : Type 0
 PrintedIsReadAgain =
-    (unbuilt : List Keyword) (source : List ℕ) (script : ScriptText) → reading_with unbuilt source ≡ Ok script
-    → ParsesAs unbuilt (printed script) script
+    (source : List ℕ) (script : ScriptText) → reading source ≡ Ok script → ParsesAs (printed script) script

@@ -3,10 +3,9 @@ use Rattle.std.specs.Prelude.{◌≡◌, ℕ, suc, ◌≤◌, List, [], ◌∷�
 use Rattle.std.specs.Prelude.{Ok, slice_get}
 use Rattle.heap_command.specs.declared.command.Command.{Command}
 use Rattle.heap_command.specs.Executed.{Executed}
-use Rattle.script_text.specs.declared.table.Keyword.{Keyword}
 use Rattle.script_text.specs.declared.script.Line.{Line}
 use Rattle.script_text.specs.Scripts.{ScriptText}
-use Rattle.script_text.specs.Grammar.{reading_with}
+use Rattle.script_text.specs.Grammar.{reading}
 use Rattle.script_text.specs.Sound.{depth_of, IsMatched}
 use Rattle.script_text.specs.Unrolled.{executed, turns, executed_lines}
 use Rattle.script_text.specs.Whole.{run_line, repeat_line, end_line, AreBlocks, IsPlaced}
@@ -15,8 +14,7 @@ use Rattle.script_text.specs.Left.{IsLeft, Goes}
 -- the lines of a script that was read are whole
 abbrev pub ScriptsAreWhole : Type 0
 ScriptsAreWhole =
-    (unbuilt : List Keyword) (source : List ℕ)
-    (script : ScriptText) → reading_with unbuilt source ≡ Ok script → AreBlocks script.lines
+    (source : List ℕ) (script : ScriptText) → reading source ≡ Ok script → AreBlocks script.lines
 
 -- a command is executed once, and then what follows it
 abbrev pub UnrollsRuns : Type 0

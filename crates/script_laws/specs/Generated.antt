@@ -1,14 +1,14 @@
 -- Generated scripts are scripts, within the limits, for every seed.
-use Rattle.std.specs.Prelude.{◌≡◌, ℕ, ◌≤◌, List, [], All, length, Ok}
+use Rattle.std.specs.Prelude.{◌≡◌, ℕ, ◌≤◌, List, All, length, Ok}
 use Rattle.script_text.specs.Lines.{lines_of}
 use Rattle.script_text.specs.Scripts.{ScriptText}
-use Rattle.script_text.specs.Grammar.{reading_with}
+use Rattle.script_text.specs.Grammar.{reading}
 use Rattle.script_gen.specs.Generated.{generated}
 
--- the source is read as a script, where all commands are built, with no more names than these
+-- the source is read as a script with no more names than these
 pub record IsScript (source : List ℕ) (variables_most fields_most : ℕ) : Type 0 where
   pub script : ScriptText
-  pub read : reading_with [] source ≡ Ok script
+  pub read : reading source ≡ Ok script
   pub few_variables : length script.variables ≤ variables_most
   pub few_fields : length script.fields ≤ fields_most
 

@@ -47,7 +47,7 @@ fn a_source_is_read_as_its_lines_and_names(rt: HostRuntime) -> Result<(), Fail> 
 fn another_source_is_refused_with_its_line_and_reason(rt: HostRuntime) {
     let rows: [(&[u8], u32, Why); 3] = [
         (b"print 1\nmake x", 2, Why::Command),
-        (b"mark", 1, Why::NotBuilt),
+        (b"mark x", 1, Why::Count),
         (b"repeat 2", 1, Why::Open),
     ];
     for (source, line, why) in rows {

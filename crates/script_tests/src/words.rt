@@ -12,6 +12,11 @@ fn sizes(pages: u32, young: u32, helpers: u32) -> Sizes {
     }
 }
 
+/// The run of a script that a seed generates, with so many forms.
+fn soak(sizes: Sizes, seed: u64, forms: u32) -> Invocation {
+    Invocation::Soak { sizes, seed, forms }
+}
+
 #[test]
 fn words_are_read_as_what_they_ask_for(rt: HostRuntime) -> Result<(), Fail> {
     let alloc = rt.alloc();
@@ -28,7 +33,20 @@ fn words_are_read_as_what_they_ask_for(rt: HostRuntime) -> Result<(), Fail> {
         ("run --pages 513", Err(WordsStop::BadWords)),
         ("check --pages 3", Ok(Invocation::Check(sizes(3, 8192, 2)))),
         ("check --pages 513", Err(WordsStop::BadWords)),
-        ("soak 0 1", Err(WordsStop::BadWords)),
+        ("soak 0 1", Ok(soak(sizes(64, 8192, 2), 0, 1))),
+        (
+            "soak --pages=5 7 --young 64 -- 30000",
+            Ok(soak(sizes(5, 64, 2), 7, 30_000)),
+        ),
+        (
+            "soak 18446744073709551615 0 --helpers 7",
+            Ok(soak(sizes(64, 8192, 7), u64::MAX, 0)),
+        ),
+        ("soak 0 1 2", Err(WordsStop::BadWords)),
+        ("soak 0 30001", Err(WordsStop::BadWords)),
+        ("soak 0 1 -x", Err(WordsStop::BadWords)),
+        ("soak -- 0 1 --pages=2", Err(WordsStop::BadWords)),
+        ("gen 0 1", Ok(Invocation::Gen { seed: 0, forms: 1 })),
     ];
     for (line, wanted) in lines {
         let mut words = Vec::new(alloc);

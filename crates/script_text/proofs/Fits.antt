@@ -1,8 +1,7 @@
--- The statement of a line that was read: its command is built, with operands that fit it.
+-- The statement of a line that was read: a command with operands that fit it.
 use Rattle.std.proofs.Common.{◌≡◌, ℕ, ◌≤◌, Bool, true, false, cond, eqb, nat_le, nat_lt, List, [], ◌∷◌}
 use Rattle.std.proofs.Common.{length, ℤ, pos, negsuc, Option, Some, None, Result, Ok, Err, refl, subst, arith, bytes_eq}
 use Rattle.std.proofs.Common.{codes}
-use Rattle.std.specs.List.{list_any}
 use Rattle.std.proofs.lemmas.Bool.Decides.{nat_tests}
 use Rattle.script_text.specs.declared.script.Why.{Why}
 use Rattle.script_text.specs.declared.script.Why.TheVariants as why
@@ -12,12 +11,12 @@ use Rattle.script_text.specs.declared.table.OperandKind.TheVariants.{Variable, F
 use Rattle.script_text.specs.Limits.{line_bytes_most}
 use Rattle.script_text.specs.Tokens.{is_name, integer_of}
 use Rattle.script_text.specs.Lines.{tokens_of}
-use Rattle.script_text.specs.Table.{places_of, same_keyword, keyword_among, keywords}
+use Rattle.script_text.specs.Table.{places_of, keyword_among, keywords}
 use Rattle.script_text.specs.Statements.{Statement, RawOperand, variable, field, literal, integer, undefined, bound}
 use Rattle.script_text.specs.Statements.{written_at}
 use Rattle.script_text.specs.Statements.{written_all, joined, literal_up_to, integer_or_bound, statement_of}
 use Rattle.script_text.specs.Statements.{statement_of_line}
-use Rattle.script_text.specs.Statements.{statement_with, with_operands, if_built}
+use Rattle.script_text.specs.Statements.{statement_with, if_command}
 
 -- the operand may stand at this place
 abbrev pub Fits : OperandKind → RawOperand → Type 0
@@ -36,9 +35,8 @@ AllFit [] (written ∷ operands) = ⊥
 AllFit (place ∷ places) [] = ⊥
 AllFit (place ∷ places) (written ∷ operands) = Fits place written × AllFit places operands
 
--- the statement of a line that is not refused: its command is built, and its operands fit it
-pub record IsStated (unbuilt : List Keyword) (statement : Statement) : Type 0 where
-  pub built : list_any (same_keyword statement.keyword) unbuilt ≡ false
+-- the statement of a line that is not refused: its operands fit its command
+pub record IsStated (statement : Statement) : Type 0 where
   pub fitting : AllFit (places_of statement.keyword) statement.operands
 
 -- what is given where a test passes
@@ -118,58 +116,48 @@ written_all-AllFit (place ∷ places) (token ∷ tokens) operands even e =
           (omega arith) parts.more_is,
     )
 
--- a statement that is given has a command that is built and operands that fit it
-statement_made : (k : Keyword) (operands : Result (List RawOperand) Why) (statement : Statement) (unbuilt : List Keyword)
-    → list_any (same_keyword k) unbuilt ≡ false
+-- a statement that is given has operands that fit its command
+statement_made : (k : Keyword) (operands : Result (List RawOperand) Why) (statement : Statement)
     → ((given : List RawOperand) → operands ≡ Ok given → AllFit (places_of k) given)
-    → statement_with k operands ≡ Ok (Some statement) → IsStated unbuilt statement
-statement_made k (Err reason) statement unbuilt built fits e = cc
-statement_made k (Ok given) statement unbuilt built fits e =
+    → statement_with k operands ≡ Ok (Some statement) → IsStated statement
+statement_made k (Err reason) statement fits e = cc
+statement_made k (Ok given) statement fits e =
     let made : Statement = record { keyword = k; operands = given } in
     let same : made ≡ statement = cc in
-    subst (IsStated unbuilt) same (record { built = built; fitting = fits given refl })
+    subst IsStated same (record { fitting = fits given refl })
 
 -- so it has where its tokens are counted
-even_given : (even : Bool) (k : Keyword) (tokens : List (List ℕ)) (statement : Statement) (unbuilt : List Keyword)
-    → list_any (same_keyword k) unbuilt ≡ false → (even ≡ true → length tokens ≡ length (places_of k))
+even_given : (even : Bool) (k : Keyword) (tokens : List (List ℕ)) (statement : Statement)
+    → (even ≡ true → length tokens ≡ length (places_of k))
     → cond even (statement_with k (written_all (places_of k) tokens)) (Err why.Count) ≡ Ok (Some statement)
-    → IsStated unbuilt statement
-even_given true k tokens statement unbuilt built h e =
-    statement_made k (written_all (places_of k) tokens) statement unbuilt built
+    → IsStated statement
+even_given true k tokens statement h e =
+    statement_made k (written_all (places_of k) tokens) statement
     (λ given w. written_all-AllFit (places_of k) tokens given (h refl) w) e
-even_given false k tokens statement unbuilt built h e = cc
-
--- and where its command is judged
-built_given : (out : Bool) (k : Keyword) (tokens : List (List ℕ)) (statement : Statement) (unbuilt : List Keyword)
-    → list_any (same_keyword k) unbuilt ≡ out
-    → cond out (Err why.NotBuilt) (with_operands k tokens) ≡ Ok (Some statement) → IsStated unbuilt statement
-built_given true k tokens statement unbuilt built e = cc
-built_given false k tokens statement unbuilt built e =
-    even_given (eqb (length tokens) (length (places_of k))) k tokens statement unbuilt built
-    (λ h. grind (arith, nat_tests)) e
+even_given false k tokens statement h e = cc
 
 -- and where its command is looked up
-if_built-IsStated : (k : Option Keyword) (tokens : List (List ℕ)) (statement : Statement) (unbuilt : List Keyword)
-    → if_built unbuilt tokens k ≡ Ok (Some statement) → IsStated unbuilt statement
-if_built-IsStated None tokens statement unbuilt e = cc
-if_built-IsStated (Some k) tokens statement unbuilt e =
-    built_given (list_any (same_keyword k) unbuilt) k tokens statement unbuilt refl e
+if_command-IsStated : (k : Option Keyword) (tokens : List (List ℕ)) (statement : Statement)
+    → if_command tokens k ≡ Ok (Some statement) → IsStated statement
+if_command-IsStated None tokens statement e = cc
+if_command-IsStated (Some k) tokens statement e =
+    even_given (eqb (length tokens) (length (places_of k))) k tokens statement (λ h. grind (arith, nat_tests)) e
 
 -- so it has where it is read from tokens
-statement_of-IsStated : (tokens : List (List ℕ)) (statement : Statement) (unbuilt : List Keyword)
-    → statement_of unbuilt tokens ≡ Ok (Some statement) → IsStated unbuilt statement
-statement_of-IsStated [] statement unbuilt e = cc
-statement_of-IsStated (first ∷ tokens) statement unbuilt e =
-    if_built-IsStated (keyword_among keywords first) tokens statement unbuilt e
+statement_of-IsStated : (tokens : List (List ℕ)) (statement : Statement)
+    → statement_of tokens ≡ Ok (Some statement) → IsStated statement
+statement_of-IsStated [] statement e = cc
+statement_of-IsStated (first ∷ tokens) statement e =
+    if_command-IsStated (keyword_among keywords first) tokens statement e
 
 -- and from a line that is not too long
-short-IsStated : (long : Bool) (tokens : List (List ℕ)) (statement : Statement) (unbuilt : List Keyword)
-    → cond long (Err why.Long) (statement_of unbuilt tokens) ≡ Ok (Some statement) → IsStated unbuilt statement
-short-IsStated true tokens statement unbuilt e = cc
-short-IsStated false tokens statement unbuilt e = statement_of-IsStated tokens statement unbuilt e
+short-IsStated : (long : Bool) (tokens : List (List ℕ)) (statement : Statement)
+    → cond long (Err why.Long) (statement_of tokens) ≡ Ok (Some statement) → IsStated statement
+short-IsStated true tokens statement e = cc
+short-IsStated false tokens statement e = statement_of-IsStated tokens statement e
 
--- the statement of a line is built and fits
-pub statement_of_line-IsStated : (line : List ℕ) (statement : Statement) (unbuilt : List Keyword)
-    → statement_of_line unbuilt line ≡ Ok (Some statement) → IsStated unbuilt statement
-statement_of_line-IsStated line statement unbuilt e =
-    short-IsStated (nat_lt line_bytes_most (length line)) (tokens_of line) statement unbuilt e
+-- the operands of a line's statement fit its command
+pub statement_of_line-IsStated : (line : List ℕ) (statement : Statement)
+    → statement_of_line line ≡ Ok (Some statement) → IsStated statement
+statement_of_line-IsStated line statement e =
+    short-IsStated (nat_lt line_bytes_most (length line)) (tokens_of line) statement e

@@ -18,9 +18,9 @@ length-open_after at (innermost ∷ outer) keyword.End = omega arith
 length-open_after at open' other = refl
 
 -- the statements after a command were read inside as many `repeat`s as are open after it
-pub later : (unbuilt : List Keyword) (at : ℕ) (open' : List ℕ) (k : Keyword) (more : List NumberedStatement)
-    → AreStated unbuilt (deeper (length open') k) more → AreStated unbuilt (length (open_after at open' k)) more
-later unbuilt at open' k more h = subst (λ depth. AreStated unbuilt depth more) (sym (length-open_after at open' k)) h
+pub later : (at : ℕ) (open' : List ℕ) (k : Keyword) (more : List NumberedStatement)
+    → AreStated (deeper (length open') k) more → AreStated (length (open_after at open' k)) more
+later at open' k more h = subst (λ depth. AreStated depth more) (sym (length-open_after at open' k)) h
 
 -- a command that may stand leaves at most four open
 few-deeper : (depth : ℕ) (k : Keyword) → depth ≤ open_most → MayStand depth k → deeper depth k ≤ open_most
@@ -39,16 +39,16 @@ depth-line variables fields at open' number other operands more depth n = refl
 
 -- at most four `repeat`s are open
 pub nested :
-    (unbuilt : List Keyword) (variables fields : List (List ℕ)) (at : ℕ) (open' : List ℕ) (xs : List NumberedStatement)
+    (variables fields : List (List ℕ)) (at : ℕ) (open' : List ℕ) (xs : List NumberedStatement)
     (depth : ℕ)
-    → depth ≤ open_most → AreStated unbuilt depth xs → (n : ℕ)
+    → depth ≤ open_most → AreStated depth xs → (n : ℕ)
     → depth_of depth (take n (lines_from variables fields at open' xs)) ≤ open_most
-nested unbuilt variables fields at open' xs depth few h zero = few
-nested unbuilt variables fields at open' [] depth few h (suc n) = few
-nested unbuilt variables fields at open' (stated ∷ more) depth few h (suc n) =
+nested variables fields at open' xs depth few h zero = few
+nested variables fields at open' [] depth few h (suc n) = few
+nested variables fields at open' (stated ∷ more) depth few h (suc n) =
     let k = stated.statement.keyword in
     let there =
-    nested unbuilt variables fields (suc at) (open_after at open' k) more (deeper depth k)
+    nested variables fields (suc at) (open_after at open' k) more (deeper depth k)
     (few-deeper depth k few h.1) h.2 n in
     subst (λ d. d ≤ open_most)
     (sym (depth-line variables fields at open' stated.number k stated.statement.operands more depth n)) there

@@ -150,18 +150,18 @@ Closes-step variables fields at open' number other operands more may h =
 
 -- the lines of statements that were read inside open `repeat`s end them at their places
 lines_from-Closes :
-    (unbuilt : List Keyword) (variables fields : List (List ℕ)) (at : ℕ) (open' : List ℕ) (xs : List NumberedStatement)
-    → AreStated unbuilt (length open') xs
+    (variables fields : List (List ℕ)) (at : ℕ) (open' : List ℕ) (xs : List NumberedStatement)
+    → AreStated (length open') xs
     → Closes open' (λ inside. end_after inside at xs) at (lines_from variables fields at open' xs)
-lines_from-Closes unbuilt variables fields at [] [] h = IsPlaced.none at
-lines_from-Closes unbuilt variables fields at (innermost ∷ outer) [] h = absurd (omega (arith, h))
-lines_from-Closes unbuilt variables fields at open' (stated ∷ more) h =
+lines_from-Closes variables fields at [] [] h = IsPlaced.none at
+lines_from-Closes variables fields at (innermost ∷ outer) [] h = absurd (omega (arith, h))
+lines_from-Closes variables fields at open' (stated ∷ more) h =
     let k = stated.statement.keyword in
     Closes-step variables fields at open' stated.number k stated.statement.operands more h.1
-    (lines_from-Closes unbuilt variables fields (suc at) (open_after at open' k) more
-    (later unbuilt at open' k more h.2))
+    (lines_from-Closes variables fields (suc at) (open_after at open' k) more
+    (later at open' k more h.2))
 
 -- the lines of a script that was read stand at their places
-pub lines_from-IsPlaced : (unbuilt : List Keyword) (variables fields : List (List ℕ)) (xs : List NumberedStatement)
-    → AreStated unbuilt 0 xs → IsPlaced 0 (lines_from variables fields 0 [] xs)
-lines_from-IsPlaced unbuilt variables fields xs h = lines_from-Closes unbuilt variables fields 0 [] xs h
+pub lines_from-IsPlaced : (variables fields : List (List ℕ)) (xs : List NumberedStatement)
+    → AreStated 0 xs → IsPlaced 0 (lines_from variables fields 0 [] xs)
+lines_from-IsPlaced variables fields xs h = lines_from-Closes variables fields 0 [] xs h

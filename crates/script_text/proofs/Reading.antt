@@ -1,26 +1,22 @@
 -- What `parse` has read is a script that is sound.
 use Rattle.std.proofs.Common.{◌≡◌, ℕ, suc, ◌≤◌, true, false, cond, eqb, List, [], ◌∷◌, length, map, Option}
-use Rattle.std.proofs.Common.{Some, None, Result, Ok, Err, IfOk, Bor, refl, sym, ap, ◌∙◌, subst, arith}
-use Rattle.std.specs.List.{All, flat_map}
+use Rattle.std.proofs.Common.{Some, None, Result, Ok, Err, Bor, refl, sym, ap, ◌∙◌, subst, arith}
 use Rattle.std.proofs.lemmas.List.{length-map}
-use Rattle.script_text.specs.declared.script.Line.{Line}
-use Rattle.script_text.specs.declared.table.Keyword.{Keyword}
 use Rattle.script_text.specs.declared.statements.NumberedStatement.{NumberedStatement as StatedSlices}
 use Rattle.script_text.specs.declared.script.BadScript.{BadScript}
 use Rattle.script_text.specs.Limits.{variable_names_most, field_names_most}
 use Rattle.script_text.specs.Lines.{onto_first, lines_of}
-use Rattle.script_text.specs.Names.{first_uses, variables_of, fields_of}
 use Rattle.script_text.specs.Scripts.{ScriptText, NumberedStatement}
-use Rattle.script_text.specs.Grammar.{stated_from, past_limit, script_of, within_limit, script_or_stop, reading_with}
+use Rattle.script_text.specs.Grammar.{stated_from, past_limit, script_of, within_limit, script_or_stop}
 use Rattle.script_text.specs.Shown.{stated_shown}
 use Rattle.script_text.specs.Whole.{IsPlaced}
-use Rattle.script_text.specs.Sound.{IsNumbered, IsMatched, IsWellFormed, IsBuilt, AreShort}
+use Rattle.script_text.specs.Sound.{IsNumbered, IsMatched, IsWellFormed, AreShort}
 use Rattle.script_text.proofs.Speaking.{stated_from-AreStated, stated_from-few}
 use Rattle.script_text.proofs.Matched.{IsMatched-placed}
 use Rattle.script_text.proofs.Nested.{nested}
 use Rattle.script_text.proofs.Placed.{lines_from-IsPlaced}
 use Rattle.script_text.proofs.ShortNames.{fields_short}
-use Rattle.script_text.proofs.Within.{script_of-IsNumbered, lines_from-IsBuilt}
+use Rattle.script_text.proofs.Within.{script_of-IsNumbered}
 
 -- a byte before the first of some pieces makes at most one piece more
 length-onto_first : (b n : ℕ) (pieces : List (List ℕ)) → length pieces ≤ n → length (onto_first b pieces) ≤ suc n
@@ -46,37 +42,35 @@ lines-few source lines e =
     omega (arith, length-lines_of source)
 
 -- at most as many statements as lines
-pub stated-few : (unbuilt : List Keyword) (lines : List (Bor (List ℕ))) (stated : List StatedSlices)
-    → stated_from unbuilt 1 [] (map (λ line. line.now) lines) ≡ Ok (map stated_shown stated)
+pub stated-few : (lines : List (Bor (List ℕ))) (stated : List StatedSlices)
+    → stated_from 1 [] (map (λ line. line.now) lines) ≡ Ok (map stated_shown stated)
     → length stated ≤ length lines
-stated-few unbuilt lines stated e =
+stated-few lines stated e =
     omega (
       arith,
-      stated_from-few unbuilt 1 [] (map (λ line. line.now) lines)
+      stated_from-few 1 [] (map (λ line. line.now) lines)
           (map stated_shown stated) e,
       length-map stated stated_shown,
       length-map lines (λ line. line.now),
     )
 
 -- the script of statements that were read is sound where it has not too many names
-pub script_of-IsWellFormed : (unbuilt : List Keyword) (lines : List (List ℕ)) (stated : List NumberedStatement)
-    (script : ScriptText)
-    → stated_from unbuilt 1 [] lines ≡ Ok stated
-    → script_of stated ≡ script → length script.variables ≤ variable_names_most
+pub script_of-IsWellFormed : (lines : List (List ℕ)) (stated : List NumberedStatement) (script : ScriptText)
+    → stated_from 1 [] lines ≡ Ok stated → script_of stated ≡ script → length script.variables ≤ variable_names_most
     → length script.fields ≤ field_names_most
     → IsWellFormed script
-script_of-IsWellFormed unbuilt lines stated script e same few_variables few_fields =
-    let are = stated_from-AreStated unbuilt 1 [] lines stated e in
+script_of-IsWellFormed lines stated script e same few_variables few_fields =
+    let are = stated_from-AreStated 1 [] lines stated e in
     let all = script_of stated in
-    let placed = lines_from-IsPlaced unbuilt all.variables all.fields stated are in
-    let open_few = λ (at : ℕ). nested unbuilt all.variables all.fields 0 [] stated 0 (omega arith) are at in
+    let placed = lines_from-IsPlaced all.variables all.fields stated are in
+    let open_few = λ (at : ℕ). nested all.variables all.fields 0 [] stated 0 (omega arith) are at in
     record {
-      numbered = subst IsNumbered same (script_of-IsNumbered unbuilt stated are);
+      numbered = subst IsNumbered same (script_of-IsNumbered stated are);
       matched = subst (λ (s : ScriptText). IsMatched s.lines) same (IsMatched-placed all.lines placed open_few);
       placed = subst (λ (s : ScriptText). IsPlaced 0 s.lines) same placed;
       few_variables = few_variables;
       few_fields = few_fields;
-      short = subst (λ (s : ScriptText). AreShort s.fields) same (fields_short unbuilt stated are);
+      short = subst (λ (s : ScriptText). AreShort s.fields) same (fields_short stated are);
     }
 
 -- the statements of a source that is read as a script
@@ -98,21 +92,3 @@ pub script-parts : (all : Result (List NumberedStatement) BadScript) (script : S
     → AreOf all script
 script-parts (Ok stated) script e = limit-parts stated (past_limit [] [] stated) script e
 script-parts (Err stop) script e = cc
-
--- a source that is read as a script has lines that are built
-pub read-IsBuilt : (unbuilt : List Keyword) (source : List ℕ) (script : ScriptText)
-    → reading_with unbuilt source ≡ Ok script → All (λ line. IsBuilt unbuilt line.what) script.lines
-read-IsBuilt unbuilt source script e =
-    let parts = script-parts (stated_from unbuilt 1 [] (lines_of source)) script e in
-    let are = stated_from-AreStated unbuilt 1 [] (lines_of source) parts.stated parts.is in
-    let vs = first_uses (flat_map (λ (s : NumberedStatement). variables_of s.statement) parts.stated) in
-    let fs = first_uses (flat_map (λ (s : NumberedStatement). fields_of s.statement) parts.stated) in
-    subst (λ s. All (λ (line : Line). IsBuilt unbuilt line.what) s.lines) parts.same
-    (lines_from-IsBuilt unbuilt 0 vs fs 0 [] parts.stated are)
-
--- so has what `parse` gives
-pub built_given : (unbuilt : List Keyword) (source : List ℕ) (read : Result ScriptText BadScript)
-    → IfOk read (λ script. reading_with unbuilt source ≡ Ok script)
-    → IfOk read (λ script. All (λ line. IsBuilt unbuilt line.what) script.lines)
-built_given unbuilt source (Ok script) e = read-IsBuilt unbuilt source script e
-built_given unbuilt source (Err stop) e = tt

@@ -4,7 +4,6 @@ use Rattle.std.proofs.Common.{fold, arith}
 use Rattle.std.specs.List.{flat_map}
 use Rattle.std.proofs.lemmas.Bool.Decides.{nat_tests}
 use Rattle.std.proofs.lemmas.List.Elements.{All-nil, All-cons, All-head, All-tail, All-append}
-use Rattle.script_text.specs.declared.table.Keyword.{Keyword}
 use Rattle.script_text.specs.declared.table.OperandKind.{OperandKind}
 use Rattle.script_text.specs.declared.table.OperandKind.TheVariants.{Variable, Field, Value, Literal}
 use Rattle.script_text.specs.Limits.{name_bytes_most}
@@ -60,17 +59,16 @@ operands_short (place ∷ places) (written ∷ operands) fits =
     (operands_short places operands fits.1)
 
 -- and those that statements name
-statements_short : (unbuilt : List Keyword) (depth : ℕ) (stated : List NumberedStatement)
-    → AreStated unbuilt depth stated
+statements_short : (depth : ℕ) (stated : List NumberedStatement) → AreStated depth stated
     → AreShort (flat_map (λ s. fields_of s.statement) stated)
-statements_short unbuilt depth [] are = All-nil IsShort
-statements_short unbuilt depth (stated ∷ more) are =
+statements_short depth [] are = All-nil IsShort
+statements_short depth (stated ∷ more) are =
     All-append IsShort (fields_of stated.statement) (flat_map (λ s. fields_of s.statement) more)
     (operands_short _ stated.statement.operands are.0.fitting)
-    (statements_short unbuilt (deeper depth stated.statement.keyword) more are.2)
+    (statements_short (deeper depth stated.statement.keyword) more are.2)
 
 -- the fields of a script have short names
-pub fields_short : (unbuilt : List Keyword) (stated : List NumberedStatement) → AreStated unbuilt 0 stated
+pub fields_short : (stated : List NumberedStatement) → AreStated 0 stated
     → AreShort (first_uses (flat_map (λ s. fields_of s.statement) stated))
-fields_short unbuilt stated are =
-    more_short [] (flat_map (λ s. fields_of s.statement) stated) (All-nil IsShort) (statements_short unbuilt 0 stated are)
+fields_short stated are =
+    more_short [] (flat_map (λ s. fields_of s.statement) stated) (All-nil IsShort) (statements_short 0 stated are)

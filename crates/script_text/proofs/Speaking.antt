@@ -1,4 +1,4 @@
--- The statements of lines that were read: each is built and fits, and the blocks are nested.
+-- The statements of lines that were read: each fits, and the blocks are nested.
 use Rattle.std.proofs.Common.{◌≡◌, ℕ, suc, ◌-◌, ◌<◌, ◌≤◌, Bool, true, false, cond, nat_lt, List, []}
 use Rattle.std.proofs.Common.{◌∷◌, length, Option, Some, None, Result, Ok, Err, refl, sym, ap, ◌∙◌, subst, arith}
 use Rattle.std.proofs.lemmas.Bool.Decides.{nat_tests}
@@ -26,11 +26,11 @@ MayStand depth keyword.End = 0 < depth
 MayStand depth other = Unit {0}
 
 -- the statements were read from lines, inside so many `repeat`s
-abbrev pub AreStated : List Keyword → ℕ → List NumberedStatement → Type 0
-AreStated unbuilt depth [] = depth ≡ 0
-AreStated unbuilt depth (stated ∷ more) =
-    IsStated unbuilt stated.statement × MayStand depth stated.statement.keyword × AreStated unbuilt
-    (deeper depth stated.statement.keyword) more
+abbrev pub AreStated : ℕ → List NumberedStatement → Type 0
+AreStated depth [] = depth ≡ 0
+AreStated depth (stated ∷ more) =
+    IsStated stated.statement × MayStand depth stated.statement.keyword
+    × AreStated (deeper depth stated.statement.keyword) more
 
 -- what `nest` has allowed
 pub record IsNested (k : Keyword) (open' inner : List ℕ) : Type 0 where
@@ -73,46 +73,46 @@ followed-parts stated (Ok rest) all e = record { rest = rest; more_is = refl; sa
 
 -- a statement that may stand where it does, and those after it
 nested-AreStated :
-    (unbuilt : List Keyword) (stated : NumberedStatement) (open' : List ℕ) (inner : Result (List ℕ) Why) (more : List ℕ
-    → Result (List NumberedStatement) BadScript) (all : List NumberedStatement) → IsStated unbuilt stated.statement
+    (stated : NumberedStatement) (open' : List ℕ) (inner : Result (List ℕ) Why) (more : List ℕ
+    → Result (List NumberedStatement) BadScript) (all : List NumberedStatement) → IsStated stated.statement
     → nest stated.number open' stated.statement.keyword ≡ inner
-    → ((deep : List ℕ) (rest : List NumberedStatement) → more deep ≡ Ok rest → AreStated unbuilt (length deep) rest)
-    → nested stated inner more ≡ Ok all → AreStated unbuilt (length open') all
-nested-AreStated unbuilt stated open' (Err reason) more all is n step e = cc
-nested-AreStated unbuilt stated open' (Ok inner) more all is n step e =
+    → ((deep : List ℕ) (rest : List NumberedStatement) → more deep ≡ Ok rest → AreStated (length deep) rest)
+    → nested stated inner more ≡ Ok all → AreStated (length open') all
+nested-AreStated stated open' (Err reason) more all is n step e = cc
+nested-AreStated stated open' (Ok inner) more all is n step e =
     let parts = followed-parts stated (more inner) all e in
     let nests = nest-IsNested stated.number open' stated.statement.keyword inner n in
     let later = step inner parts.rest parts.more_is in
-    subst (AreStated unbuilt (length open')) parts.same
-    (is, nests.may, subst (λ depth. AreStated unbuilt depth parts.rest) nests.deep later)
+    subst (AreStated (length open')) parts.same
+    (is, nests.may, subst (λ depth. AreStated depth parts.rest) nests.deep later)
 
 -- a line, and the statements after it
 stated_then-AreStated :
-    (unbuilt : List Keyword) (number : ℕ) (open' : List ℕ) (first : Result (Option Statement) Why) (more : List ℕ
+    (number : ℕ) (open' : List ℕ) (first : Result (Option Statement) Why) (more : List ℕ
     → Result (List NumberedStatement) BadScript) (all : List NumberedStatement) → ((statement : Statement)
     → first ≡ Ok (Some statement)
-    → IsStated unbuilt statement)
-    → ((deep : List ℕ) (rest : List NumberedStatement) → more deep ≡ Ok rest → AreStated unbuilt (length deep) rest)
-    → stated_then number open' first more ≡ Ok all → AreStated unbuilt (length open') all
-stated_then-AreStated unbuilt number open' (Err reason) more all is step e = cc
-stated_then-AreStated unbuilt number open' (Ok None) more all is step e = step open' all e
-stated_then-AreStated unbuilt number open' (Ok (Some statement)) more all is step e =
-    nested-AreStated unbuilt (record { number = number; statement = statement }) open'
+    → IsStated statement)
+    → ((deep : List ℕ) (rest : List NumberedStatement) → more deep ≡ Ok rest → AreStated (length deep) rest)
+    → stated_then number open' first more ≡ Ok all → AreStated (length open') all
+stated_then-AreStated number open' (Err reason) more all is step e = cc
+stated_then-AreStated number open' (Ok None) more all is step e = step open' all e
+stated_then-AreStated number open' (Ok (Some statement)) more all is step e =
+    nested-AreStated (record { number = number; statement = statement }) open'
     (nest number open' statement.keyword) more all (is statement refl) refl step e
 
 -- the statements of lines were read from them
 pub stated_from-AreStated :
-    (unbuilt : List Keyword) (number : ℕ) (open' : List ℕ) (lines : List (List ℕ)) (all : List NumberedStatement)
-    → stated_from unbuilt number open' lines ≡ Ok all → AreStated unbuilt (length open') all
-stated_from-AreStated unbuilt number [] [] all e =
+    (number : ℕ) (open' : List ℕ) (lines : List (List ℕ)) (all : List NumberedStatement)
+    → stated_from number open' lines ≡ Ok all → AreStated (length open') all
+stated_from-AreStated number [] [] all e =
     let same : [] ≡ all = cc in
-    subst (AreStated unbuilt 0) same refl
-stated_from-AreStated unbuilt number (innermost ∷ outer) [] all e = cc
-stated_from-AreStated unbuilt number open' (line ∷ lines) all e =
-    stated_then-AreStated unbuilt number open' (statement_of_line unbuilt line)
-    (λ inner. stated_from unbuilt (suc number) inner lines) all
-    (λ statement h. statement_of_line-IsStated line statement unbuilt h)
-    (λ deep rest h. stated_from-AreStated unbuilt (suc number) deep lines rest h) e
+    subst (AreStated 0) same refl
+stated_from-AreStated number (innermost ∷ outer) [] all e = cc
+stated_from-AreStated number open' (line ∷ lines) all e =
+    stated_then-AreStated number open' (statement_of_line line)
+    (λ inner. stated_from (suc number) inner lines) all
+    (λ statement h. statement_of_line-IsStated line statement h)
+    (λ deep rest h. stated_from-AreStated (suc number) deep lines rest h) e
 
 -- a statement before others is one more
 followed-few : (n : ℕ) (stated : NumberedStatement) (more : Result (List NumberedStatement) BadScript)
@@ -141,13 +141,13 @@ then-few n number open' (Ok (Some statement)) more all h e =
 
 -- there are at most as many statements as lines
 pub stated_from-few :
-    (unbuilt : List Keyword) (number : ℕ) (open' : List ℕ) (lines : List (List ℕ)) (all : List NumberedStatement)
-    → stated_from unbuilt number open' lines ≡ Ok all → length all ≤ length lines
-stated_from-few unbuilt number [] [] all e =
+    (number : ℕ) (open' : List ℕ) (lines : List (List ℕ)) (all : List NumberedStatement)
+    → stated_from number open' lines ≡ Ok all → length all ≤ length lines
+stated_from-few number [] [] all e =
     let same : [] ≡ all = cc in
     omega (arith, ap length same)
-stated_from-few unbuilt number (innermost ∷ outer) [] all e = cc
-stated_from-few unbuilt number open' (line ∷ lines) all e =
-    then-few (length lines) number open' (statement_of_line unbuilt line)
-    (λ inner. stated_from unbuilt (suc number) inner lines) all
-    (λ deep rest h. stated_from-few unbuilt (suc number) deep lines rest h) e
+stated_from-few number (innermost ∷ outer) [] all e = cc
+stated_from-few number open' (line ∷ lines) all e =
+    then-few (length lines) number open' (statement_of_line line)
+    (λ inner. stated_from (suc number) inner lines) all
+    (λ deep rest h. stated_from-few (suc number) deep lines rest h) e

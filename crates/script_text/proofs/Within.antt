@@ -1,7 +1,7 @@
 -- The lines of statements name only variables and fields that have a number.
 use Rattle.std.proofs.Common.{◌≡◌, ℕ, zero, suc, ◌<◌, ◌≤◌, List, [], ◌∷◌, ◌++◌, length, map}
-use Rattle.std.proofs.Common.{slice_get, Some, false, refl, sym, subst, arith}
-use Rattle.std.specs.List.{All, Contains, flat_map, list_any}
+use Rattle.std.proofs.Common.{slice_get, Some, refl, subst, arith}
+use Rattle.std.specs.List.{All, Contains, flat_map}
 use Rattle.std.proofs.lemmas.List.Elements.{All-cons, Contains-append_left, Contains-append_right}
 use Rattle.heap_command.specs.Commands.{cap_most, NamesBelow}
 use Rattle.script_text.specs.declared.commands.Argument.{Argument}
@@ -12,14 +12,14 @@ use Rattle.script_text.specs.declared.table.OperandKind.TheVariants as place
 use Rattle.script_text.specs.declared.script.Line.{Line}
 use Rattle.script_text.specs.declared.script.What.{What}
 use Rattle.script_text.specs.Limits.{turns_most}
-use Rattle.script_text.specs.Table.{places_of, same_keyword}
+use Rattle.script_text.specs.Table.{places_of}
 use Rattle.script_text.specs.Statements.{RawOperand, variable, field, literal, integer, undefined, bound}
 use Rattle.script_text.specs.Names.{number_of_name, variable_in, field_in, variables_of, fields_of, first_uses}
 use Rattle.script_text.specs.Scripts.{NumberedStatement, argument_of, argument_at, as_variable, as_field, as_literal}
 use Rattle.script_text.specs.Scripts.{as_value}
 use Rattle.script_text.specs.Scripts.{what_of, end_after}
 use Rattle.script_text.specs.Grammar.{lines_from, open_after, innermost_of, script_of}
-use Rattle.script_text.specs.Sound.{NamesWithin, IsNumbered, keyword_of, IsBuilt}
+use Rattle.script_text.specs.Sound.{NamesWithin, IsNumbered}
 use Rattle.script_text.proofs.Fits.{Fits, AllFit}
 use Rattle.script_text.proofs.Speaking.{AreStated, deeper}
 use Rattle.script_text.proofs.Numbers.{number_of_name-lt, Contains-first_uses}
@@ -143,13 +143,12 @@ what_of-NamesWithin variables fields ends repeats k arguments suits = tt
 
 -- the lines of statements that were read name only what has a number
 pub lines_from-NamesWithin :
-    (unbuilt : List Keyword) (depth : ℕ) (variables fields : List (List ℕ)) (at : ℕ) (open' : List ℕ)
-    (xs : List NumberedStatement)
-    → AreStated unbuilt depth xs → AreIn variables (flat_map (λ s. variables_of s.statement) xs)
+    (depth : ℕ) (variables fields : List (List ℕ)) (at : ℕ) (open' : List ℕ) (xs : List NumberedStatement)
+    → AreStated depth xs → AreIn variables (flat_map (λ s. variables_of s.statement) xs)
     → AreIn fields (flat_map (λ s. fields_of s.statement) xs)
     → All (λ line. NamesWithin (length variables) (length fields) line.what) (lines_from variables fields at open' xs)
-lines_from-NamesWithin unbuilt depth variables fields at open' [] h vs fs = λ k d lt. absurd (omega (arith, lt))
-lines_from-NamesWithin unbuilt depth variables fields at open' (stated ∷ more) h vs fs =
+lines_from-NamesWithin depth variables fields at open' [] h vs fs = λ k d lt. absurd (omega (arith, lt))
+lines_from-NamesWithin depth variables fields at open' (stated ∷ more) h vs fs =
     let statement = stated.statement in
     let vs_more = flat_map (λ (s : NumberedStatement). variables_of s.statement) more in
     let fs_more = flat_map (λ (s : NumberedStatement). fields_of s.statement) more in
@@ -160,38 +159,14 @@ lines_from-NamesWithin unbuilt depth variables fields at open' (stated ∷ more)
     (lines_from variables fields (suc at) (open_after at open' statement.keyword) more)
     (what_of-NamesWithin variables fields (end_after 0 (suc at) more) (innermost_of open') statement.keyword
     (arguments_of variables fields statement.operands) suits)
-    (lines_from-NamesWithin unbuilt (deeper depth statement.keyword) variables fields (suc at)
+    (lines_from-NamesWithin (deeper depth statement.keyword) variables fields (suc at)
     (open_after at open' statement.keyword) more h.2
     (AreIn-right variables (variables_of statement) vs_more vs) (AreIn-right fields (fields_of statement) fs_more fs))
 
 -- a script that was read is numbered
-pub script_of-IsNumbered : (unbuilt : List Keyword) (xs : List NumberedStatement) → AreStated unbuilt 0 xs
-    → IsNumbered (script_of xs)
-script_of-IsNumbered unbuilt xs h =
+pub script_of-IsNumbered : (xs : List NumberedStatement) → AreStated 0 xs → IsNumbered (script_of xs)
+script_of-IsNumbered xs h =
     let vs = flat_map (λ (s : NumberedStatement). variables_of s.statement) xs in
     let fs = flat_map (λ (s : NumberedStatement). fields_of s.statement) xs in
-    lines_from-NamesWithin unbuilt 0 (first_uses vs) (first_uses fs) 0 [] xs h
+    lines_from-NamesWithin 0 (first_uses vs) (first_uses fs) 0 [] xs h
     (record { each = Contains-first_uses vs }) (record { each = Contains-first_uses fs })
-
--- what a command does is of this command
-pub keyword_of-what_of : (ends repeats : ℕ) (k : Keyword) (a b c : Argument)
-    → keyword_of (what_of ends repeats k a b c) ≡ k
-keyword_of-what_of ends repeats keyword.New a b c = refl
-keyword_of-what_of ends repeats other a b c = refl
-
--- the lines of statements that were read are built
-pub lines_from-IsBuilt :
-    (unbuilt : List Keyword) (depth : ℕ) (variables fields : List (List ℕ)) (at : ℕ) (open' : List ℕ)
-    (xs : List NumberedStatement)
-    → AreStated unbuilt depth xs → All (λ line. IsBuilt unbuilt line.what) (lines_from variables fields at open' xs)
-lines_from-IsBuilt unbuilt depth variables fields at open' [] h = λ k d lt. absurd (omega (arith, lt))
-lines_from-IsBuilt unbuilt depth variables fields at open' (stated ∷ more) h =
-    let k = stated.statement.keyword in
-    let arguments = arguments_of variables fields stated.statement.operands in
-    let same =
-    keyword_of-what_of (end_after 0 (suc at) more) (innermost_of open') k (argument_at arguments 0)
-    (argument_at arguments 1) (argument_at arguments 2) in
-    All-cons (λ (line : Line). IsBuilt unbuilt line.what) _
-    (lines_from variables fields (suc at) (open_after at open' k) more)
-    (subst (λ word. list_any (same_keyword word) unbuilt ≡ false) (sym same) h.0.built)
-    (lines_from-IsBuilt unbuilt (deeper depth k) variables fields (suc at) (open_after at open' k) more h.2)

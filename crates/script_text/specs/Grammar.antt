@@ -5,13 +5,12 @@ use Rattle.script_text.specs.declared.table.Keyword.{Keyword}
 use Rattle.script_text.specs.declared.table.Keyword.TheVariants as keyword
 use Rattle.script_text.specs.declared.script.Line.{Line}
 use Rattle.script_text.specs.declared.script.Why.{Why}
-use Rattle.script_text.specs.declared.script.Why.TheVariants.{Long, Command, NotBuilt, Count, Name, Integer, Value}
+use Rattle.script_text.specs.declared.script.Why.TheVariants.{Long, Command, Count, Name, Integer, Value}
 use Rattle.script_text.specs.declared.script.Why.TheVariants.{Nesting, End, Open}
 use Rattle.script_text.specs.declared.script.BadScript.{BadScript}
 use Rattle.script_text.specs.declared.script.BadScript.TheVariants.{BadLine, TooManyNames}
 use Rattle.script_text.specs.Limits.{open_most, variable_names_most, field_names_most}
 use Rattle.script_text.specs.Lines.{lines_of}
-use Rattle.script_text.specs.Table.{unbuilt_keywords}
 use Rattle.script_text.specs.Statements.{Statement, statement_of_line}
 use Rattle.script_text.specs.Names.{first_uses, with_name, variables_of, fields_of}
 use Rattle.script_text.specs.Scripts.{ScriptText, NumberedStatement, what_in, end_after}
@@ -20,7 +19,6 @@ use Rattle.script_text.specs.Scripts.{ScriptText, NumberedStatement, what_in, en
 abbrev pub why_text : Why → List ℕ
 why_text Long = codes "long"
 why_text Command = codes "command"
-why_text NotBuilt = codes "notbuilt"
 why_text Count = codes "count"
 why_text Name = codes "name"
 why_text Integer = codes "integer"
@@ -63,10 +61,10 @@ closed [] = Ok []
 closed (innermost ∷ outer) = Err (BadLine innermost Open)
 
 -- The statements of lines, the first with this number, inside the `repeat`s that are open; or the line that is refused.
-abbrev pub stated_from : List Keyword → ℕ → List ℕ → List (List ℕ) → Result (List NumberedStatement) BadScript
-stated_from unbuilt number open' [] = closed open'
-stated_from unbuilt number open' (line ∷ lines) =
-    stated_then number open' (statement_of_line unbuilt line) (λ inner. stated_from unbuilt (suc number) inner lines)
+abbrev pub stated_from : ℕ → List ℕ → List (List ℕ) → Result (List NumberedStatement) BadScript
+stated_from number open' [] = closed open'
+stated_from number open' (line ∷ lines) =
+    stated_then number open' (statement_of_line line) (λ inner. stated_from (suc number) inner lines)
 
 -- the first line that, with those before it, has too many names; these were there before
 abbrev pub past_limit : List (List ℕ) → List (List ℕ) → List NumberedStatement → Option ℕ
@@ -114,10 +112,6 @@ abbrev pub script_or_stop : Result (List NumberedStatement) BadScript → Result
 script_or_stop (Ok stated) = within_limit stated (past_limit [] [] stated)
 script_or_stop (Err stop) = Err stop
 
--- What a source is read as, where these commands are not built. Lines are numbered from 1.
-abbrev pub reading_with : List Keyword → List ℕ → Result ScriptText BadScript
-reading_with unbuilt source = script_or_stop (stated_from unbuilt 1 [] (lines_of source))
-
--- what a source is read as, with the commands that are built
+-- What a source is read as. Lines are numbered from 1.
 abbrev pub reading : List ℕ → Result ScriptText BadScript
-reading source = reading_with unbuilt_keywords source
+reading source = script_or_stop (stated_from 1 [] (lines_of source))

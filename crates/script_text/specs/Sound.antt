@@ -1,21 +1,16 @@
 -- What holds of each script that was read.
-use Rattle.std.specs.Prelude.{◌≡◌, ℕ, suc, ◌-◌, ◌<◌, ◌≤◌, List as Row, [], ◌∷◌, All, length, take}
-use Rattle.std.specs.Prelude.{slice_get, false, option_map, Option, Some}
-use Rattle.std.specs.List.{list_any}
-use Rattle.heap_command.specs.declared.command.Command.TheVariants as command
+use Rattle.std.specs.Prelude.{◌≡◌, ℕ, suc, ◌-◌, ◌<◌, ◌≤◌, List, [], ◌∷◌, All, length, take}
+use Rattle.std.specs.Prelude.{slice_get, option_map, Option, Some}
 use Rattle.heap_command.specs.Commands.{IsWithin}
-use Rattle.script_text.specs.declared.table.Keyword.{Keyword}
-use Rattle.script_text.specs.declared.table.Keyword.TheVariants as keyword
 use Rattle.script_text.specs.declared.script.Line.{Line}
 use Rattle.script_text.specs.declared.script.What.{What}
 use Rattle.script_text.specs.declared.script.What.TheVariants.{Run, Repeat, End}
-use Rattle.script_text.specs.Table.{same_keyword}
 use Rattle.script_text.specs.Scripts.{ScriptText}
 use Rattle.script_text.specs.Limits.{turns_most, open_most, variable_names_most, field_names_most, name_bytes_most}
 use Rattle.script_text.specs.Whole.{IsPlaced}
 
 -- a script of these lines, variables and fields
-abbrev pub script_text : Row Line → Row (Row ℕ) → Row (Row ℕ) → ScriptText
+abbrev pub script_text : List Line → List (List ℕ) → List (List ℕ) → ScriptText
 script_text lines variables fields = record { lines = lines; variables = variables; fields = fields }
 
 -- the line names variables and fields below these counts, a cap is at most 8, and a `repeat` makes no more than the
@@ -30,7 +25,7 @@ abbrev pub IsNumbered : ScriptText → Type 0
 IsNumbered script = All (λ line. NamesWithin (length script.variables) (length script.fields) line.what) script.lines
 
 -- what the line at a place, counted from 0, does
-abbrev pub what_at : Row Line → ℕ → Option What
+abbrev pub what_at : List Line → ℕ → Option What
 what_at lines at = option_map (λ line. line.what) (slice_get lines at)
 
 -- how many `repeat`s are open after a line
@@ -40,13 +35,13 @@ depth_after depth (Repeat times end_at) = suc depth
 depth_after depth (End repeat_at) = depth - 1
 
 -- how many are open after some lines
-abbrev pub depth_of : ℕ → Row Line → ℕ
+abbrev pub depth_of : ℕ → List Line → ℕ
 depth_of depth [] = depth
 depth_of depth (line ∷ lines) = depth_of (depth_after depth line.what) lines
 
 -- Each `repeat` names the place of its `end`, below it, and each `end` that of its `repeat`, above it. At most four are
 -- open.
-pub record IsMatched (lines : Row Line) : Type 0 where
+pub record IsMatched (lines : List Line) : Type 0 where
   pub repeats : (at times end_at : ℕ) → what_at lines at ≡ Some (Repeat times end_at)
       → (at < end_at) × (what_at lines end_at ≡ Some (End at))
   pub ends : (at repeat_at : ℕ) → what_at lines at ≡ Some (End repeat_at)
@@ -58,7 +53,7 @@ pub record IsMatched (lines : Row Line) : Type 0 where
   pub closed : depth_of 0 lines ≡ 0
 
 -- the names have at most 32 bytes each
-abbrev pub AreShort : Row (Row ℕ) → Type 0
+abbrev pub AreShort : List (List ℕ) → Type 0
 AreShort names = All (λ name. length name ≤ name_bytes_most) names
 
 -- The lines name only what the script has, each `repeat` has its `end`, there are not too many names, and those of
@@ -70,38 +65,3 @@ pub record IsWellFormed (script : ScriptText) : Type 0 where
   pub few_variables : length script.variables ≤ variable_names_most
   pub few_fields : length script.fields ≤ field_names_most
   pub short : AreShort script.fields
-
--- the command of a line
-abbrev pub keyword_of : What → Keyword
-keyword_of (Run (command.New x cap)) = keyword.New
-keyword_of (Run (command.List x)) = keyword.List
-keyword_of (Run (command.Weak x)) = keyword.Weak
-keyword_of (Run (command.LetValue x v)) = keyword.Let
-keyword_of (Run (command.DropVar x)) = keyword.Drop
-keyword_of (Run (command.Add x v)) = keyword.Add
-keyword_of (Run (command.Set x f v)) = keyword.Set
-keyword_of (Run (command.Get y x f)) = keyword.Get
-keyword_of (Run (command.Del x f)) = keyword.Del
-keyword_of (Run (command.Push x v)) = keyword.Push
-keyword_of (Run (command.Put x i v)) = keyword.Put
-keyword_of (Run (command.At y x i)) = keyword.At
-keyword_of (Run (command.Shift x n)) = keyword.Shift
-keyword_of (Run (command.Trunc x n)) = keyword.Trunc
-keyword_of (Run (command.WPut m k v)) = keyword.WPut
-keyword_of (Run (command.WGet y m k)) = keyword.WGet
-keyword_of (Run (command.WDel m k)) = keyword.WDel
-keyword_of (Run (command.Print v)) = keyword.Print
-keyword_of (Run (command.Same a b)) = keyword.Same
-keyword_of (Run (command.Alike x y)) = keyword.Alike
-keyword_of (Run (command.Shape x)) = keyword.Shape
-keyword_of (Run command.Scavenge) = keyword.Scavenge
-keyword_of (Run command.Mark) = keyword.Mark
-keyword_of (Run command.Finish) = keyword.Finish
-keyword_of (Run command.Gc) = keyword.Gc
-keyword_of (Run command.Census) = keyword.Census
-keyword_of (Repeat times end_at) = keyword.Repeat
-keyword_of (End repeat_at) = keyword.End
-
--- the command of the line is none of these
-abbrev pub IsBuilt : Row Keyword → What → Type 0
-IsBuilt unbuilt what = list_any (same_keyword (keyword_of what)) unbuilt ≡ false

@@ -1,7 +1,6 @@
 -- A line as a statement: a keyword with operands, whose names are still as they are written.
 use Rattle.std.specs.Prelude.{ℕ, List, [], ◌∷◌, length, Option, Some, None, Result, Ok, Err, ℤ, pos, negsuc, ◌==◌}
 use Rattle.std.specs.Prelude.{nat_le, nat_lt, codes, bytes_eq, if◌then◌else◌}
-use Rattle.std.specs.List.{list_any}
 use Rattle.script_text.specs.declared.table.Keyword.{Keyword}
 use Rattle.script_text.specs.declared.table.OperandKind.{OperandKind}
 use Rattle.script_text.specs.declared.table.OperandKind.TheVariants as place
@@ -10,7 +9,7 @@ use Rattle.script_text.specs.declared.script.Why.TheVariants as why
 use Rattle.script_text.specs.Limits.{line_bytes_most}
 use Rattle.script_text.specs.Lines.{tokens_of}
 use Rattle.script_text.specs.Tokens.{is_name, integer_of}
-use Rattle.script_text.specs.Table.{keywords, keyword_among, same_keyword, places_of}
+use Rattle.script_text.specs.Table.{keywords, keyword_among, places_of}
 
 -- an operand as it is written: the name of a variable or of a field, a literal, or a value
 pub data RawOperand : Type 0 where
@@ -68,18 +67,17 @@ with_operands keyword tokens =
     if length tokens == length (places_of keyword) then statement_with keyword (written_all (places_of keyword) tokens)
     else Err why.Count
 
--- the statement of a command that was found, where it is built
-abbrev pub if_built : List Keyword → List (List ℕ) → Option Keyword → Result (Option Statement) Why
-if_built unbuilt tokens None = Err why.Command
-if_built unbuilt tokens (Some keyword) =
-    if list_any (same_keyword keyword) unbuilt then Err why.NotBuilt else with_operands keyword tokens
+-- a command with these tokens as its operands, where there is one
+abbrev pub if_command : List (List ℕ) → Option Keyword → Result (Option Statement) Why
+if_command tokens None = Err why.Command
+if_command tokens (Some keyword) = with_operands keyword tokens
 
--- the statement of some tokens, where these commands are not built; nothing where there are no tokens
-abbrev pub statement_of : List Keyword → List (List ℕ) → Result (Option Statement) Why
-statement_of unbuilt [] = Ok None
-statement_of unbuilt (first ∷ tokens) = if_built unbuilt tokens (keyword_among keywords first)
+-- the statement of some tokens; nothing where there are no tokens
+abbrev pub statement_of : List (List ℕ) → Result (Option Statement) Why
+statement_of [] = Ok None
+statement_of (first ∷ tokens) = if_command tokens (keyword_among keywords first)
 
 -- the statement of a line, or why the line is refused whatever stands before it
-abbrev pub statement_of_line : List Keyword → List ℕ → Result (Option Statement) Why
-statement_of_line unbuilt line =
-    if nat_lt line_bytes_most (length line) then Err why.Long else statement_of unbuilt (tokens_of line)
+abbrev pub statement_of_line : List ℕ → Result (Option Statement) Why
+statement_of_line line =
+    if nat_lt line_bytes_most (length line) then Err why.Long else statement_of (tokens_of line)

@@ -1,5 +1,5 @@
 -- The table of the commands: the word of each, and what its operands are.
-use Rattle.std.specs.Prelude.{ℕ, Bool, Option, Some, None, codes, bytes_eq, if◌then◌else◌, List as Row, [], ◌∷◌}
+use Rattle.std.specs.Prelude.{ℕ, Option, Some, None, codes, bytes_eq, if◌then◌else◌, List as Row, [], ◌∷◌}
 use Rattle.heap_command.specs.Commands.{cap_most}
 use Rattle.script_text.specs.Limits.{turns_most}
 use Rattle.script_text.specs.declared.table.Keyword.{Keyword}
@@ -79,11 +79,3 @@ abbrev pub keyword_among : Row Keyword → Row ℕ → Option Keyword
 keyword_among [] token = None
 keyword_among (keyword ∷ more) token =
     if bytes_eq token (keyword_text keyword) then Some keyword else keyword_among more token
-
--- two commands have the same word
-abbrev pub same_keyword : Keyword → Keyword → Bool
-same_keyword a b = bytes_eq (keyword_text a) (keyword_text b)
-
--- the commands that are not built
-abbrev pub unbuilt_keywords : Row Keyword
-unbuilt_keywords = Mark ∷ Finish ∷ []

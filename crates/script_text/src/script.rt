@@ -16,8 +16,6 @@ pub enum Why {
     Long,
     /// Its first word is no command.
     Command,
-    /// The command is not built.
-    NotBuilt,
     /// It has another number of operands.
     Count,
     /// An operand has to be a name.
@@ -42,7 +40,6 @@ impl Why {
         match self {
             Why::Long => "long",
             Why::Command => "command",
-            Why::NotBuilt => "notbuilt",
             Why::Count => "count",
             Why::Name => "name",
             Why::Integer => "integer",

@@ -11,7 +11,7 @@ ghost use Rattle.script_text.specs.Shown.{shown, statement_shown};
 use crate::cursor::Tokens;
 use crate::limits::LINE_BYTES_MOST;
 use crate::script::Why;
-use crate::table::{Keyword, OperandKind, PLACES_MOST, is_among, keyword_of, places};
+use crate::table::{Keyword, OperandKind, PLACES_MOST, keyword_of, places};
 use crate::tokens::{integer_of, is_name};
 
 /// An operand as it is written.
@@ -49,14 +49,11 @@ impl<'s> Statement<'s> {
     }
 }
 
-/// The statement of a line, where these commands are not built; nothing where the line has no token.
-pub(crate) fn statement_of_line<'s>(
-    unbuilt: &[Keyword],
-    line: &'s [u8],
-) -> Result<Option<Statement<'s>>, Why>
+/// The statement of a line; nothing where the line has no token.
+pub(crate) fn statement_of_line<'s>(line: &'s [u8]) -> Result<Option<Statement<'s>>, Why>
     ensures statement { IfOk result (λ statement.
-        statement_of_line unbuilt.now line.now ≡ Ok (option_map statement_shown statement)) }
-    ensures refused { IfErr result (λ why. statement_of_line unbuilt.now line.now ≡ Err why) }
+        statement_of_line line.now ≡ Ok (option_map statement_shown statement)) }
+    ensures refused { IfErr result (λ why. statement_of_line line.now ≡ Err why) }
 {
     // Where several reasons hold, the first in this order is told.
     if line.len() > LINE_BYTES_MOST {
@@ -69,9 +66,6 @@ pub(crate) fn statement_of_line<'s>(
     let Some(keyword) = keyword_of(first) else {
         return Err(Why::Command);
     };
-    if is_among(keyword, unbuilt) {
-        return Err(Why::NotBuilt);
-    }
     Ok(Some(with_operands(keyword, tokens)?))
 }
 

@@ -23,22 +23,21 @@ pub(crate) struct NumberedStatement<'s> {
 /// The statements of the lines, or the line that is refused.
 pub(crate) fn statements_of<'s>(
     alloc: Global,
-    unbuilt: &[Keyword],
     lines: &[&'s [u8]],
 ) -> Result<Vec<NumberedStatement<'s>>, BadScript>
     requires { length lines.now < 2 ^ 32 }
     ensures stated { IfOk result (λ stated.
-        stated_from unbuilt.now 1 [] (map (λ line. line.now) lines.now)
+        stated_from 1 [] (map (λ line. line.now) lines.now)
         ≡ Ok (map stated_shown stated.items)) }
     ensures refused { IfErr result (λ stop.
-        IsBad (stated_from unbuilt.now 1 [] (map (λ line. line.now) lines.now)) stop) }
+        IsBad (stated_from 1 [] (map (λ line. line.now) lines.now)) stop) }
 {
     let mut statements = Statements {
         stated: Vec::new(alloc),
         opened: Stack::new(alloc),
     };
     for (i, line) in lines.iter().enumerate() {
-        statements.hear(unbuilt, i as u32 + 1, line)?;
+        statements.hear(i as u32 + 1, line)?;
     }
     statements.close()
 }
@@ -52,17 +51,17 @@ struct Statements<'s> {
 
 impl<'s> Statements<'s> {
     /// Reads the line with this number behind the others.
-    fn hear(&mut self, unbuilt: &[Keyword], number: u32, line: &'s [u8]) -> Result<(), BadScript>
+    fn hear(&mut self, number: u32, line: &'s [u8]) -> Result<(), BadScript>
         ensures said { OnOk result ((rest : List (List ℕ)) →
             gathered (map stated_shown self.new.stated.items)
-            (stated_from unbuilt.now (number + 1) self.new.opened rest)
+            (stated_from (number + 1) self.new.opened rest)
             ≡ gathered (map stated_shown self.old.stated.items)
-            (stated_from unbuilt.now number self.old.opened (line.now ∷ rest))) }
+            (stated_from number self.old.opened (line.now ∷ rest))) }
         ensures refused { IfErr result (λ stop. (rest : List (List ℕ)) → IsBad
             (gathered (map stated_shown self.old.stated.items)
-            (stated_from unbuilt.now number self.old.opened (line.now ∷ rest))) stop) }
+            (stated_from number self.old.opened (line.now ∷ rest))) stop) }
     {
-        let statement = match statement_of_line(unbuilt, line) {
+        let statement = match statement_of_line(line) {
             Ok(Some(statement)) => statement,
             Ok(None) => return Ok(()),
             Err(why) => return Err(BadScript::BadLine { line: number, why }),

@@ -1,13 +1,12 @@
 //! The table of the commands: the word of each, and what its operands are.
 ghost use Rattle.std.specs.Prelude.{◌≡◌, ◌≤◌, length};
-ghost use Rattle.std.specs.List.{list_any};
-ghost use Rattle.script_text.specs.Table.{keyword_text, keywords, keyword_among, same_keyword, places_of};
+ghost use Rattle.script_text.specs.Table.{keyword_text, keywords, keyword_among, places_of};
 
 use crate::limits::TURNS_MOST;
 use heap_command::CAP_MOST;
 
 /// The first word of a line.
-#[derive(Clone, Copy, PartialEq, Eq)]
+#[derive(Clone, Copy)]
 pub enum Keyword {
     New,
     List,
@@ -55,9 +54,6 @@ pub enum OperandKind {
 /// The most operands of a command.
 pub(crate) const PLACES_MOST: usize = 3;
 
-/// The commands that are not built.
-pub(crate) const UNBUILT_KEYWORDS: &[Keyword] = &[Keyword::Mark, Keyword::Finish];
-
 /// The command with this word.
 pub(crate) fn keyword_of(token: &[u8]) -> Option<Keyword>
     ensures { result ≡ keyword_among keywords token.now }
@@ -68,13 +64,6 @@ pub(crate) fn keyword_of(token: &[u8]) -> Option<Keyword>
         }
     }
     None
-}
-
-/// Whether the command is one of these.
-pub(crate) fn is_among(keyword: Keyword, keywords: &[Keyword]) -> bool
-    ensures { result ≡ list_any (same_keyword keyword) keywords.now }
-{
-    keywords.iter().any(|other| keyword == *other)
 }
 
 /// What the operands of a command are, in order.

@@ -193,7 +193,7 @@ fn put_own(main: &mut Main, object: u32, offset: u32, content: SlotContent)
 }
 
 /// The field comes to the next slot of the property store.
-#[inline(never)]
+#[inline(always)]
 fn add_to_store(
     main: &mut Main,
     object: u32,
@@ -222,7 +222,7 @@ fn add_to_store(
 }
 
 /// The field comes to the next slot of a store that takes the place of one that is full.
-#[inline(never)]
+#[inline(always)]
 fn add_to_new_store(
     main: &mut Main,
     object: u32,

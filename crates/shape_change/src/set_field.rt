@@ -132,7 +132,7 @@ fn blacken_for(main: &mut Main, object: u32, filling: SlotWrite)
 ///
 /// # Errors
 /// There may not be as many paths; there is no room for a box. In this order; nothing has changed.
-#[inline(never)]
+#[inline(always)]
 fn set_wider(
     main: &mut Main,
     object: u32,
@@ -158,7 +158,7 @@ fn set_wider(
 }
 
 /// The slot at a place of a plain object comes to hold this, by a filling: a box is made or written.
-#[inline(never)]
+#[inline(always)]
 fn set_by_filling(
     main: &mut Main,
     object: u32,

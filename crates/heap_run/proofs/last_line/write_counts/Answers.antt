@@ -10,7 +10,8 @@ returns-in_err-write_head-clause-stopped g c =
 pub returns-in_err-write_head-2-clause-stopped : goal.returns-in_err-write_head-2-clause-stopped
 returns-in_err-write_head-2-clause-stopped g c =
     OnErr-any c.from_residual-in_err-write_head-2.result _
-    (AppendsSome-longer _ (AppendsSome-append c.in_ok-write_head.ensures.appended c.in_err-write_head-2.ensures.stopped))
+    (AppendsSome-longer _ (AppendsSome-append c.in_ok-write_head.ensures.appended
+    c.in_err-write_head-2.ensures.stopped))
 
 pub returns-clause-appended : goal.returns-clause-appended
 returns-clause-appended g c =

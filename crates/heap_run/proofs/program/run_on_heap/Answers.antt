@@ -3,17 +3,11 @@ use Rattle.std.proofs.lemmas.Bool.{cases_eq}
 use Rattle.heap_model.specs.Heaps.{Heap}
 use Rattle.heap_model.specs.Images.{image_heap}
 use Rattle.write_barrier.specs.MutatorState.{heap_of}
-use Rattle.live_cells.proofs.DeadWords.{no_run_fits_none}
-use Rattle.collector.proofs.ImagesShow.{images_show, images_are_blank}
-use Rattle.collector.proofs.ImageStores.{images_keep_stores, images_have_rooms}
-use Rattle.collector.proofs.ImagesTight.{images_are_tight}
-use Rattle.collector.proofs.ImagesFree.{images_keep_free}
-use Rattle.collector.proofs.ImagesStuck.{images_stay_stuck}
-use Rattle.collector.proofs.ImagesExact.{images_are_exact, images_keep_dead}
+use Rattle.collector.proofs.ImagesShow.{images_are_blank}
 use Rattle.heap_script.specs.Inspecting.{counts_at_end}
 use Rattle.heap_run.specs.Texts.{sink_fault_status}
 use Rattle.heap_run.proofs.Concluding.{IsKeepable, Runs-finished}
-use Rattle.heap_run.proofs.Imaged.{Laws, finishes_imaged}
+use Rattle.heap_run.proofs.Imaged.{laws_hold, finishes_imaged}
 use Rattle.heap_run.proofs.program.run_on_heap.Goals as goal
 
 pub returns : goal.returns
@@ -26,25 +20,15 @@ returns g c = λ bytes is.
     let heap : Heap = heap_of c.run_script-finished.new.heap.main in
     let image = c.into_image.result in
     let imaged = c.into_image.ensures in
-    let laws : Laws = record {
-      show = images_show;
-      stores = images_keep_stores;
-      rooms = images_have_rooms;
-      tight = images_are_tight;
-      free = images_keep_free;
-      stuck = images_stay_stuck;
-      exact = images_are_exact;
-      dead = images_keep_dead;
-      nowhere = no_run_fits_none;
-    } in
-    let finishes = finishes_imaged (counts_at_end c.args.inspection) finished _ _ _ _ laws imaged ran.finishes in
+    let finishes = finishes_imaged (counts_at_end c.args.inspection) finished _ _ _ _ laws_hold imaged ran.finishes in
     let keepable : IsKeepable space.sizes script image = record {
       regions = imaged.space ∙ ran.space
           ∙ ap (λ (n : ℕ). record { sizes = space.sizes; variables = n }) c.requires.variables;
       blank = images_are_blank heap (image_heap image) ran.finishes.reached.shown.whole imaged;
     } in
     rw c.need.ensures
-    (Runs-finished (counts_at_end c.args.inspection) space.sizes bytes script image finished.how finished.line finished.executed c.conclude-status.result
+    (Runs-finished (counts_at_end c.args.inspection) space.sizes bytes script image finished.how finished.line
+    finished.executed c.conclude-status.result
     _ _ _ _ _ _ is keepable finishes
     (λ cut. (concluded.cut cut).0)
     (λ cut. rw (concluded.cut cut).1 finishes)

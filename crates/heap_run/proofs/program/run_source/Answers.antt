@@ -52,8 +52,9 @@ returns-in_default-open_inspection g c =
 
 pub run_on_heap-requires-clause-for_heap : goal.run_on_heap-requires-clause-for_heap
 run_on_heap-requires-clause-for_heap g c = λ κs within.
-    c.in-Ok-open_inspection.ensures.1 c.in-Ok-open_heap.heap c.in-Ok-open_heap.ensures.2
+    c.in-Ok-open_inspection.ensures.1 c.in-Ok-open_heap.heap c.in-Ok-open_heap.ensures.regions
 
 pub returns : goal.returns
 returns g c =
-    rw (c.in-Ok-open_heap.ensures.2, c.new-regions.ensures, c.in-Ok-open_inspection.ensures.0) at (c.run_on_heap.ensures c.args.source.now c.in-Ok.ensures.script)
+    rw (c.in-Ok-open_heap.ensures.regions, c.new-regions.ensures, c.in-Ok-open_inspection.ensures.0) at
+    (c.run_on_heap.ensures c.args.source.now c.in-Ok.ensures.script)

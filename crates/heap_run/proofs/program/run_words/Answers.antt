@@ -1,10 +1,12 @@
 use Rattle.command_line.proofs.AskedSizes.{asked_sizes_are_within}
+use Rattle.command_line.proofs.AskedSoaks.{soaked_sizes_are_within, soaked_forms_are_few}
 use Rattle.command_line.proofs.AskedForms.{asked_forms_are_few}
 use Rattle.std.proofs.Common.{arith, false, true, inl, Some, refl, ap, ◌∙◌, map, string_bytes}
 use Rattle.heap_run.specs.declared.last_line.LastLine.TheVariants as last
-use Rattle.heap_run.specs.Answers.{Comes, AsksToRun, AsksToGenerate}
+use Rattle.heap_run.specs.Answers.{Comes, AsksToRun, AsksToGenerate, AsksToSoak}
 use Rattle.heap_run.proofs.Answering.{Answers-unopened}
 use Rattle.heap_run.proofs.Generating.{Answers-generates}
+use Rattle.heap_run.proofs.SoakLines.{Answers-soaks}
 use Rattle.heap_run.proofs.program.run_words.Goals as goal
 
 pub run_read-requires-after_bounds : goal.run_read-requires-after_bounds
@@ -43,7 +45,7 @@ returns-in-Err-NoMemory g c =
     let refused = rw c.in-Err-NoMemory.field-0-is at c.in-Err-NoMemory.ensures in
     let given = c.give_up-in-Err-NoMemory in
     Answers-unopened _ _ _ _ _ _ given.result last.NoMemory given.ensures.unopened
-    (Comes.no_memory (refused.begins_built refl) (inl (refl, refl))) given.ensures.taken
+    (Comes.no_memory (refused.begins_command refl) (inl (refl, refl))) given.ensures.taken
 
 pub returns-in-Ok-Run : goal.returns-in-Ok-Run
 returns-in-Ok-Run g c =
@@ -54,3 +56,24 @@ pub returns-in-Ok-Check : goal.returns-in-Ok-Check
 returns-in-Ok-Check g c =
     c.run_read-in-Ok-Check.ensures (map string_bytes c.args.words.now)
     (c.in-Ok-Check.ensures.invocation ∙ ap Some c.in-Ok-Check.field-0-is)
+
+pub soak-requires-clause-within : goal.soak-requires-clause-within
+soak-requires-clause-within g c κs bounds =
+    let words = map string_bytes c.args.words.now in
+    let asks : AsksToSoak words c.in-Ok-Soak.sizes c.in-Ok-Soak.seed c.in-Ok-Soak.forms =
+    c.in-Ok-Soak.ensures.invocation ∙ ap Some c.in-Ok-Soak.field-0-is in
+    soaked_sizes_are_within words c.in-Ok-Soak.sizes c.in-Ok-Soak.seed c.in-Ok-Soak.forms 0 asks (omega arith)
+
+pub soak-requires-clause-few : goal.soak-requires-clause-few
+soak-requires-clause-few g c κs bounds =
+    let words = map string_bytes c.args.words.now in
+    let asks : AsksToSoak words c.in-Ok-Soak.sizes c.in-Ok-Soak.seed c.in-Ok-Soak.forms =
+    c.in-Ok-Soak.ensures.invocation ∙ ap Some c.in-Ok-Soak.field-0-is in
+    soaked_forms_are_few words c.in-Ok-Soak.sizes c.in-Ok-Soak.seed c.in-Ok-Soak.forms asks
+
+pub returns-in-Ok-Soak : goal.returns-in-Ok-Soak
+returns-in-Ok-Soak g c =
+    let asks : AsksToSoak (map string_bytes c.args.words.now) c.in-Ok-Soak.sizes c.in-Ok-Soak.seed c.in-Ok-Soak.forms =
+    c.in-Ok-Soak.ensures.invocation ∙ ap Some c.in-Ok-Soak.field-0-is in
+    Answers-soaks _ _ c.in-Ok-Soak.sizes c.in-Ok-Soak.seed c.in-Ok-Soak.forms _ _ _ _ c.soak.result asks refl refl
+    c.soak.ensures

@@ -15,7 +15,7 @@ execute-requires c =
     let now = c.tries.invariant in
     let (graph, shown, made) = c.requires.shown in
     record {
-      built = c.requires.built;
+      apart = c.requires.apart;
       shown = (graph, now.ready.shows graph shown, now.objects ∙ made);
       within = rw (ready_space now.ready c.requires.shown) c.requires.within;
       few = rw now.objects c.requires.few;

@@ -1,7 +1,6 @@
-use Rattle.std.proofs.Common.{[], is_ok, true, refl}
+use Rattle.std.proofs.Common.{[], is_ok, refl}
 use Rattle.heap_script.proofs.Counts.{written_nothing}
-use Rattle.heap_script.proofs.Trying.{shows_lent, made_lent, some_lent, tried, tried_put, tried_scavenge}
-use Rattle.heap_script.proofs.Trying.{tried_gc, tried_census, census_line}
+use Rattle.heap_script.proofs.Trying.{shows_lent, made_lent, some_lent, tried, tried_put}
 use Rattle.heap_script.proofs.execute.execute.Goals as goal
 
 pub new_plain-requires-clause-shown : goal.new_plain-requires-clause-shown
@@ -246,25 +245,3 @@ pub returns-in-Shape-clause-carried : goal.returns-in-Shape-clause-carried
 returns-in-Shape-clause-carried c = λ graph shown made.
     let (text, carries, out-is) = c.shape.ensures.carried graph (shows_lent c.main_mut-in-Shape.ensures.main shown) in
     (text, rw c.in-Shape.is (tried c.main_mut-in-Shape.ensures.main refl refl shown carries), out-is)
-
-pub returns-in-Scavenge-clause-carried : goal.returns-in-Scavenge-clause-carried
-returns-in-Scavenge-clause-carried c = λ graph shown made. (
-  [],
-  rw c.in-Scavenge.is
-      (tried_scavenge c.args.script.now.fields c.scavenge.ensures.scavenged c.scavenge.ensures.rooms shown.main),
-  written_nothing true c.args.out.now,
-)
-
-pub returns-in-Gc-clause-carried : goal.returns-in-Gc-clause-carried
-returns-in-Gc-clause-carried c = λ graph shown made. (
-  [],
-  rw c.in-Gc.is (tried_gc c.args.script.now.fields (c.collect_all.ensures.collected graph shown)),
-  written_nothing true c.args.out.now,
-)
-
-pub returns-in-Census-clause-carried : goal.returns-in-Census-clause-carried
-returns-in-Census-clause-carried c = λ graph shown made. (
-  census_line graph,
-  rw c.in-Census.is (tried_census c.args.script.now.fields (c.tell_census.ensures.collected graph shown)),
-  c.tell_census.ensures.told graph shown,
-)

@@ -1,11 +1,16 @@
-use Rattle.heap_script.proofs.Carrying.{handed_on}
+use Rattle.std.proofs.Common.{◌∙◌, refl, sym}
+use Rattle.heap_script.specs.Collecting.{CarriesCommand}
+use Rattle.heap_script.proofs.execute.execute_line.Goals.{then-asks_collector, else-asks_collector+in_ok-carry_out-in-Run}
 use Rattle.heap_script.proofs.execute.execute_line.Goals as goal
 
-pub returns-in_ok-carry_out-in-Run-clause-carried : goal.returns-in_ok-carry_out-in-Run-clause-carried
-returns-in_ok-carry_out-in-Run-clause-carried c = λ graph shown made.
-    rw c.in-Run.is (c.in_ok-carry_out-in-Run.ensures.carried graph shown made)
-
-pub returns-in_err-carry_out-in-Run-clause-carried : goal.returns-in_err-carry_out-in-Run-clause-carried
-returns-in_err-carry_out-in-Run-clause-carried c = λ graph shown made.
-    let stopped = handed_on c.from_residual.result c.in_err-carry_out-in-Run.field-0.0 c.from_residual.ensures.1 in
-    rw (c.in-Run.is, stopped) (c.in_err-carry_out-in-Run.ensures.carried graph shown made)
+pub returns-after-asks_collector-clause-carried : goal.returns-after-asks_collector-clause-carried
+returns-after-asks_collector-clause-carried c = λ graph shown made.
+    elim c.if-asks_collector.branch [
+      | then-asks_collector w ↦
+          let (text, asked, out-is) = w.collect_as_asked.ensures.carried c.args.script.now.fields graph shown in
+          rw (c.in-Run.is, w.heap-is, w.out-is) (text, CarriesCommand.asked refl asked, out-is)
+      | else-asks_collector+in_ok-carry_out-in-Run w ↦
+          let (text, carried, out-is) = w.in_ok-carry_out-in-Run.ensures.carried graph shown made in
+          rw (c.in-Run.is, w.heap-is, w.out-is)
+          (text, CarriesCommand.apart (sym c.asks_collector.ensures ∙ w.if-asks_collector.false) carried, out-is)
+    ]

@@ -1,4 +1,4 @@
-use Rattle.std.proofs.Common.{ap, subst, sym}
+use Rattle.std.proofs.Common.{subst, sym}
 use Rattle.page_space.specs.Extents.{Space}
 use Rattle.page_space.specs.Sizes.{AreWithin}
 use Rattle.write_barrier.specs.MutatorState.{heap_of}
@@ -14,7 +14,8 @@ returns-clause-sound c =
     let is = c.image.ensures.image in
     let shows = shown.main.shows in
     judged_sound {heap = image} c.check.result c.laws_of_flaws.ensures
-    (subst (λ (space : Space). AreWithin space.sizes space.variables) (sym is.space) (rw c.main.ensures at c.addresses_fit.ensures.within))
+    (subst (λ (space : Space). AreWithin space.sizes space.variables) (sym is.space)
+    (rw c.main.ensures at c.addresses_fit.ensures.within))
     (c.laws_of_images.ensures.show heap image graph shows is).whole
     (c.laws_of_images.ensures.blank heap image shows.whole is) c.check.ensures.judges
 

@@ -25,7 +25,7 @@ loop-at-init g c =
     record {
       running = rw (c.requires.empty, c.new-turns.ensures)
           (Running-start c.args.script.now c.args.heap.now taken (rw lines.all at lines.placed) c.requires.shown
-          c.requires.opened c.requires.variables);
+          c.requires.opened c.requires.closed c.requires.variables);
       holds = rw c.requires.empty OutputHolds.nothing;
       space = refl;
       same = refl;
@@ -205,7 +205,7 @@ run_ahead-ahead-requires-clause-runs g c =
     let running = Running-line script heap c.execute_line.new.heap c.loop-at.objects c.flush_if_full.new.out _ _
     c.loop-at.at _ c.loop-at.turns _ n line.number _ text r below goes ran.rest carries in
     let judged = c.flaw_behind.ensures in
-    let on = Running-judged running judged.main judged.shows in
+    let on = Running-judged running judged.main judged.cycle judged.shows in
     (on.handed.handed, rw (ran.place, ran.turned, ran.counted, out-is) (as_taken on))
 
 pub run_ahead-ahead-requires-clause-variables : goal.run_ahead-ahead-requires-clause-variables
@@ -249,8 +249,8 @@ loop-at-preserved g c =
     let running = Running-line script heap c.execute_line.new.heap c.loop-at.objects c.flush_if_full.new.out _ _
     c.loop-at.at _ c.loop-at.turns _ n line.number _ text r below goes ran.rest carries in
     let judged = c.flaw_behind.ensures in
-    let on = Running-judged running judged.main judged.shows in
-    let tells = TellsAt-line script (heap_of heap.main) _ _ _ _ n line.number _ text r.reached goes carries in
+    let on = Running-judged running judged.main judged.cycle judged.shows in
+    let tells = TellsAt-line script (heap_of heap.main) _ _ _ _ n line.number _ text _ r.reached goes carries in
     let holds : OutputHolds script (n + 1) (c.flush_if_full.new.out ++ text) =
     subst (λ (waiting : List ℕ). OutputHolds script (n + 1) (waiting ++ text)) (sym c.in-Ok.ensures.waits)
     (OutputHolds.one_more n c.loop-at.out text c.loop-at.invariant.holds tells) in

@@ -9,7 +9,8 @@ inspect_end-requires g c =
     let p = c.run_lines-ran.ensures.pauses in
     record {
       shown = (p.reached.so_far.graph, p.shown);
-      for_heap = is_for c.args.heap.now c.run_lines-ran.new.heap c.run_lines-ran.ensures.same c.run_lines-ran.ensures.space
+      for_heap = is_for c.args.heap.now c.run_lines-ran.new.heap c.run_lines-ran.ensures.same
+          c.run_lines-ran.ensures.space
           c.requires.for_heap;
     }
 
@@ -68,7 +69,8 @@ returns-in-Ok g c =
     rw c.run_lines-ran.ensures.same at (c.inspect_end.ensures graph p.shown) in
     let paused = Pauses-inspected counted how came p ends in
     record {
-      finishes = Finishes-written counted c.args.script.now after _ came _ _ _ _ _ _ _ _ c.in_default.not-SinkFault paused
+      finishes = Finishes-written counted c.args.script.now after _ came _ _ _ _ _ _ _ _ c.in_default.not-SinkFault
+          paused
           c.in-Ok.ensures.appended c.in-Ok.ensures.steady;
       emptied = λ other. c.in-Ok.ensures.emptied;
       shows = (paused.reached.so_far.graph, paused.shown);

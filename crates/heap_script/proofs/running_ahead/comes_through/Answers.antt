@@ -58,7 +58,8 @@ pub returns-in-New-clause-carried : goal.returns-in-New-clause-carried
 returns-in-New-clause-carried c = λ well names graph shown made.
     let lent = c.main_mut.ensures.main in
     let carries = c.new_plain.ensures.carried graph names (shows_lent lent shown) made in
-    rw c.in-New.is (tried_well c.new_plain.result (sym c.counted.ensures.so ∙ well) (tried lent refl refl shown carries))
+    rw c.in-New.is (tried_well c.new_plain.result (sym c.counted.ensures.so ∙ well)
+    (tried lent refl refl shown carries))
 
 pub returns-in-New-clause-unchanged : goal.returns-in-New-clause-unchanged
 returns-in-New-clause-unchanged c = λ ill.
@@ -72,7 +73,8 @@ pub returns-in-List-clause-carried : goal.returns-in-List-clause-carried
 returns-in-List-clause-carried c = λ well names graph shown made.
     let lent = c.main_mut-in-List.ensures.main in
     let carries = c.new_list.ensures.carried graph names (shows_lent lent shown) made in
-    rw c.in-List.is (tried_well c.new_list.result (sym c.counted-in-List.ensures.so ∙ well) (tried lent refl refl shown carries))
+    rw c.in-List.is (tried_well c.new_list.result (sym c.counted-in-List.ensures.so ∙ well)
+    (tried lent refl refl shown carries))
 
 pub returns-in-List-clause-unchanged : goal.returns-in-List-clause-unchanged
 returns-in-List-clause-unchanged c = λ ill.
@@ -86,7 +88,8 @@ pub returns-in-Weak-clause-carried : goal.returns-in-Weak-clause-carried
 returns-in-Weak-clause-carried c = λ well names graph shown made.
     let lent = c.main_mut-in-Weak.ensures.main in
     let carries = c.new_weak.ensures.carried graph names (shows_lent lent shown) made in
-    rw c.in-Weak.is (tried_well c.new_weak.result (sym c.counted-in-Weak.ensures.so ∙ well) (tried lent refl refl shown carries))
+    rw c.in-Weak.is (tried_well c.new_weak.result (sym c.counted-in-Weak.ensures.so ∙ well)
+    (tried lent refl refl shown carries))
 
 pub returns-in-Weak-clause-unchanged : goal.returns-in-Weak-clause-unchanged
 returns-in-Weak-clause-unchanged c = λ ill.
@@ -100,7 +103,8 @@ pub returns-in-LetValue-clause-carried : goal.returns-in-LetValue-clause-carried
 returns-in-LetValue-clause-carried c = λ well names graph shown made.
     let lent = c.main_mut-in-LetValue.ensures.main in
     let carries = c.let_value.ensures.carried graph names (shows_lent lent shown) in
-    rw c.in-LetValue.is (tried_well c.let_value.result (sym c.is_ok.ensures.value ∙ well) (tried lent refl refl shown carries))
+    rw c.in-LetValue.is (tried_well c.let_value.result (sym c.is_ok.ensures.value ∙ well)
+    (tried lent refl refl shown carries))
 
 pub returns-in-LetValue-clause-unchanged : goal.returns-in-LetValue-clause-unchanged
 returns-in-LetValue-clause-unchanged c = λ ill.
@@ -114,14 +118,16 @@ pub returns-in-DropVar-clause-carried : goal.returns-in-DropVar-clause-carried
 returns-in-DropVar-clause-carried c = λ well names graph shown made.
     let lent = c.main_mut-in-DropVar.ensures.main in
     let carries = c.drop_var.ensures.carried graph names (shows_lent lent shown) in
-    rw c.in-DropVar.is (tried_well c.drop_var.result (sym c.is_ok-in-DropVar.ensures.value ∙ well) (tried lent refl refl shown carries))
+    rw c.in-DropVar.is (tried_well c.drop_var.result (sym c.is_ok-in-DropVar.ensures.value ∙ well)
+    (tried lent refl refl shown carries))
 
 pub returns-in-DropVar-clause-unchanged : goal.returns-in-DropVar-clause-unchanged
 returns-in-DropVar-clause-unchanged c = λ ill.
     let (graph, shown, made) = c.requires.shown in
     let lent = c.main_mut-in-DropVar.ensures.main in
     let carries = c.drop_var.ensures.carried graph [] (shows_lent lent shown) in
-    tried_ill [] c.args.heap.now graph c.args.command.now [] c.drop_var.result (sym c.is_ok-in-DropVar.ensures.value ∙ ill)
+    tried_ill [] c.args.heap.now graph c.args.command.now [] c.drop_var.result (sym c.is_ok-in-DropVar.ensures.value
+    ∙ ill)
     (rw c.in-DropVar.is (tried lent refl refl shown carries))
 
 pub returns-in-Add-clause-carried : goal.returns-in-Add-clause-carried
@@ -137,7 +143,8 @@ pub returns-in-Set-clause-carried : goal.returns-in-Set-clause-carried
 returns-in-Set-clause-carried c = λ well names graph shown made.
     let lent = c.main_mut-in-Set.ensures.main in
     let carries = c.set.ensures.carried graph names (shows_lent lent shown) in
-    rw c.in-Set.is (tried_well c.set.result (sym c.is_ok-in-Set.ensures.value ∙ well) (tried lent refl refl shown carries))
+    rw c.in-Set.is (tried_well c.set.result (sym c.is_ok-in-Set.ensures.value ∙ well)
+    (tried lent refl refl shown carries))
 
 pub returns-in-Set-clause-unchanged : goal.returns-in-Set-clause-unchanged
 returns-in-Set-clause-unchanged c = λ ill.
@@ -151,7 +158,8 @@ pub returns-in-Get-clause-carried : goal.returns-in-Get-clause-carried
 returns-in-Get-clause-carried c = λ well names graph shown made.
     let lent = c.main_mut-in-Get.ensures.main in
     let carries = c.get.ensures.carried graph names (shows_lent lent shown) in
-    rw c.in-Get.is (tried_well c.get.result (sym c.is_ok-in-Get.ensures.value ∙ well) (tried lent refl refl shown carries))
+    rw c.in-Get.is (tried_well c.get.result (sym c.is_ok-in-Get.ensures.value ∙ well)
+    (tried lent refl refl shown carries))
 
 pub returns-in-Get-clause-unchanged : goal.returns-in-Get-clause-unchanged
 returns-in-Get-clause-unchanged c = λ ill.
@@ -165,7 +173,8 @@ pub returns-in-Del-clause-carried : goal.returns-in-Del-clause-carried
 returns-in-Del-clause-carried c = λ well names graph shown made.
     let lent = c.main_mut-in-Del.ensures.main in
     let carries = c.del.ensures.carried graph names (shows_lent lent shown) in
-    rw c.in-Del.is (tried_well c.del.result (sym c.is_ok-in-Del.ensures.value ∙ well) (tried lent refl refl shown carries))
+    rw c.in-Del.is (tried_well c.del.result (sym c.is_ok-in-Del.ensures.value ∙ well)
+    (tried lent refl refl shown carries))
 
 pub returns-in-Del-clause-unchanged : goal.returns-in-Del-clause-unchanged
 returns-in-Del-clause-unchanged c = λ ill.
@@ -179,7 +188,8 @@ pub returns-in-Push-clause-carried : goal.returns-in-Push-clause-carried
 returns-in-Push-clause-carried c = λ well names graph shown made.
     let lent = c.main_mut-in-Push.ensures.main in
     let carries = c.push.ensures.carried graph names (shows_lent lent shown) in
-    rw c.in-Push.is (tried_well c.push.result (sym c.is_ok-in-Push.ensures.value ∙ well) (tried lent refl refl shown carries))
+    rw c.in-Push.is (tried_well c.push.result (sym c.is_ok-in-Push.ensures.value ∙ well)
+    (tried lent refl refl shown carries))
 
 pub returns-in-Push-clause-unchanged : goal.returns-in-Push-clause-unchanged
 returns-in-Push-clause-unchanged c = λ ill.
@@ -193,7 +203,8 @@ pub returns-in-Put-clause-carried : goal.returns-in-Put-clause-carried
 returns-in-Put-clause-carried c = λ well names graph shown made.
     let lent = c.main_mut-in-Put.ensures.main in
     let carries = c.put.ensures.carried graph names (shows_lent lent shown) in
-    rw c.in-Put.is (tried_well c.put.result (sym c.is_ok-in-Put.ensures.value ∙ well) (tried lent refl refl shown carries))
+    rw c.in-Put.is (tried_well c.put.result (sym c.is_ok-in-Put.ensures.value ∙ well)
+    (tried lent refl refl shown carries))
 
 pub returns-in-Put-clause-unchanged : goal.returns-in-Put-clause-unchanged
 returns-in-Put-clause-unchanged c = λ ill.
@@ -221,7 +232,8 @@ pub returns-in-Shift-clause-carried : goal.returns-in-Shift-clause-carried
 returns-in-Shift-clause-carried c = λ well names graph shown made.
     let lent = c.main_mut-in-Shift.ensures.main in
     let carries = c.shift.ensures.carried graph names (shows_lent lent shown) in
-    rw c.in-Shift.is (tried_well c.shift.result (sym c.is_ok-in-Shift.ensures.value ∙ well) (tried lent refl refl shown carries))
+    rw c.in-Shift.is (tried_well c.shift.result (sym c.is_ok-in-Shift.ensures.value ∙ well)
+    (tried lent refl refl shown carries))
 
 pub returns-in-Shift-clause-unchanged : goal.returns-in-Shift-clause-unchanged
 returns-in-Shift-clause-unchanged c = λ ill.
@@ -235,7 +247,8 @@ pub returns-in-Trunc-clause-carried : goal.returns-in-Trunc-clause-carried
 returns-in-Trunc-clause-carried c = λ well names graph shown made.
     let lent = c.main_mut-in-Trunc.ensures.main in
     let carries = c.trunc.ensures.carried graph names (shows_lent lent shown) in
-    rw c.in-Trunc.is (tried_well c.trunc.result (sym c.is_ok-in-Trunc.ensures.value ∙ well) (tried lent refl refl shown carries))
+    rw c.in-Trunc.is (tried_well c.trunc.result (sym c.is_ok-in-Trunc.ensures.value ∙ well)
+    (tried lent refl refl shown carries))
 
 pub returns-in-Trunc-clause-unchanged : goal.returns-in-Trunc-clause-unchanged
 returns-in-Trunc-clause-unchanged c = λ ill.
@@ -249,7 +262,8 @@ pub returns-in-WPut-clause-carried : goal.returns-in-WPut-clause-carried
 returns-in-WPut-clause-carried c = λ well names graph shown made.
     let lent = c.main_mut-in-WPut.ensures.main in
     let carries = c.wput.ensures.carried graph names (shows_lent lent shown) in
-    rw c.in-WPut.is (tried_well c.wput.result (sym c.is_ok-in-WPut.ensures.value ∙ well) (tried_put lent refl carries (c.wput.ensures.asks graph (shows_lent lent shown))))
+    rw c.in-WPut.is (tried_well c.wput.result (sym c.is_ok-in-WPut.ensures.value ∙ well) (tried_put lent refl carries
+    (c.wput.ensures.asks graph (shows_lent lent shown))))
 
 pub returns-in-WPut-clause-unchanged : goal.returns-in-WPut-clause-unchanged
 returns-in-WPut-clause-unchanged c = λ ill.
@@ -263,7 +277,8 @@ pub returns-in-WGet-clause-carried : goal.returns-in-WGet-clause-carried
 returns-in-WGet-clause-carried c = λ well names graph shown made.
     let lent = c.main_mut-in-WGet.ensures.main in
     let carries = c.wget.ensures.carried graph names (shows_lent lent shown) in
-    rw c.in-WGet.is (tried_well c.wget.result (sym c.is_ok-in-WGet.ensures.value ∙ well) (tried lent refl refl shown carries))
+    rw c.in-WGet.is (tried_well c.wget.result (sym c.is_ok-in-WGet.ensures.value ∙ well)
+    (tried lent refl refl shown carries))
 
 pub returns-in-WGet-clause-unchanged : goal.returns-in-WGet-clause-unchanged
 returns-in-WGet-clause-unchanged c = λ ill.
@@ -277,7 +292,8 @@ pub returns-in-WDel-clause-carried : goal.returns-in-WDel-clause-carried
 returns-in-WDel-clause-carried c = λ well names graph shown made.
     let lent = c.main_mut-in-WDel.ensures.main in
     let carries = c.wdel.ensures.carried graph names (shows_lent lent shown) in
-    rw c.in-WDel.is (tried_well c.wdel.result (sym c.is_ok-in-WDel.ensures.value ∙ well) (tried lent refl refl shown carries))
+    rw c.in-WDel.is (tried_well c.wdel.result (sym c.is_ok-in-WDel.ensures.value ∙ well)
+    (tried lent refl refl shown carries))
 
 pub returns-in-WDel-clause-unchanged : goal.returns-in-WDel-clause-unchanged
 returns-in-WDel-clause-unchanged c = λ ill.

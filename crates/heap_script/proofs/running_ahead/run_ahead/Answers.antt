@@ -90,7 +90,7 @@ loop-at-preserved c =
       holds = λ held.
           rw (← append-nil out)
           (holds_on n out [] (c.if-is_full.ensures refl) (c.loop-at.invariant.holds held)
-          (TellsAt-line script (heap_of heap.main) _ _ _ _ n line.number _ [] r.reached goes carries));
+          (TellsAt-line script (heap_of heap.main) _ _ _ _ n line.number _ [] _ r.reached goes carries));
       further = omega (arith, c.loop-at.invariant.further);
       space = same_regions heap after r.shown on.shown ran.rest ∙ c.loop-at.invariant.space;
     }

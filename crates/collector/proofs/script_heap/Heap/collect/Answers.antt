@@ -20,6 +20,7 @@ returns c =
       reserved = vec_capacity c.self.inside.memory;
       places = vec_capacity c.self.inside.list;
       marks = c.self.inside.marking.bound;
+      in_cycle = c.self.inside.in_cycle;
     } in
     let rest = ap (λ (places : ℕ). record old { places = places }) done.capacity in
     rw (← c.self.view_is)

@@ -23,6 +23,7 @@ collect-requires c =
       reserved = vec_capacity c.self.inside.memory;
       places = vec_capacity c.self.inside.list;
       marks = c.self.inside.marking.bound;
+      in_cycle = c.self.inside.in_cycle;
     } in
     let bound = ap (λ (marks : ℕ). record old { marks = marks }) c.mark_sweep.ensures.bound in
     let swept = c.mark_sweep.ensures.collected graph shown.main in

@@ -14,6 +14,7 @@ returns c =
     let back = sym c.self.view_is in
     let unchanged : IsUnchanged heap c.make_image.new.self = record {
       main = made.main;
+      cycle = made.cycle;
       shows = λ graph shown.
           imaged_shows heap c.make_image.new.self graph shown made.main made.image made.places
           made.marks;

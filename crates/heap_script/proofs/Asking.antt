@@ -1,0 +1,112 @@
+-- Commands of the collector: what they leave of a heap, and of a cycle.
+use Rattle.std.proofs.Common.{◌≡◌, ◌∙◌, ℕ, Bool, true, false, List, [], ◌∷◌, ◌++◌}
+use Rattle.std.proofs.Common.{refl, sym, ap, inl, inr, take, suc, ◌+◌, add-one}
+use Rattle.std.proofs.lemmas.Bool.{false≢true}
+use Rattle.heap_model.specs.Types.{Command}
+use Rattle.heap_command.specs.Executed.{Executed}
+use Rattle.heap_command.specs.declared.command.Command.TheVariants as command
+use Rattle.object_graph.specs.Graphs.{Graph}
+use Rattle.object_graph.specs.Reach.{reached_objects, reached_entries}
+use Rattle.object_graph.specs.Texts.{line, census_text}
+use Rattle.script_text.specs.Scripts.{ScriptText}
+use Rattle.script_text.specs.Unrolled.{executed_lines}
+use Rattle.write_barrier.specs.MutatorState.{Mutator, MainShows}
+use Rattle.scavenger.specs.Scavenged.{Scavenges}
+use Rattle.scavenger.specs.Laws.{KeepsGraphs}
+use Rattle.exact_heaps.specs.Collected.{CollectsAll}
+use Rattle.collector.specs.States.{Rest, with_cycle}
+use Rattle.mutator.proofs.Writings.{writing_carried}
+use Rattle.heap_script.specs.Cycles.{asks_collector, cycle_after_command, cycle_after_line, cycle_after_lines, is_in_cycle}
+use Rattle.heap_script.specs.Collecting.{CarriesAsked, IsApart}
+use Rattle.heap_script.specs.Progress.{objects_made}
+
+module _ {names : List (List ℕ)} {in_cycle : Bool} {old new : Mutator} {graph : Graph} where
+  -- the command `scavenge` leaves its graph, writes nothing and uses nothing of what the scavenge left
+  pub asked_scavenge : Scavenges old new false → KeepsGraphs old new → MainShows old graph
+      → CarriesAsked names in_cycle old new graph command.Scavenge []
+  asked_scavenge scavenges keeps shows =
+      CarriesAsked.scavenges refl scavenges keeps
+      (writing_carried names command.Scavenge [] refl (keeps.shows graph shows) refl (λ rooms. (refl, λ number. refl)))
+
+  -- nor does the command `mark` of a heap that it leaves as it is
+  pub asked_mark : new ≡ old → MainShows new graph → CarriesAsked names in_cycle old new graph command.Mark []
+  asked_mark same shows =
+      CarriesAsked.collects_nothing (inl refl) same
+      (writing_carried names command.Mark [] refl shows refl (λ rooms. (refl, λ number. refl)))
+
+  -- nor does the command `finish`, where no cycle is open
+  pub asked_finish_none : in_cycle ≡ false → new ≡ old → MainShows new graph
+      → CarriesAsked names in_cycle old new graph command.Finish []
+  asked_finish_none none same shows =
+      CarriesAsked.collects_nothing (inr (refl, none)) same
+      (writing_carried names command.Finish [] refl shows refl (λ rooms. (refl, λ number. refl)))
+
+  -- nor of what a full collection left, where one is open
+  pub asked_finish : in_cycle ≡ true → CollectsAll old new graph
+      → CarriesAsked names in_cycle old new graph command.Finish []
+  asked_finish is collects =
+      CarriesAsked.collects_all (inr (inr (refl, is))) collects
+      (writing_carried names command.Finish [] refl collects.shows refl (λ rooms. (refl, λ number. refl)))
+
+  -- nor does the command `gc`
+  pub asked_gc : CollectsAll old new graph → CarriesAsked names in_cycle old new graph command.Gc []
+  asked_gc collects =
+      CarriesAsked.collects_all (inl refl) collects
+      (writing_carried names command.Gc [] refl collects.shows refl (λ rooms. (refl, λ number. refl)))
+
+  -- nor the command `census`, which writes how much can be reached
+  pub asked_census : CollectsAll old new graph
+      → CarriesAsked names in_cycle old new graph command.Census
+      (line (census_text (reached_objects graph) (reached_entries graph)))
+  asked_census collects =
+      CarriesAsked.collects_all (inr (inl refl)) collects
+      (writing_carried names command.Census (line (census_text (reached_objects graph) (reached_entries graph))) refl
+      collects.shows refl (λ rooms. (refl, λ number. refl)))
+
+-- the command `finish`, whether a cycle is open or not
+pub asked_finish_by : {names : List (List ℕ)} (in_cycle : Bool) {old new : Mutator} {graph : Graph}
+    → (in_cycle ≡ false → new ≡ old) → (in_cycle ≡ true → CollectsAll old new graph)
+    → (in_cycle ≡ false → MainShows new graph)
+    → CarriesAsked names in_cycle old new graph command.Finish []
+asked_finish_by false same collects shows = asked_finish_none refl (same refl) (shows refl)
+asked_finish_by true same collects shows = asked_finish refl (collects refl)
+
+-- commands of the collector make no object
+pub asked_make_none : (one : Command) → asks_collector one ≡ true → objects_made one ≡ 0
+asked_make_none (command.New x slots) asks = absurd (false≢true asks)
+asked_make_none (command.List x) asks = absurd (false≢true asks)
+asked_make_none (command.Weak x) asks = absurd (false≢true asks)
+asked_make_none _ asks = refl
+
+-- a command that is none of the collector's leaves a cycle as it is
+pub cycle_stays : (in_cycle : Bool) (one : Command) → IsApart one → cycle_after_command in_cycle one ≡ in_cycle
+cycle_stays in_cycle command.Mark apart = absurd (false≢true (sym apart))
+cycle_stays in_cycle command.Finish apart = absurd (false≢true (sym apart))
+cycle_stays in_cycle command.Gc apart = absurd (false≢true (sym apart))
+cycle_stays in_cycle command.Census apart = absurd (false≢true (sym apart))
+cycle_stays in_cycle _ apart = refl
+
+-- so it leaves all beside the mutator's side
+pub rest_stays : (rest : Rest) (one : Command) → IsApart one → with_cycle rest (cycle_after_command rest.in_cycle one) ≡ rest
+rest_stays rest one apart = ap (with_cycle rest) (cycle_stays rest.in_cycle one apart)
+
+-- where a cycle is as it was, so is all beside the mutator's side
+pub rest_without : (rest : Rest) (cycle : Bool) → rest.in_cycle ≡ cycle → rest ≡ with_cycle rest cycle
+rest_without rest cycle is = ap (with_cycle rest) is
+
+-- behind one line more a cycle is open as behind that line
+pub cycle_after_lines-push : (in_cycle : Bool) (lines : List Executed) (next : Executed)
+    → cycle_after_lines in_cycle (lines ++ next ∷ []) ≡ cycle_after_line (cycle_after_lines in_cycle lines) next.command
+cycle_after_lines-push in_cycle [] next = refl
+cycle_after_lines-push in_cycle (first ∷ lines) next =
+    cycle_after_lines-push (cycle_after_line in_cycle first.command) lines next
+
+-- so it is in a script
+pub cycle_next : (script : ScriptText) (n : ℕ) (next : Executed)
+    → take (suc n) (executed_lines script.lines) ≡ take n (executed_lines script.lines) ++ next ∷ []
+    → is_in_cycle script (n + 1) ≡ cycle_after_line (is_in_cycle script n) next.command
+cycle_next script n next taken =
+    let lines = executed_lines script.lines in
+    ap (λ m. cycle_after_lines false (take m lines)) (add-one n)
+    ∙ ap (cycle_after_lines false) taken
+    ∙ cycle_after_lines-push false (take n lines) next
