@@ -23,6 +23,7 @@ use tagged_word::{Kind, LayoutWord};
 use write_barrier::Main;
 
 /// The cell that stands at an address.
+#[inline(always)]
 pub fn known_cell(main: &Main, at: u32) -> Cell
     requires quiet { main.now.seat.phase ≡ Quiet }
     requires stands { (cell : Cell) × StandsAt main.now.seat.space (heap_words main.now.seat) at cell }

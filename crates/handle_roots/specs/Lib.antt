@@ -1,3 +1,4 @@
 pub mod Roots
 pub mod RootDecoding
 pub mod RootLaws
+pub mod Givens

@@ -5,10 +5,12 @@
 //! Invariant: none. Each call works on any words that a crate above has.
 #![tactic(auto)]
 
+mod given;
 mod held;
 mod laws;
 mod roots;
 
+pub use given::Given;
 pub use held::Held;
 pub use laws::laws_of_roots;
-pub use roots::{copy, held_by, hold, is_bound};
+pub use roots::{copy, given_by, held_by, hold, is_bound, referred};

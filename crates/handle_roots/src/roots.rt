@@ -1,13 +1,15 @@
 //! What the variables hold, read off their root words and written to them.
-ghost use Rattle.std.specs.Prelude.{◌≡◌, ◌≢◌, ◌↔◌, ◌+◌, ◌<◌, ◌≤◌, length, IsTrue};
+ghost use Rattle.std.specs.Prelude.{◌≡◌, ◌≢◌, ◌↔◌, ◌+◌, ◌<◌, ◌≤◌, length, IsTrue, IfSome};
 ghost use Rattle.page_space.specs.Extents.{layouts_start};
 ghost use Rattle.handle_roots.specs.declared.held.Held.{Held};
-ghost use Rattle.handle_roots.specs.declared.held.Held.TheVariants.{Unbound};
+ghost use Rattle.handle_roots.specs.declared.held.Held.TheVariants.{Unbound, Ref};
 ghost use Rattle.handle_roots.specs.Roots.{root_at, FitsHeld, first_of, second_of, first_word};
 ghost use Rattle.handle_roots.specs.Roots.{second_word, Holds, IsRoot, with_root};
 ghost use Rattle.tagged_word.specs.Words.{small};
 ghost use Rattle.handle_roots.specs.RootDecoding.{decoded, decoded_by};
+ghost use Rattle.handle_roots.specs.Givens.{GivesHeld};
 
+use crate::given::{Given, is_slot_word};
 use crate::held::Held;
 use page_space::Regions;
 use tagged_word::{Class, Word, is_small, odd};
@@ -41,6 +43,39 @@ pub fn is_bound<W: Reads>(words: &mut W, regions: &Regions, variable: u32) -> bo
     ensures rest { W.Rest words.old words.new }
 {
     words.load(regions.root_at(variable)) != Word::odd(odd::UNBOUND).0
+}
+
+/// What a variable holds, by the word that a slot has for it, where a slot has one; none where it is bound to nothing.
+#[inline(always)]
+pub fn given_by<W: Reads>(words: &mut W, regions: &Regions, variable: u32) -> Option<Given>
+    requires known { variable < regions.now.variables }
+    requires steady { W.IsSteady words.old }
+    requires root { IsRoot regions.now (W.words words.old) variable }
+    ensures given { GivesHeld regions.now (W.words words.old) variable result }
+    ensures kept { W.words words.new ≡ W.words words.old }
+    ensures rest { W.Rest words.old words.new }
+{
+    let word = words.load(regions.root_at(variable));
+    if is_slot_word(word) {
+        return Some(Given::Word(Word(word)));
+    }
+    match held_by(words, regions, variable) {
+        Held::Int(v) => Some(Given::Int(v)),
+        Held::Unbound | Held::Undefined | Held::Ref(_) => None,
+    }
+}
+
+/// The address of the cell to which a variable refers, if it refers to one.
+#[inline(always)]
+pub fn referred<W: Reads>(words: &mut W, regions: &Regions, variable: u32) -> Option<u32>
+    requires known { variable < regions.now.variables }
+    requires steady { W.IsSteady words.old }
+    requires root { IsRoot regions.now (W.words words.old) variable }
+    ensures refers { IfSome result (λ at. Holds regions.now (W.words words.old) variable (Ref at)) }
+    ensures kept { W.words words.new ≡ W.words words.old }
+    ensures rest { W.Rest words.old words.new }
+{
+    referred_by_first(words.load(regions.root_at(variable)))
 }
 
 /// Makes a variable hold what another one holds: both of its root words are copied.
@@ -91,7 +126,7 @@ fn second_at(regions: &Regions, variable: u32) -> u32
 
 /// What a first root word tells by itself; none where the integer is in the second.
 #[inline(always)]
-fn held_by_first(word: u64) -> Option<Held>
+pub(crate) fn held_by_first(word: u64) -> Option<Held>
     requires { (held : Held) × FitsHeld held × (word ≡ first_word held) }
     ensures { (held : Held) → FitsHeld held → word ≡ first_word held → result ≡ decoded held }
 {
@@ -109,6 +144,20 @@ fn held_by_class(class: Class) -> Option<Held>
         Class::Odd(odd::UNDEFINED) => Some(Held::Undefined),
         Class::Odd(odd::UNBOUND) => Some(Held::Unbound),
         Class::Odd(_) => None,
+    }
+}
+
+/// The address that a first root word refers to, if it is that of a reference.
+#[inline(always)]
+fn referred_by_first(word: u64) -> Option<u32>
+    requires { (held : Held) × FitsHeld held × (word ≡ first_word held) }
+    ensures { (held : Held) → FitsHeld held → word ≡ first_word held →
+        IfSome result (λ at. held ≡ Ref at) }
+{
+    if word % 4 == 1 {
+        Some((word / 4) as u32)
+    } else {
+        None
     }
 }
 

@@ -110,6 +110,7 @@ used_of_run old mid run n has words empty is =
     ap (λ (young : Young). young.used) is ∙ ap (λ (young : Young). (bumped young n).used) has
     ∙ none_used old.used run.words n (run.words == 0) words refl empty
 
+-- a young generation that has used up what was granted has its next object in eden again
 ungranted_again : (old mid : Young) {new : Young} (run : Run) (n : ℕ) → mid ≡ with_granted old run → run.words ≡ n
     → new ≡ bumped mid n → in_eden new ≡ true
 ungranted_again old mid run n has words is =

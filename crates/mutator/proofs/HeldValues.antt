@@ -1,5 +1,5 @@
 -- What variables hold, and the values that this shows.
-use Rattle.std.proofs.Common.{◌≡◌, ◌⊎◌, ℕ, ◌<◌, Some, None, refl, sym, ap, subst, inl, inr}
+use Rattle.std.proofs.Common.{◌≡◌, ◌⊎◌, ℕ, ◌<◌, Some, None, refl, sym, ap, subst, inl, inr, ◌∙◌, true≢false}
 use Rattle.std.specs.Prelude.{Option, length, ℤ, FitsSigned}
 use Rattle.std.specs.Int.{w64}
 use Rattle.std.proofs.lemmas.Option.{none-some}
@@ -11,6 +11,9 @@ use Rattle.object_graph.specs.Graphs.{Graph, value_of}
 use Rattle.graph_laws.specs.GraphLaws.{FitsOperand}
 use Rattle.graph_laws.proofs.Reaches.{reach_has_bound}
 use Rattle.handle_roots.specs.declared.held.Held.TheVariants as held
+use Rattle.handle_roots.specs.declared.given.Given.{Given}
+use Rattle.handle_roots.specs.declared.given.Given.TheVariants as given
+use Rattle.handle_roots.specs.Givens.{Gives, has_slot_word}
 use Rattle.handle_roots.specs.Roots.{FitsHeld, Holds, IsRoot}
 use Rattle.handle_roots.proofs.RootsHeld.{holds_one}
 use Rattle.heap_table.specs.Seats.{heap_words}
@@ -55,6 +58,21 @@ pub some_shown : {heap : Heap} (one : Held) (found : Option Value) → (one ≡ 
     → ShowsSome heap one found
 some_shown {heap} one None bound shows = absurd (bound (none_held heap one (shows_by_kind one None shows)))
 some_shown one (Some value) bound shows = record { value = value; is = refl; shows = shows }
+
+-- whether it is something
+abbrev IsSomething : Held → Type 0
+IsSomething held.Unbound = ⊥
+IsSomething _ = Unit {0}
+
+-- a reference is something
+pub ref_bound : (at : ℕ) → held.Ref at ≡ held.Unbound → ⊥
+ref_bound at is = subst IsSomething is tt
+
+-- what is given is something
+pub given_bound : (given : Given) (one : Held) → Gives given one → (one ≡ held.Unbound → ⊥)
+given_bound (given.Word word) one gives is =
+    true≢false (sym gives.is.1 ∙ ap has_slot_word is)
+given_bound (given.Int v) one gives is = subst IsSomething (sym gives.is ∙ is) tt
 
 -- one that holds nothing is bound to none
 pub none_shown : {heap : Heap} (found : Option Value) → ShowsHeld heap held.Unbound found → found ≡ None

@@ -1,9 +1,11 @@
 -- A heap that is the same as before shows the same.
 use Rattle.std.proofs.Common.{◌≡◌, sym, subst}
+use Rattle.std.specs.Prelude.{Option, Ok}
+use Rattle.handle_roots.specs.declared.given.Given.{Given}
 use Rattle.heap_model.specs.Types.{Operand, Value, Held}
 use Rattle.object_graph.specs.Graphs.{Graph, value_of}
 use Rattle.write_barrier.specs.MutatorState.{Mutator, MainShows}
-use Rattle.mutator.specs.Reading.{StandsFor, StandForBoth, IsShownValue}
+use Rattle.mutator.specs.Reading.{StandsFor, StandForBoth, IsShownValue, Finds, FindsGiven, StandsWithGiven}
 
 -- it shows a graph where it showed one
 pub some_still : {old new : Mutator} → new ≡ old → (graph : Graph) × MainShows old graph
@@ -34,3 +36,21 @@ pub first_still : {old new : Mutator} {pair : Held × Held} (a b : Operand) → 
     → IsShownValue new pair.0
 first_still {pair = pair} a b same (graph, shows) found =
     let both = found graph shows in value_still graph both.first pair.0 same shows both.stands_first
+
+-- what was found stands for two values where the first was found of the same heap as the second was given
+pub both_given : {old now : Mutator} {graph : Graph} {one other : Option Value} {first : Held} (given : Given)
+    → now ≡ old → Finds now graph one (Ok first) → FindsGiven old graph other (Ok given)
+    → StandsWithGiven old graph one other (first, given)
+both_given {old} {now} {graph} {first = first} given same (value, is, stands) (held, gives, (what, is_what, stands_what)) =
+    record {
+      second = held;
+      gives = gives;
+      both = record {
+        first = value;
+        is_first = is;
+        stands_first = subst (λ main. StandsFor main graph value first) same stands;
+        second = what;
+        is_second = is_what;
+        stands_second = stands_what;
+      };
+    }

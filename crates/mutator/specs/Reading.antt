@@ -15,6 +15,8 @@ use Rattle.object_graph.specs.Limits.{ideal_limits}
 use Rattle.object_graph.specs.Meaning.{done, fault, does}
 use Rattle.object_graph.specs.Reach.{is_marked, reach}
 use Rattle.shape_tree.specs.Shapes.{IsShapeOf}
+use Rattle.handle_roots.specs.declared.given.Given.{Given}
+use Rattle.handle_roots.specs.Givens.{Gives}
 use Rattle.handle_roots.specs.Roots.{FitsHeld}
 use Rattle.heap_model.specs.Slots.{IsPlace}
 use Rattle.write_barrier.specs.MutatorState.{Mutator, MainShows, heap_of}
@@ -47,6 +49,23 @@ pub record StandForBoth (main : Mutator) (graph : Graph) (one other : Option Val
 abbrev pub FindsBoth : Mutator → Graph → Option Value → Option Value → Result (Held × Held) FaultWord → Type 0
 FindsBoth main graph one other (Ok found) = StandForBoth main graph one other found
 FindsBoth main graph one other (Err word) = ((one ≡ None) ⊎ (other ≡ None)) × (word ≡ Unbound)
+
+-- the value that is sought is given; where none is there, the word is `unbound`
+abbrev pub FindsGiven : Mutator → Graph → Option Value → Result Given FaultWord → Type 0
+FindsGiven main graph sought (Ok given) = (held : Held) × Gives given held × Finds main graph sought (Ok held)
+FindsGiven main graph sought (Err word) = Finds main graph sought (Err word)
+
+-- What was found stands for two values that are sought, the second of which is given.
+pub record StandsWithGiven (main : Mutator) (graph : Graph) (one other : Option Value) (found : Held × Given)
+    : Type 0 where
+  pub second : Held
+  pub gives : Gives found.1 second
+  pub both : StandForBoth main graph one other (found.0, second)
+
+-- both were found; where one of them is not there, the word is `unbound`
+abbrev pub FindsWithGiven : Mutator → Graph → Option Value → Option Value → Result (Held × Given) FaultWord → Type 0
+FindsWithGiven main graph one other (Ok found) = StandsWithGiven main graph one other found
+FindsWithGiven main graph one other (Err word) = ((one ≡ None) ⊎ (other ≡ None)) × (word ≡ Unbound)
 
 -- what is held stands for a value of a graph that the heap shows
 pub record IsShownValue (main : Mutator) (held : Held) : Type 0 where

@@ -7,7 +7,7 @@ ghost use Rattle.write_barrier.specs.MutatorState.{MainShows};
 ghost use Rattle.mutator.specs.Binding.{Binds};
 ghost use Rattle.mutator.specs.CarriesOut.{Carries, field_numbers};
 
-use crate::lookups::{bound, operands, plain};
+use crate::lookups::{plain, target, target_and_given};
 use crate::stop::Stop;
 use heap_command::{Command, Operand};
 use write_barrier::Main;
@@ -26,7 +26,7 @@ pub fn set(main: &mut Main, x: u32, f: u32, v: Operand) -> Result<(), Stop>
         Carries names main.old main.new graph (Command.Set x f v) [] result }
 {
     // The value is read before the object is judged: `unbound` comes before `notobject`.
-    let (target, value) = operands(main, Operand::Var(x), v)?;
+    let (target, value) = target_and_given(main, x, v)?;
     let found = plain(main, target)?;
     shape_change::set(main, found.at, f, value)?;
     Ok(())
@@ -43,8 +43,8 @@ pub fn get(main: &mut Main, y: u32, x: u32, f: u32) -> Result<(), Stop>
         Carries names main.old main.new graph (Command.Get y x f) [] result }
     ensures binds { OnOk result (Binds main.old main.new y) }
 {
-    let target = bound(main, x)?;
-    let found = plain(main, target)?;
+    let held = target(main, x)?;
+    let found = plain(main, held)?;
     shape_change::hold_get(main, y, found.at, f);
     Ok(())
 }
@@ -60,8 +60,8 @@ pub fn del(main: &mut Main, x: u32, f: u32) -> Result<(), Stop>
     ensures carried { (graph : Graph) (names : List (List ℕ)) → MainShows main.old graph →
         Carries names main.old main.new graph (Command.Del x f) [] result }
 {
-    let target = bound(main, x)?;
-    let found = plain(main, target)?;
+    let held = target(main, x)?;
+    let found = plain(main, held)?;
     shape_change::delete(main, found.at, f)?;
     Ok(())
 }

@@ -8,8 +8,9 @@ ghost use Rattle.object_graph.specs.declared.value.Value.{Value};
 ghost use Rattle.write_barrier.specs.MutatorState.{Mutator, MainShows};
 ghost use Rattle.mutator.specs.Reading.{StandsFor, Finds, FindsBoth, IsShownValue, FindsObject, FindsPlain};
 ghost use Rattle.mutator.specs.Reading.{FindsInteger, FindsKey, FindsList, FindsWeak};
+ghost use Rattle.mutator.specs.Reading.{FindsGiven, FindsWithGiven};
 
-use handle_roots::Held;
+use handle_roots::{Given, Held};
 use heap_command::{FaultWord, Operand};
 use tagged_word::shape;
 use write_barrier::Main;
@@ -36,6 +37,21 @@ pub(crate) fn bound(main: &mut Main, x: u32) -> Result<Held, FaultWord>
     }
 }
 
+/// The same for a command that wants an object, which is told apart at once.
+#[inline(always)]
+pub(crate) fn target(main: &mut Main, x: u32) -> Result<Held, FaultWord>
+    requires shown { (graph : Graph) × MainShows main.old graph }
+    requires within { x < main.old.seat.space.variables }
+    ensures found { (graph : Graph) → MainShows main.old graph →
+        Finds main.old graph (get graph.bindings x) result }
+    ensures same { main.new ≡ main.old }
+{
+    match main.referred(x) {
+        Some(at) => Ok(Held::Ref(at)),
+        None => bound(main, x),
+    }
+}
+
 /// The value that the operand stands for.
 #[inline(always)]
 pub(crate) fn operand(main: &mut Main, v: Operand) -> Result<Held, FaultWord>
@@ -52,6 +68,21 @@ pub(crate) fn operand(main: &mut Main, v: Operand) -> Result<Held, FaultWord>
     }
 }
 
+/// The value that the operand stands for, of a command that wants an object, which is told apart at once.
+#[inline(always)]
+fn first_operand(main: &mut Main, v: Operand) -> Result<Held, FaultWord>
+    requires shown { (graph : Graph) × MainShows main.old graph }
+    requires within { NamesBelow main.old.seat.space.variables v }
+    ensures found { (graph : Graph) → MainShows main.old graph →
+        Finds main.old graph (value_of graph v) result }
+    ensures same { main.new ≡ main.old }
+{
+    match v {
+        Operand::Var(x) => target(main, x),
+        other => operand(main, other),
+    }
+}
+
 /// The values that two operands stand for. Both are read before either is judged: `unbound` comes
 /// before all other faults.
 #[inline(always)]
@@ -63,13 +94,65 @@ pub(crate) fn operands(main: &mut Main, a: Operand, b: Operand) -> Result<(Held,
         FindsBoth main.old graph (value_of graph a) (value_of graph b) result }
     ensures same { main.new ≡ main.old }
 {
-    let first = operand(main, a)?;
+    let first = first_operand(main, a)?;
     // Most commands begin with an object. That it is one is told apart before the second operand is
     // read: it would be carried through that, and asked for again.
     match first {
         Held::Ref(at) => Ok((Held::Ref(at), operand(main, b)?)),
         other => Ok((other, operand(main, b)?)),
     }
+}
+
+/// The value that the operand stands for, by the word that a slot has for it, where a slot has one.
+#[inline(always)]
+fn given(main: &mut Main, v: Operand) -> Result<Given, FaultWord>
+    requires shown { (graph : Graph) × MainShows main.old graph }
+    requires within { NamesBelow main.old.seat.space.variables v }
+    ensures found { (graph : Graph) → MainShows main.old graph →
+        FindsGiven main.old graph (value_of graph v) result }
+    ensures same { main.new ≡ main.old }
+{
+    match v {
+        Operand::Int(v) => Ok(Given::integer(v)),
+        Operand::Undefined => Ok(Given::undefined()),
+        Operand::Var(x) => given_in(main, x),
+    }
+}
+
+/// What the variable is bound to, by the word that a slot has for it, where a slot has one.
+#[inline(always)]
+fn given_in(main: &mut Main, x: u32) -> Result<Given, FaultWord>
+    requires shown { (graph : Graph) × MainShows main.old graph }
+    requires within { x < main.old.seat.space.variables }
+    ensures found { (graph : Graph) → MainShows main.old graph →
+        FindsGiven main.old graph (get graph.bindings x) result }
+    ensures same { main.new ≡ main.old }
+{
+    match main.given(x) {
+        Some(given) => Ok(given),
+        None => Err(FaultWord::Unbound),
+    }
+}
+
+/// What the variable is bound to, and the value that the operand stands for. Both are read before the first is
+/// judged: `unbound` comes before all other faults.
+#[inline(always)]
+pub(crate) fn target_and_given(
+    main: &mut Main,
+    x: u32,
+    v: Operand,
+) -> Result<(Held, Given), FaultWord>
+    requires shown { (graph : Graph) × MainShows main.old graph }
+    requires first { x < main.old.seat.space.variables }
+    requires second { NamesBelow main.old.seat.space.variables v }
+    ensures found { (graph : Graph) → MainShows main.old graph →
+        FindsWithGiven main.old graph (get graph.bindings x) (value_of graph v) result }
+    ensures same { main.new ≡ main.old }
+{
+    // The object comes last: what is told of its word is known where its cell is read.
+    let second = given(main, v)?;
+    let first = target(main, x)?;
+    Ok((first, second))
 }
 
 /// The object that the value refers to.

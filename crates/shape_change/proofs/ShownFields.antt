@@ -6,7 +6,8 @@ use Rattle.heap_model.specs.Types.{Header, LayoutWord, Field, Path, PathField, C
 use Rattle.object_graph.specs.Paths.{path_of}
 use Rattle.object_graph.specs.Graphs.{Graph, PlainObject}
 use Rattle.object_graph.specs.Objects.{field_value}
-use Rattle.shape_tree.specs.Shapes.{has_name, IsPathShape, shape_path}
+use Rattle.shape_tree.specs.Shapes.{has_name, IsPathShape, shape_path, IsLocated}
+use Rattle.shape_tree.specs.declared.located.Located.{Located}
 use Rattle.heap_model.specs.Heaps.{Heap, HasCell, words_of_cell}
 use Rattle.heap_model.specs.Showing.{ShowsPlain}
 use Rattle.heap_model.proofs.PathLayouts.{layout_is}
@@ -105,3 +106,23 @@ pub found_there : (shapes paths : List Path) (shape slot name : ℕ) → shapes 
 found_there shapes paths shape slot name same found =
     subst (λ (all : List Path). option_map (λ (field : PathField). field.name)
     (slice_get (shape_path all shape).fields slot) ≡ Some name) same found
+
+-- the field that was located has its name among those of the path
+pub located_named : (paths : List Path) (found : Located) (shape name : ℕ) → IsLocated paths found → found.shape ≡ shape
+    → found.name ≡ name
+    → option_map (λ (field : PathField). field.name) (slice_get (shape_path paths shape).fields found.at) ≡ Some name
+located_named paths found shape name located of_shape named =
+    ap (λ s. option_map (λ (field : PathField). field.name) (slice_get (shape_path paths s).fields found.at)) (sym of_shape)
+    ∙ ap (option_map (λ (field : PathField). field.name)) located.field ∙ ap Some named
+
+-- so it is with its representation
+pub located_rep : (paths : List Path) (found : Located) (shape : ℕ) → IsLocated paths found → found.shape ≡ shape
+    → option_map (λ (field : PathField). field.rep) (slice_get (shape_path paths shape).fields found.at) ≡ Some found.rep
+located_rep paths found shape located of_shape =
+    ap (λ s. option_map (λ (field : PathField). field.rep) (slice_get (shape_path paths s).fields found.at)) (sym of_shape)
+    ∙ ap (option_map (λ (field : PathField). field.rep)) located.field
+
+-- and its cap is the path's
+pub located_cap : (paths : List Path) (found : Located) (shape : ℕ) → IsLocated paths found → found.shape ≡ shape
+    → found.cap ≡ (shape_path paths shape).cap
+located_cap paths found shape located of_shape = located.cap ∙ ap (λ s. (shape_path paths s).cap) of_shape

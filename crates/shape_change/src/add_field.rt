@@ -1,7 +1,7 @@
 //! A field of a name that is new to its object. One that is there is in `set_field.rt`.
 ghost use Rattle.heap_model.specs.Needs as needs;
 ghost use Rattle.heap_model.specs.Rooms.{new_field_need};
-ghost use Rattle.std.specs.Prelude.{◌≡◌, ℤ, ◌+◌, ◌-◌, ◌<◌, ◌≤◌, false, OnOk, IfOk, IfErr, None};
+ghost use Rattle.std.specs.Prelude.{◌≡◌, ℤ, ◌+◌, ◌-◌, ◌<◌, ◌≤◌, false, OnOk, IfOk, IfErr, None, IfSome, OnSome};
 ghost use Rattle.std.specs.Prelude.{slice_set, length};
 ghost use Rattle.tagged_word.specs.Cells.{store_head, cell_words_most};
 ghost use Rattle.page_space.specs.Extents.{marks_start};
@@ -18,23 +18,26 @@ ghost use Rattle.object_cells.specs.PlainObjects.{IsPlainAt};
 ghost use Rattle.object_cells.specs.HeldValues.{IsValueHeld};
 ghost use Rattle.shape_change.specs.FieldChanges.{IsShownSetting, SetsField};
 ghost use Rattle.shape_change.specs.Additions.{IsNewField, RefusesField, CanAdd, AddsOwn, AddsToStore};
-ghost use Rattle.shape_change.specs.Additions.{AddsToNewStore, AddsField, count_of, behind_cap};
+ghost use Rattle.shape_change.specs.Additions.{AddsToNewStore, AddsField, count_of, behind_cap, own_content};
 ghost use Rattle.shape_change.specs.Additions.{ComesBehind};
 ghost use Rattle.object_cells.specs.Made.{PutsWords, IsStoreAt, RefusesRoom, is_wide_held};
+ghost use Rattle.handle_roots.specs.declared.held.Held.{Held as What};
+ghost use Rattle.handle_roots.specs.Givens.{Gives};
+ghost use Rattle.object_cells.specs.Contents.{held_rep};
 ghost use Rattle.object_cells.specs.Made.{content_need, content_word, slot_touch, store_content};
 
 use crate::stop::FieldStop;
 use crate::transitions::{set_shape, step_to};
-use handle_roots::Held;
+use handle_roots::{Given, Held};
 use heap_model::cells::FIRST_CAPACITY;
 use object_cells::{
     SlotContent, Store, boxed_word, content_of, make_store, need_of, rep_of, room_for, store_of,
 };
-use object_graph::PathField;
 use object_graph::limits::FIELDS_MOST;
+use object_graph::{PathField, Rep};
 use shape_tree::Step;
-use tagged_word::Header;
 use tagged_word::cell::{PLAIN_HEAD, STORE_HEAD};
+use tagged_word::{Header, Word};
 use write_barrier::{Main, NoRoom};
 
 /// A field of a new name, as it comes to an object.
@@ -86,7 +89,7 @@ fn new_field(main: &Main, shape: u32, name: u32, value: Held) -> Result<NewField
 /// # Errors
 /// The object has 64 fields, there may not be as many field paths, or there is no room for a store
 /// or a box that the field needs; nothing has changed.
-#[inline(never)]
+#[inline(always)]
 fn add_there(
     main: &mut Main,
     object: u32,
@@ -110,24 +113,75 @@ fn add_there(
     Ok(())
 }
 
-/// A call of `add_there` that is to have no part in what is done where the name is there.
+/// The narrowest representation that holds what a word stands for.
 #[inline(always)]
-pub(crate) fn add_apart(
+fn rep_of_word(word: Word) -> Rep
+    ensures { (held : What) → Gives (Given.Word word) held → result ≡ held_rep held }
+{
+    if word.0 % 2 == 0 {
+        Rep::Small
+    } else {
+        Rep::Tagged
+    }
+}
+
+/// How a field of a new name and a word comes to an in-object slot of an object of a shape, where there is one for
+/// it, and the path with the field is there.
+#[inline(always)]
+fn new_own(main: &Main, shape: u32, name: u32, word: Word) -> Option<NewField>
+    requires path { IsPathShape main.now.paths shape }
+    requires is_new { has_name (shape_path main.now.paths shape) name ≡ false }
+    requires given { (held : What) × Gives (Given.Word word) held }
+    ensures new { (held : What) → Gives (Given.Word word) held →
+        IfSome result (IsNewField main.now.paths shape name held) }
+    ensures own { OnSome result (count_of main.now.paths shape < (shape_path main.now.paths shape).cap) }
+{
+    let shapes = main.shapes();
+    let (slot, cap) = (shapes.fields(shape), shapes.cap(shape));
+    if slot >= cap {
+        return None;
+    }
+    let rep = rep_of_word(word);
+    let field = PathField { name, rep };
+    match shapes.can_step(shape, field) {
+        Ok(Step::Found(next)) => Some(NewField {
+            field,
+            value: Given::Word(word).held(),
+            slot,
+            cap,
+            step: Step::Found(next),
+        }),
+        _ => None,
+    }
+}
+
+/// Adds a field of a new name to the plain object at an address, as `add_there` does. Where it comes to an
+/// in-object slot, and its path is there, its word is put at once.
+#[inline(never)]
+pub(crate) fn add_given(
     main: &mut Main,
     object: u32,
     header: Header,
     name: u32,
-    value: Held,
+    value: Given,
 ) -> Result<(), FieldStop>
-    requires shown { IsShownSetting main.old object value }
+    requires shown { (held : What) × Gives value held × IsShownSetting main.old object held }
     requires headed { IsHeaderAt (heap_of main.old) object header }
     requires is_new { has_name (shape_path main.old.paths header.shape) name ≡ false }
-    ensures { (graph : Graph) (plain : PlainObject) (what : GraphValue) → MainShows main.old graph
-        → IsPlainAt main.old graph object plain → IsValueHeld main.old graph value what
+    ensures { (held : What) → Gives value held
+        → (graph : Graph) (plain : PlainObject) (what : GraphValue) → MainShows main.old graph
+        → IsPlainAt main.old graph object plain → IsValueHeld main.old graph held what
         → field_value plain.fields name ≡ None
         → SetsField main.old main.new graph object plain name what result }
 {
-    add_there(main, object, header, name, value)
+    main.addresses_fit();
+    if let Given::Word(word) = value {
+        if let Some(new) = new_own(main, header.shape, name, word) {
+            add_own(main, object, header, new, SlotContent::Tagged(word));
+            return Ok(());
+        }
+    }
+    add_there(main, object, header, name, value.held())
 }
 
 /// The slot that the field comes to, and how.
@@ -144,7 +198,8 @@ fn add_field(main: &mut Main, object: u32, header: Header, new: NewField) -> Res
         IfErr result (RefusesRoom main.old main.new need) }
 {
     if new.slot < new.cap {
-        add_own(main, object, header, new);
+        let content = content_of(true, new.field.rep, new.value);
+        add_own(main, object, header, new, content);
         return Ok(());
     }
     let store = store_of(main, object);
@@ -155,18 +210,18 @@ fn add_field(main: &mut Main, object: u32, header: Header, new: NewField) -> Res
     }
 }
 
-/// The field comes to the next in-object slot.
+/// The field comes to the next in-object slot, which comes to hold this.
 #[inline(always)]
-fn add_own(main: &mut Main, object: u32, header: Header, new: NewField)
+fn add_own(main: &mut Main, object: u32, header: Header, new: NewField, content: SlotContent)
     requires can { CanAdd main.old object header new.field.name new.value }
     requires new { let paths = main.old.paths in
         IsNewField paths header.shape new.field.name new.value new }
     requires own { let paths = main.old.paths in
         count_of paths header.shape < (shape_path paths header.shape).cap }
+    requires content { content ≡ own_content new.value }
     ensures { AddsOwn main.old main.new object header new.field.name new.value }
 {
     let next = step_to(main, header.shape, new.field, new.step);
-    let content = content_of(true, new.field.rep, new.value);
     put_own(main, object, PLAIN_HEAD + new.slot, content);
     set_shape(main, object, header, next);
 }

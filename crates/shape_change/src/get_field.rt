@@ -1,6 +1,7 @@
 //! The call `get`: a variable comes to hold a field.
 ghost use Rattle.std.specs.Prelude.{◌<◌};
 ghost use Rattle.object_graph.specs.Graphs.{Graph, PlainObject};
+ghost use Rattle.shape_tree.specs.Shapes.{IsLocated};
 ghost use Rattle.write_barrier.specs.MutatorState.{heap_of, MainShows};
 ghost use Rattle.object_cells.specs.PlainObjects.{IsPlainAt, IsShownPlain};
 ghost use Rattle.shape_change.specs.FieldChanges.{HoldsSlot, HoldsValue, value_or_undefined};
@@ -8,22 +9,22 @@ ghost use Rattle.object_cells.specs.CellsAt.{IsQuietWhole, HasField};
 
 use crate::slots::{hold_field, slot_place, word_of_place};
 use handle_roots::Held;
+use shape_tree::Located;
 use write_barrier::Main;
 
-/// Makes a variable hold the value of a field of the plain object at an address, by its place in the
-/// path.
+/// Makes a variable hold the value of a field of the plain object at an address, by where it stands in
+/// the path.
 #[inline(always)]
-fn hold_slot(main: &mut Main, variable: u32, object: u32, shape: u32, slot: u32)
+fn hold_slot(main: &mut Main, variable: u32, object: u32, found: Located)
     requires whole { IsQuietWhole main.old }
     requires known { variable < main.old.seat.space.variables }
-    requires there { HasField (heap_of main.old) object shape slot }
-    ensures { HoldsSlot main.old main.new variable object slot }
+    requires located { IsLocated main.old.paths found }
+    requires there { HasField (heap_of main.old) object found.shape found.at }
+    ensures { HoldsSlot main.old main.new variable object found.at }
 {
-    let shapes = main.shapes();
-    let place = slot_place(main, object, shapes.cap(shape), slot);
+    let place = slot_place(main, object, found.cap as u32, found.at);
     let word = word_of_place(main, object, place);
-    let rep = shapes.field(shape, slot).rep;
-    hold_field(main, variable, place.is_own(), rep, word);
+    hold_field(main, variable, place.is_own(), found.rep, word);
 }
 
 /// Makes a variable hold the value of a field of the plain object at an address; `undefined` where
@@ -37,8 +38,8 @@ pub fn hold_get(main: &mut Main, variable: u32, object: u32, name: u32)
         → HoldsValue main.old main.new variable (value_or_undefined plain name) }
 {
     let shape = main.header(object).shape;
-    match main.shapes().find(shape, name) {
-        Some(slot) => hold_slot(main, variable, object, shape, slot),
+    match main.locate(shape, name) {
+        Some(found) => hold_slot(main, variable, object, found),
         None => main.hold(variable, Held::Undefined),
     }
 }

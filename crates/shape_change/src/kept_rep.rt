@@ -1,7 +1,7 @@
 //! Fields that are there and keep their representation: most words are put at once. What else comes of
 //! setting a field is in `set_field.rt`.
 ghost use Rattle.std.specs.Prelude.{◌≡◌, ◌<◌, ℕ, Some, slice_get};
-ghost use Rattle.std.specs.Prelude.{option_map, IfSome, None};
+ghost use Rattle.std.specs.Prelude.{option_map, IfSome, None, IsTrue};
 ghost use Rattle.shape_change.specs.Fillings.{KeepsTagged, KeepsRaw};
 ghost use Rattle.write_barrier.specs.MutatorState.{heap_of, MainShows};
 ghost use Rattle.shape_change.specs.FieldChanges.{IsShownSetting, SetsField};
@@ -14,42 +14,19 @@ ghost use Rattle.object_graph.specs.Graphs.{Graph, PlainObject};
 ghost use Rattle.object_cells.specs.PlainObjects.{IsPlainAt};
 ghost use Rattle.object_cells.specs.HeldValues.{IsValueHeld};
 ghost use Rattle.object_cells.specs.Contents.{FillsSlot};
+ghost use Rattle.handle_roots.specs.declared.held.Held.{Held as What};
+ghost use Rattle.handle_roots.specs.Givens.{Gives};
+ghost use Rattle.shape_tree.specs.Shapes.{IsLocated, shape_path};
 
 use crate::set_field::{set_by_setting, setting_of};
 use crate::slots::{Place, fill};
 use crate::stop::FieldStop;
-use handle_roots::Held;
+use handle_roots::{Given, Held};
 use object_cells::{SlotContent, SlotWrite};
 use object_graph::Rep;
-use tagged_word::{Header, Word, odd};
+use shape_tree::Located;
+use tagged_word::{Header, Word};
 use write_barrier::Main;
-
-/// The word that the slot of a field of this representation comes to hold for an integer, where it
-/// is a tagged one, and the field keeps the representation.
-#[inline(always)]
-fn integer_word_for(was: Rep, v: i64) -> Option<Word>
-    ensures { IfSome result (KeepsTagged was (Held.Int v)) }
-{
-    match was {
-        Rep::Small => Word::small(v),
-        Rep::Wide => None,
-        Rep::Tagged => Word::small(v),
-    }
-}
-
-/// The word that the slot of a field of this representation comes to hold for a value, where it is a
-/// tagged one, and the field keeps the representation.
-#[inline(always)]
-fn word_for(was: Rep, value: Held) -> Option<Word>
-    ensures { IfSome result (KeepsTagged was value) }
-{
-    match value {
-        Held::Int(v) => integer_word_for(was, v),
-        Held::Ref(at) if was == Rep::Tagged => Some(Word::reference(at)),
-        Held::Undefined if was == Rep::Tagged => Some(Word::odd(odd::UNDEFINED)),
-        Held::Ref(_) | Held::Undefined | Held::Unbound => None,
-    }
-}
 
 /// The raw word that an own slot of a field of this representation comes to hold for a value, where
 /// it is a raw one, and the field keeps the representation.
@@ -83,40 +60,24 @@ fn put_raw(main: &mut Main, object: u32, place: Place, word: u64)
     fill(main, object, place, SlotWrite::Raw(word));
 }
 
-/// A call of `set_by_setting` that leaves the value where it is until then.
-#[inline(always)]
-fn set_apart(
-    main: &mut Main,
-    object: u32,
-    header: Header,
-    slot: u32,
-    value: Held,
-) -> Result<(), FieldStop>
-    requires shown { IsShownSetting main.old object value }
-    requires headed { IsHeaderAt (heap_of main.old) object header }
-    requires there { HasField (heap_of main.old) object header.shape slot }
-    ensures { (graph : Graph) (plain : PlainObject) (what : Value) (name : ℕ)
-        → MainShows main.old graph → IsPlainAt main.old graph object plain
-        → IsValueHeld main.old graph value what
-        → option_map (λ field. field.name) (slice_get plain.fields slot) ≡ Some name
-        → SetsField main.old main.new graph object plain name what result }
-{
-    set_by_setting(main, object, header, slot, value)
-}
-
-/// The same of a value for which the slot comes to hold no tagged word, or the field gets another
-/// representation: a raw word is put at once.
-#[inline(always)]
+/// Gives the field of this number and representation of the plain object at an address, whose path has this cap,
+/// the value, as `set_by_setting` does. A raw word is put at once.
+#[inline(never)]
 fn set_untagged(
     main: &mut Main,
     object: u32,
     header: Header,
     slot: u32,
+    rep: Rep,
+    cap: u8,
     value: Held,
 ) -> Result<(), FieldStop>
     requires shown { IsShownSetting main.old object value }
     requires headed { IsHeaderAt (heap_of main.old) object header }
     requires there { HasField (heap_of main.old) object header.shape slot }
+    requires rep { let fields = (shape_path main.old.paths header.shape).fields in
+        option_map (λ field. field.rep) (slice_get fields slot) ≡ Some rep }
+    requires cap { cap ≡ (shape_path main.old.paths header.shape).cap }
     ensures { (graph : Graph) (plain : PlainObject) (what : Value) (name : ℕ)
         → MainShows main.old graph → IsPlainAt main.old graph object plain
         → IsValueHeld main.old graph value what
@@ -124,45 +85,68 @@ fn set_untagged(
         → SetsField main.old main.new graph object plain name what result }
 {
     main.addresses_fit();
-    let shapes = main.shapes();
-    let cap = shapes.cap(header.shape);
-    match raw_for(shapes.field(header.shape, slot).rep, value) {
+    let cap = cap as u32;
+    match raw_for(rep, value) {
         Some(word) if slot < cap => {
-            let setting = setting_of(main, object, header.shape, slot, value);
+            let setting = setting_of(main, object, header.shape, slot, cap, value);
             put_raw(main, object, setting.place, word);
             Ok(())
         }
-        _ => set_apart(main, object, header, slot, value),
+        _ => set_by_setting(main, object, header, slot, value),
     }
 }
 
-/// Gives the field of this number of the plain object at an address the value, as `set_by_setting`
-/// does. A tagged word that the field takes as it is, is put at once.
+/// Whether a field of this representation keeps it for what a word stands for, and its slot comes to hold
+/// that word.
 #[inline(always)]
-pub(crate) fn set_there(
+fn takes(was: Rep, word: Word) -> bool
+    ensures { IsTrue result → (held : What) → Gives (Given.Word word) held → KeepsTagged was held word }
+{
+    match was {
+        Rep::Small => word.0 % 2 == 0,
+        Rep::Wide => false,
+        Rep::Tagged => true,
+    }
+}
+
+/// Gives the field that was found of the plain object at an address the value. A word that the slot of the
+/// field takes as it is, is put at once; so is a raw one.
+#[inline(always)]
+pub(crate) fn set_given(
     main: &mut Main,
     object: u32,
     header: Header,
-    slot: u32,
-    value: Held,
+    found: Located,
+    value: Given,
 ) -> Result<(), FieldStop>
-    requires shown { IsShownSetting main.old object value }
+    requires shown { (held : What) × Gives value held × IsShownSetting main.old object held }
     requires headed { IsHeaderAt (heap_of main.old) object header }
-    requires there { HasField (heap_of main.old) object header.shape slot }
-    ensures { (graph : Graph) (plain : PlainObject) (what : Value) (name : ℕ)
+    requires located { IsLocated main.old.paths found }
+    requires of_shape { found.shape ≡ header.shape }
+    requires there { HasField (heap_of main.old) object header.shape found.at }
+    ensures { (held : What) → Gives value held
+        → (graph : Graph) (plain : PlainObject) (what : Value) (name : ℕ)
         → MainShows main.old graph → IsPlainAt main.old graph object plain
-        → IsValueHeld main.old graph value what
-        → option_map (λ field. field.name) (slice_get plain.fields slot) ≡ Some name
+        → IsValueHeld main.old graph held what
+        → option_map (λ field. field.name) (slice_get plain.fields found.at) ≡ Some name
         → SetsField main.old main.new graph object plain name what result }
 {
     main.addresses_fit();
-    let was = main.shapes().field(header.shape, slot).rep;
-    match word_for(was, value) {
-        Some(word) => {
-            let setting = setting_of(main, object, header.shape, slot, value);
+    match value {
+        Given::Word(word) if takes(found.rep, word) => {
+            let cap = found.cap as u32;
+            let setting = setting_of(main, object, header.shape, found.at, cap, value.held());
             put_tagged(main, object, setting.place, word);
             Ok(())
         }
-        None => set_untagged(main, object, header, slot, value),
+        _ => set_untagged(
+            main,
+            object,
+            header,
+            found.at,
+            found.rep,
+            found.cap,
+            value.held(),
+        ),
     }
 }

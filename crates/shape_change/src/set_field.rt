@@ -19,14 +19,16 @@ ghost use Rattle.object_graph.specs.Graphs.{Graph, PlainObject};
 ghost use Rattle.heap_model.specs.Needs.{word_at};
 ghost use Rattle.object_cells.specs.PlainObjects.{IsPlainAt};
 ghost use Rattle.object_cells.specs.HeldValues.{IsValueHeld};
+ghost use Rattle.handle_roots.specs.declared.held.Held.{Held as What};
+ghost use Rattle.handle_roots.specs.Givens.{Gives};
 ghost use Rattle.object_cells.specs.Contents.{HoldsSlotWord, LacksRoom, FillsSlot, filling_at};
 
-use crate::add_field::add_apart;
-use crate::kept_rep::set_there;
+use crate::add_field::add_given;
+use crate::kept_rep::set_given;
 use crate::slots::{Place, fill, filling_of, slot_place};
 use crate::stop::FieldStop;
 use crate::transitions::{put_new_layouts, set_shape};
-use handle_roots::Held;
+use handle_roots::{Given, Held};
 use object_cells::{SlotContent, SlotWrite, content_of, rep_of};
 use object_graph::Rep;
 use shape_tree::ShapesFull;
@@ -46,22 +48,24 @@ pub(crate) struct SlotSetting {
     pub(crate) content: SlotContent,
 }
 
-/// How the slot of the field of this number of the plain object at an address is set to a value.
+/// How the slot of the field of this number of the plain object at an address is set to a value, by the
+/// cap of its path.
 #[inline(always)]
 pub(crate) fn setting_of(
     main: &Main,
     object: u32,
     shape: u32,
     slot: u32,
+    cap: u32,
     value: Held,
 ) -> SlotSetting
     requires shown { IsShownSetting main.now object value }
     requires there { HasField (heap_of main.now) object shape slot }
+    requires cap { cap ≡ (shape_path main.now.paths shape).cap }
     ensures { IsSlotSetting (heap_of main.now) object shape slot value result }
 {
-    let shapes = main.shapes();
-    let place = slot_place(main, object, shapes.cap(shape), slot);
-    let was = shapes.field(shape, slot).rep;
+    let place = slot_place(main, object, cap, slot);
+    let was = main.shapes().field(shape, slot).rep;
     let rep = was.join(rep_of(value));
     SlotSetting {
         place,
@@ -203,7 +207,7 @@ fn set_as_is(main: &mut Main, object: u32, place: Place, content: SlotContent) -
 
 /// Gives the field of this number of the plain object at an address the value. Its representation
 /// never narrows, and the object gets another shape where it widens.
-#[inline(never)]
+#[inline(always)]
 pub(crate) fn set_by_setting(
     main: &mut Main,
     object: u32,
@@ -221,7 +225,8 @@ pub(crate) fn set_by_setting(
         → SetsField main.old main.new graph object plain name what result }
 {
     main.addresses_fit();
-    let setting = setting_of(main, object, header.shape, slot, value);
+    let cap = main.shapes().cap(header.shape);
+    let setting = setting_of(main, object, header.shape, slot, cap, value);
     if setting.rep != setting.was {
         return set_wider(main, object, header, slot, setting);
     }
@@ -236,15 +241,16 @@ pub(crate) fn set_by_setting(
 /// The object has 64 fields and the name is new; there may not be as many field paths; there is no
 /// room. In this order; nothing has changed.
 #[inline(always)]
-pub fn set(main: &mut Main, object: u32, name: u32, value: Held) -> Result<(), FieldStop>
-    requires { IsShownSetting main.old object value }
-    ensures { (graph : Graph) (plain : PlainObject) (what : Value) → MainShows main.old graph
-        → IsPlainAt main.old graph object plain → IsValueHeld main.old graph value what
+pub fn set(main: &mut Main, object: u32, name: u32, value: Given) -> Result<(), FieldStop>
+    requires { (held : What) × Gives value held × IsShownSetting main.old object held }
+    ensures { (held : What) → Gives value held
+        → (graph : Graph) (plain : PlainObject) (what : Value) → MainShows main.old graph
+        → IsPlainAt main.old graph object plain → IsValueHeld main.old graph held what
         → SetsField main.old main.new graph object plain name what result }
 {
     let header = main.header(object);
-    match main.shapes().find(header.shape, name) {
-        Some(slot) => set_there(main, object, header, slot, value),
-        None => add_apart(main, object, header, name, value),
+    match main.locate(header.shape, name) {
+        Some(found) => set_given(main, object, header, found, value),
+        None => add_given(main, object, header, name, value),
     }
 }

@@ -16,16 +16,20 @@ use Rattle.shape_tree.specs.declared.transition.Transition.{Transition}
 use Rattle.shape_tree.specs.declared.tree.ShapeTree.TheInside.{Inside}
 use Rattle.shape_tree.specs.Shapes.{AreShapes, shape_path}
 use Rattle.shape_tree.specs.Nodes.{same_transition, root_node_of, cache_entries, empty_entry, paths_in, IsNode}
-use Rattle.shape_tree.specs.Nodes.{IsTransition, FindsSteps, AreCached}
+use Rattle.shape_tree.specs.Nodes.{IsTransition, FindsSteps, AreCached, AreAltered, AreLookedUp}
+use Rattle.shape_tree.specs.Nodes.{alteration_entries, no_alteration, look_up_entries, no_look_up}
 use Rattle.shape_tree.specs.Trees.{HasCapacity, IsTree, paths_of}
 use Rattle.shape_tree.proofs.CachedSteps.{empty_cache}
+use Rattle.shape_tree.proofs.KeptAlterations.{none_altered}
+use Rattle.shape_tree.proofs.LookedUpFields.{none_looked_up}
 
--- a tree with the fields, the nodes, the transitions and the cache of another
+-- a tree with the fields, the nodes, the transitions and the caches of another
 pub copied_tree : (other new : Inside) → IsTree other → new.fields.items ≡ other.fields.items
     → new.nodes.items ≡ other.nodes.items
     → ((step : Transition) → get same_transition new.steps step ≡ get same_transition other.steps step)
-    → new.cache.items ≡ other.cache.items → HasCapacity new → IsTree new
-copied_tree other new is fields nodes steps cache room =
+    → new.cache.items ≡ other.cache.items → new.alterations.items ≡ other.alterations.items
+    → new.look_ups.items ≡ other.look_ups.items → HasCapacity new → IsTree new
+copied_tree other new is fields nodes steps cache alterations look_ups room =
     let shown : paths_of new ≡ paths_of other =
     ap (λ rs. paths_in rs new.nodes.items) fields ∙ ap (paths_in other.fields.items) nodes in
     let finds : FindsSteps (paths_of other) (get same_transition new.steps) = record {
@@ -40,6 +44,10 @@ copied_tree other new is fields nodes steps cache room =
       finds = subst (λ ps. FindsSteps ps (get same_transition new.steps)) (sym shown) finds;
       cached = subst (AreCached (paths_of new)) (sym cache)
           (subst (λ ps. AreCached ps other.cache.items) (sym shown) is.cached);
+      altered = subst (AreAltered (paths_of new)) (sym alterations)
+          (subst (λ ps. AreAltered ps other.alterations.items) (sym shown) is.altered);
+      looked_up = subst (AreLookedUp (paths_of new)) (sym look_ups)
+          (subst (λ ps. AreLookedUp ps other.look_ups.items) (sym shown) is.looked_up);
       room = room;
     }
 
@@ -80,9 +88,10 @@ empty_finds look none = record {
 
 -- the first tree
 pub first_tree : (new : Inside) → new.fields.items ≡ [] → new.nodes.items ≡ root_nodes_of
-    → new.steps.entries ≡ [] → new.cache.items ≡ replicate cache_entries empty_entry → HasCapacity new
-    → IsTree new
-first_tree new fields nodes steps cache room =
+    → new.steps.entries ≡ [] → new.cache.items ≡ replicate cache_entries empty_entry
+    → new.alterations.items ≡ replicate alteration_entries no_alteration
+    → new.look_ups.items ≡ replicate look_up_entries no_look_up → HasCapacity new → IsTree new
+first_tree new fields nodes steps cache alterations look_ups room =
     let shown : paths_of new ≡ empty_paths =
     ap (λ rs. paths_in rs new.nodes.items) fields ∙ ap (paths_in []) nodes ∙ paths_in-root_nodes_of in
     let good : AreShapes empty_paths = record { are = empty_paths_are; few = omega (arith, length-empty_paths) } in
@@ -95,5 +104,7 @@ first_tree new fields nodes steps cache room =
       finds = subst (λ ps. FindsSteps ps (get same_transition new.steps)) (sym shown)
           (empty_finds (get same_transition new.steps) none);
       cached = subst (AreCached (paths_of new)) (sym cache) (empty_cache (paths_of new));
+      altered = subst (AreAltered (paths_of new)) (sym alterations) (none_altered (paths_of new));
+      looked_up = subst (AreLookedUp (paths_of new)) (sym look_ups) (none_looked_up (paths_of new));
       room = room;
     }

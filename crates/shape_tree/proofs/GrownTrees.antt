@@ -15,19 +15,22 @@ use Rattle.shape_tree.specs.declared.tree.ShapeTree.TheInside.{Inside}
 use Rattle.shape_tree.specs.Shapes.{AreShapes, IsPathShape, shape_path}
 use Rattle.shape_tree.specs.Growth.{extended, IsMissing}
 use Rattle.shape_tree.specs.Nodes.{same_transition, transition_by, paths_in, IsNode, IsCached}
-use Rattle.shape_tree.specs.Nodes.{AreCached, FindsSteps}
+use Rattle.shape_tree.specs.Nodes.{AreCached, AreAltered, AreLookedUp, FindsSteps}
 use Rattle.shape_tree.specs.Trees.{HasCapacity, IsTree, paths_of}
 use Rattle.shape_tree.proofs.ShapePaths.{has_shape_path}
 use Rattle.shape_tree.proofs.GrownPaths.{are_with_next}
 use Rattle.shape_tree.proofs.FoundSteps.{AddsStep, last_step, finds_more}
 use Rattle.shape_tree.proofs.CachedSteps.{cache_grown}
+use Rattle.shape_tree.proofs.KeptAlterations.{AreAltered-append}
+use Rattle.shape_tree.proofs.LookedUpFields.{AreLookedUp-append}
 use Rattle.shape_tree.proofs.GrownNodes.{IsGrown, fields_with, paths_in-grown, each-grown}
 
 -- the entry of the cache for the step by a field
 abbrev pub cached_by : ℕ → PathField → ℕ → Cached
 cached_by parent field shape = record { step = transition_by parent field; shape = shape }
 
--- a tree has one path more, with its fields, its node and the transition to it, which is cached at some entry
+-- a tree has one path more, with its fields, its node and the transition to it, which is cached at some entry; the
+-- other caches stay
 pub record IsMore (tree new : Inside) (parent : ℕ) (field : PathField) (node grown : Node)
     (entry next : ℕ) : Type 0 where
   pub at : node ≡ get_or tree.nodes.items (parent - first_path_shape) node
@@ -36,6 +39,8 @@ pub record IsMore (tree new : Inside) (parent : ℕ) (field : PathField) (node g
   pub nodes : new.nodes.items ≡ tree.nodes.items ++ grown ∷ []
   pub comes : next ≡ first_path_shape + length (paths_of tree)
   pub cache : new.cache.items ≡ set tree.cache.items entry (cached_by parent field next)
+  pub alterations : new.alterations.items ≡ tree.alterations.items
+  pub look_ups : new.look_ups.items ≡ tree.look_ups.items
   pub steps :
       AddsStep (paths_of tree) (transition_by parent field) (get same_transition tree.steps)
       (get same_transition new.steps)
@@ -83,6 +88,12 @@ more_becomes tree new parent field node grown entry next is more starts missed m
         finds = subst (λ ps. FindsSteps ps (get same_transition new.steps)) (sym shown) finds;
         cached = subst (AreCached (paths_of new)) (sym more.cache)
             (subst (λ ps. AreCached ps (set tree.cache.items entry cached)) (sym shown) cache);
+        altered = subst (AreAltered (paths_of new)) (sym more.alterations)
+            (subst (λ ps. AreAltered ps tree.alterations.items) (sym shown)
+            (AreAltered-append paths (path ∷ []) tree.alterations.items is.altered));
+        looked_up = subst (AreLookedUp (paths_of new)) (sym more.look_ups)
+            (subst (λ ps. AreLookedUp ps tree.look_ups.items) (sym shown)
+            (AreLookedUp-append paths (path ∷ []) tree.look_ups.items is.looked_up));
         room = more.room;
       };
       shows = shown;

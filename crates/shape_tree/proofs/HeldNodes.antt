@@ -1,5 +1,5 @@
 -- What the nodes and fields of a tree tell of its paths.
-use Rattle.std.proofs.Common.{◌≡◌, ℕ, ◌+◌, ◌-◌, ◌<◌, ◌≤◌, List, [], length, get_or, drop, sym, ap}
+use Rattle.std.proofs.Common.{◌≡◌, ℕ, ◌+◌, ◌-◌, ◌<◌, ◌≤◌, List, [], length, get_or, take, drop, sym, ap}
 use Rattle.std.proofs.Common.{◌∙◌, subst, arith}
 use Rattle.std.proofs.Common.{◌++◌, length-take, length-drop, length-append}
 use Rattle.std.specs.Prelude.{All}
@@ -87,6 +87,21 @@ IsNodeOf-shown tree paths shape node is shown starts at =
     subst (λ ps. IsNodeOf ps shape node) shown
     (IsNodeOf-at tree.fields.items tree.nodes.items shape node is.shapes is.each
     (subst (λ ps. IsPathShape ps shape) (sym shown) starts) at)
+
+-- the path of a node, its fields as a slice of all fields has them, is that of its shape
+pub own_path : (tree : Inside) (paths : List Path) (shape : ℕ) (node : Node) (all : List PathField) → IsTree tree
+    → paths_of tree ≡ paths → IsPathShape paths shape
+    → node ≡ get_or tree.nodes.items (shape - first_path_shape) node → all ≡ tree.fields.items
+    → record { cap = node.cap; fields = take (node.start + node.count - node.start) (drop node.start all) }
+    ≡ shape_path paths shape
+own_path tree paths shape node all is shown starts at same =
+    let fields = tree.fields.items in
+    let count : node.start + node.count - node.start ≡ node.count = omega arith in
+    let path : shape_path (paths_of tree) shape ≡ path_at fields node =
+    shape_path-paths_in fields tree.nodes.items shape node
+    (subst (λ ps. IsPathShape ps shape) (sym shown) starts) at in
+    let taken : ℕ → Path = λ n. record { cap = node.cap; fields = take n (drop node.start all) } in
+    ap taken count ∙ ap (λ fs. path_at fs node) same ∙ sym path ∙ ap (λ ps. shape_path ps shape) shown
 
 -- the path of no field and a cap that is at most 8 has the shape of that place
 pub IsShapeOf-root : (paths : List Path) (cap : ℕ) → AreShapes paths → cap ≤ cap_most

@@ -11,6 +11,8 @@ mod SoughtSteps
 mod CopiedSteps
 mod HeldNodes
 mod CachedSteps
+mod KeptAlterations
+mod LookedUpFields
 mod GrownNodes
 mod GrownTrees
 mod FirstTrees

@@ -1,6 +1,6 @@
 -- Fields, nodes and transitions: what a tree of shapes holds of a list of paths.
-use Rattle.std.specs.Prelude.{◌≡◌, ℕ, ◌+◌, ◌-◌, ◌<◌, ◌≤◌, Bool, List, [], ◌∷◌, map, length}
-use Rattle.std.specs.Prelude.{take, drop, All, Option, Some}
+use Rattle.std.specs.Prelude.{◌≡◌, ℕ, ◌+◌, ◌-◌, ◌<◌, ◌≤◌, Bool, false, List, [], ◌∷◌, map, length}
+use Rattle.std.specs.Prelude.{take, drop, set, slice_get, All, Option, Some, None, cond, MatchOption}
 use Rattle.object_graph.specs.declared.path.Path.{Path}
 use Rattle.object_graph.specs.declared.path.PathField.{PathField}
 use Rattle.object_graph.specs.declared.value.Rep.TheVariants.{Small}
@@ -11,7 +11,13 @@ use Rattle.shape_tree.specs.declared.node.Node.{Node}
 use Rattle.shape_tree.specs.declared.cached.Cached.{Cached}
 use Rattle.shape_tree.specs.declared.transition.Transition.{Transition}
 use Rattle.shape_tree.specs.contracts.transition.TransitionPartialEq.TheImpl as transition_eq
-use Rattle.shape_tree.specs.Shapes.{IsPathShape, IsShapeOf, shape_path}
+use Rattle.shape_tree.specs.declared.alterations.Altered.{Altered}
+use Rattle.shape_tree.specs.declared.alterations.Alteration.{Alteration}
+use Rattle.shape_tree.specs.declared.alterations.Becomes.{Becomes}
+use Rattle.shape_tree.specs.declared.alterations.Becomes.TheVariants.{To, Gone}
+use Rattle.shape_tree.specs.declared.located.Located.{Located}
+use Rattle.shape_tree.specs.declared.look_ups.LookUp.{LookUp}
+use Rattle.shape_tree.specs.Shapes.{IsPathShape, IsShapeOf, shape_path, has_name, changed, without}
 use Rattle.shape_tree.specs.Growth.{extended}
 use Rattle.shape_tree.specs.ShapeLayouts.{layout_of}
 
@@ -64,6 +70,83 @@ IsCached paths cached = 0 < cached.shape → IsTransition paths cached.step cach
 pub record AreCached (paths : List Path) (cache : List Cached) : Type 0 where
   pub counted : length cache ≡ cache_entries
   pub each : All (IsCached paths) cache
+
+-- what a field of a path becomes leads to this path: with another representation, or without it
+abbrev pub altered : Path → ℕ → Becomes → Path
+altered path at (To rep) = changed path at rep
+altered path at Gone = without path at
+
+-- the alteration is one of a field of a path's shape, and leads to this shape
+pub record IsAlteration (paths : List Path) (alteration : Alteration) (shape : ℕ) : Type 0 where
+  pub starts : IsPathShape paths alteration.shape
+  pub there : alteration.at < length (shape_path paths alteration.shape).fields
+  pub leads : IsShapeOf paths (altered (shape_path paths alteration.shape) alteration.at alteration.becomes) shape
+
+-- how many entries the cache of alterations has
+abbrev pub alteration_entries : ℕ
+alteration_entries = 1024
+
+-- what stands in an entry where no alteration is cached
+abbrev pub no_alteration : Altered
+no_alteration = record { alteration = record { shape = 0; at = 0; becomes = Gone }; shape = 0 }
+
+-- where the entry has an alteration, it leads to its shape
+abbrev pub IsAltered : List Path → Altered → Type 0
+IsAltered paths altered = 0 < altered.shape → IsAlteration paths altered.alteration altered.shape
+
+-- each entry has an alteration, or what stands for none
+pub record AreAltered (paths : List Path) (cache : List Altered) : Type 0 where
+  pub counted : length cache ≡ alteration_entries
+  pub each : All (IsAltered paths) cache
+
+-- how many entries the look-up cache has
+abbrev pub look_up_entries : ℕ
+look_up_entries = 2048
+
+-- what stands in an entry where no look-up is cached: no path has this shape
+abbrev pub no_look_up : LookUp
+no_look_up = record { shape = 0; name = 0; at = 0; cap = 0; rep = Small; is_there = false }
+
+-- what a look-up found: where a field stands, or none
+abbrev pub found_in : LookUp → Option Located
+found_in look_up =
+    cond look_up.is_there
+    (Some (record {
+      shape = look_up.shape;
+      name = look_up.name;
+      at = look_up.at;
+      cap = look_up.cap;
+      rep = look_up.rep;
+    }))
+    None
+
+-- the path has this cap, and the field at this place
+pub record HasLocated (path : Path) (found : Located) : Type 0 where
+  pub field : slice_get path.fields found.at ≡ Some (record { name = found.name; rep = found.rep })
+  pub cap : found.cap ≡ path.cap
+
+-- the look-up found where the path's field of its name stands, or none where the path has none
+abbrev pub TellsOf : Path → LookUp → Type 0
+TellsOf path look_up =
+    MatchOption (found_in look_up) (has_name path look_up.name ≡ false) (HasLocated path)
+
+-- where the entry has a shape, it is a path's, and the entry tells of that path
+abbrev pub IsLookedUp : List Path → LookUp → Type 0
+IsLookedUp paths look_up =
+    0 < look_up.shape → IsPathShape paths look_up.shape × TellsOf (shape_path paths look_up.shape) look_up
+
+-- each entry tells of a path, or of nothing
+pub record AreLookedUp (paths : List Path) (cache : List LookUp) : Type 0 where
+  pub counted : length cache ≡ look_up_entries
+  pub each : All (IsLookedUp paths) cache
+
+-- the entry of the look-up cache came to tell whether this path, which has the shape, has the name, and where
+pub record Keeps (old new : List LookUp) (entry : ℕ) (path : Path) (shape name : ℕ) : Type 0 where
+  pub look_up : LookUp
+  pub kept : new ≡ set old entry look_up
+  pub of_shape : look_up.shape ≡ shape
+  pub of_name : look_up.name ≡ name
+  pub tells : TellsOf path look_up
 
 -- the look-up finds each transition, and nothing else
 pub record FindsSteps (paths : List Path) (look : Transition → Option ℕ) : Type 0 where

@@ -1,6 +1,6 @@
 -- Shapes: the numbers of field paths, and the paths that a change of fields leads to.
 use Rattle.std.specs.Prelude.{◌≡◌, ℕ, zero, suc, ◌+◌, ◌-◌, ◌<◌, ◌≤◌, Bool, List, [], ◌∷◌}
-use Rattle.std.specs.Prelude.{◌++◌, take, drop, get_or, length, Some, None, ◌==◌}
+use Rattle.std.specs.Prelude.{◌++◌, take, drop, get_or, length, slice_get, Some, None, ◌==◌}
 use Rattle.std.specs.List.{list_any}
 use Rattle.tagged_word.specs.Shapes.{first_path_shape}
 use Rattle.object_graph.specs.declared.path.Path.{Path}
@@ -10,6 +10,7 @@ use Rattle.object_graph.specs.Paths.{missing, with_path}
 use Rattle.object_graph.specs.Invariants.{ArePaths}
 use Rattle.object_graph.specs.Limits.{paths_most}
 use Rattle.shape_tree.specs.declared.full.ShapesFull.{ShapesFull}
+use Rattle.shape_tree.specs.declared.located.Located.{Located}
 
 -- the paths of a tree of shapes: those of a graph, and no more than there may be
 pub record AreShapes (paths : List Path) : Type 0 where
@@ -51,6 +52,13 @@ without path at = record path { fields = take at path.fields ++ drop (suc at) pa
 pub record IsShapeOf (paths : List Path) (path : Path) (shape : ℕ) : Type 0 where
   pub is_shape : IsPathShape paths shape
   pub of_path : shape_path paths shape ≡ path
+
+-- the shape is a path's, which has a field of this name and representation at this place, and this cap
+pub record IsLocated (paths : List Path) (found : Located) : Type 0 where
+  pub is_shape : IsPathShape paths found.shape
+  pub field : slice_get (shape_path paths found.shape).fields found.at
+      ≡ Some (record { name = found.name; rep = found.rep })
+  pub cap : found.cap ≡ (shape_path paths found.shape).cap
 
 -- the path was there, or it and its missing prefixes were added behind the others; its shape is this one
 pub record Leads (old new : List Path) (path : Path) (shape : ℕ) : Type 0 where

@@ -8,6 +8,7 @@ use Rattle.object_graph.specs.Limits.{paths_most}
 use Rattle.shape_tree.specs.declared.tree.ShapeTree.TheInside.{Inside}
 use Rattle.shape_tree.specs.Shapes.{AreShapes}
 use Rattle.shape_tree.specs.Nodes.{same_transition, paths_in, IsNode, FindsSteps, AreCached}
+use Rattle.shape_tree.specs.Nodes.{AreAltered, AreLookedUp}
 
 -- there is room for all the paths that there may be
 pub record HasCapacity (tree : Inside) : Type 0 where
@@ -27,4 +28,6 @@ pub record IsTree (tree : Inside) : Type 0 where
   pub each : All (IsNode tree.fields.items (paths_of tree)) tree.nodes.items
   pub finds : FindsSteps (paths_of tree) (get same_transition tree.steps)
   pub cached : AreCached (paths_of tree) tree.cache.items
+  pub altered : AreAltered (paths_of tree) tree.alterations.items
+  pub looked_up : AreLookedUp (paths_of tree) tree.look_ups.items
   pub room : HasCapacity tree

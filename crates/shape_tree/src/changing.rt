@@ -128,11 +128,13 @@ impl ShapeTree {
         }
     }
 
-    /// The shape of the path, one field of which has another representation.
-    ///
-    /// # Errors
-    /// There would be more than 8,192 paths; nothing has changed.
-    pub fn change(&mut self, shape: u32, at: u32, rep: Rep) -> Result<u32, ShapesFull>
+    /// The shape of the path, one field of which has another representation, by the steps of the tree.
+    pub(crate) fn change_by_steps(
+        &mut self,
+        shape: u32,
+        at: u32,
+        rep: Rep,
+    ) -> Result<u32, ShapesFull>
         requires path { IsPathShape self.old shape }
         requires there { at < length (shape_path self.old shape).fields }
         ensures changed { let path = changed (shape_path self.old shape) at rep in
@@ -164,11 +166,8 @@ impl ShapeTree {
         self.lead(route.from, route.tail.as_slice())
     }
 
-    /// The shape of the path with one field taken out; the later ones keep their order.
-    ///
-    /// # Errors
-    /// There would be more than 8,192 paths; nothing has changed.
-    pub fn without(&mut self, shape: u32, at: u32) -> Result<u32, ShapesFull>
+    /// The shape of the path with one field taken out, by the steps of the tree.
+    pub(crate) fn without_by_steps(&mut self, shape: u32, at: u32) -> Result<u32, ShapesFull>
         requires path { IsPathShape self.old shape }
         requires there { at < length (shape_path self.old shape).fields }
         ensures taken_out { let path = without (shape_path self.old shape) at in
@@ -184,7 +183,7 @@ impl ShapeTree {
         }
     }
 
-    /// The same, where steps to the path may be missing, out of line as for `change`.
+    /// The same, where steps to the path may be missing, out of line as for `lead_to_changed`.
     #[cold]
     #[inline(never)]
     fn lead_without(&mut self, shape: u32, at: u32) -> Result<u32, ShapesFull>

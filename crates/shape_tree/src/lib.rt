@@ -3,15 +3,19 @@
 //! Model: the list of paths in the order in which they were made; shape `s` is path `s - 8`.
 //! Invariant: the list is that of a graph (`AreShapes` of `specs/Shapes.antt`): the nine empty
 //! paths first, none twice, with each its prefixes. What the tree holds of each path and of each
-//! step is `IsTree` of `specs/Trees.antt`. The cache of transitions, which is kept for speed, is
-//! tied there to the table of all of them.
+//! step is `IsTree` of `specs/Trees.antt`. Three caches are kept for speed: of transitions, of
+//! alterations, and of names that were looked up. Each of their entries is tied there to the paths.
 #![tactic(auto)]
 
+mod alterations;
+mod altering;
 mod cached;
 mod changing;
 mod full;
 mod growing;
 mod laws;
+mod located;
+mod look_ups;
 mod node;
 mod queries;
 mod route;
@@ -20,6 +24,7 @@ mod tree;
 mod walking;
 
 pub use full::ShapesFull;
+pub use located::Located;
 pub use object_graph::{PathField, Rep};
 pub use transition::Step;
 pub use tree::ShapeTree;

@@ -5,10 +5,12 @@ ghost use Rattle.tagged_word.specs.Layouts.{IsLayout, layout_bits};
 ghost use Rattle.object_graph.specs.Paths.{prefix_of};
 ghost use Rattle.heap_command.specs.Commands.{cap_most};
 ghost use Rattle.object_graph.specs.Invariants.{IsPath, fields_most};
-ghost use Rattle.shape_tree.specs.Shapes.{AreShapes, IsPathShape, IsShapeOf, shape_path, has_name};
+ghost use Rattle.shape_tree.specs.Shapes.{AreShapes, IsPathShape, IsShapeOf, shape_path, has_name, IsLocated};
 ghost use Rattle.shape_tree.specs.ShapeLayouts.{IsInUse, layout_of, layout_word};
 ghost use Rattle.shape_tree.specs.Nodes.{IsNodeOf};
 
+use crate::located::Located;
+use crate::look_ups::{keep_look_up, look_up_index, place_of};
 use crate::node::Node;
 use crate::tree::{FIRST, ShapeTree};
 use object_graph::PathField;
@@ -123,12 +125,27 @@ impl ShapeTree {
             option_map (λ field. field.name) (slice_get fields at) ≡ Some name) }
         ensures none { IsNone result ↔ (has_name (shape_path self.now shape) name ≡ false) }
     {
-        for (at, field) in self.fields_of(shape).iter().enumerate() {
-            if field.name == name {
-                return Some(at as u32);
-            }
+        place_of(self.fields_of(shape), name)
+    }
+
+    /// Where the field of this name stands in the path of a shape. What was found, a field or none, is kept at
+    /// hand, so that it is found at once the next time.
+    #[inline(always)]
+    pub fn locate(&mut self, shape: u32, name: u32) -> Option<Located>
+        requires { IsPathShape self.old shape }
+        ensures found { IfSome result (λ found.
+            IsLocated self.old found × (found.shape ≡ shape) × (found.name ≡ name)) }
+        ensures none { IsNone result ↔ (has_name (shape_path self.old shape) name ≡ false) }
+        ensures same { self.new ≡ self.old }
+    {
+        let entry = look_up_index(shape, name);
+        if !self.look_ups[entry].is_for(shape, name) {
+            let node = &self.nodes[(shape - FIRST) as usize];
+            let start = node.start as usize;
+            let fields = &self.fields[start..start + node.count as usize];
+            keep_look_up(&mut self.look_ups, entry, fields, node.cap, shape, name);
         }
-        None
+        self.look_ups[entry].found()
     }
 
     /// The shape of the path without its last field.

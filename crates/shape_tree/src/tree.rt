@@ -6,10 +6,13 @@ ghost use Rattle.std.specs.Vec.{vec_capacity};
 ghost use Rattle.std.specs.HashMap.{get, hash_map_len, spare, IsUnique};
 ghost use Rattle.object_graph.specs.Paths.{empty_paths};
 ghost use Rattle.shape_tree.specs.Nodes.{same_transition, root_node_of, empty_entry};
-ghost use Rattle.shape_tree.specs.Nodes.{cache_entries};
+ghost use Rattle.shape_tree.specs.Nodes.{cache_entries, no_alteration, alteration_entries};
+ghost use Rattle.shape_tree.specs.Nodes.{no_look_up, look_up_entries};
 ghost use Rattle.shape_tree.specs.declared.transition.Transition.{Transition};
 
+use crate::alterations::{ALTERATION_ENTRIES, Altered};
 use crate::cached::{CACHE_ENTRIES, Cached};
+use crate::look_ups::{LOOK_UP_ENTRIES, LookUp};
 use crate::node::Node;
 use crate::transition::Transition;
 use object_graph::PathField;
@@ -38,6 +41,10 @@ pub struct ShapeTree {
     pub(crate) steps: HashMap<Transition, u32>,
     /// Some of these steps, each at its entry: answers without the table.
     pub(crate) cache: Vec<Cached>,
+    /// Alterations that were asked for, each at its entry: answers without a way through the tree.
+    pub(crate) alterations: Vec<Altered>,
+    /// Names that were looked up, each at its entry: answers without a search.
+    pub(crate) look_ups: Vec<LookUp>,
 }
 
 impl Model for ShapeTree {
@@ -93,6 +100,24 @@ fn empty_cache(alloc: Global) -> Result<Vec<Cached>, AllocError>
     Ok(cache)
 }
 
+/// The cache of alterations, where there is none.
+fn no_alterations(alloc: Global) -> Result<Vec<Altered>, AllocError>
+    ensures { IfOk result (λ cache. cache.items ≡ replicate alteration_entries no_alteration) }
+{
+    let empty = Altered::empty();
+    let cache = vec![in alloc; empty; ALTERATION_ENTRIES]?;
+    Ok(cache)
+}
+
+/// The look-up cache, where nothing was looked up.
+fn no_look_ups(alloc: Global) -> Result<Vec<LookUp>, AllocError>
+    ensures { IfOk result (λ cache. cache.items ≡ replicate look_up_entries no_look_up) }
+{
+    let none = LookUp::none();
+    let cache = vec![in alloc; none; LOOK_UP_ENTRIES]?;
+    Ok(cache)
+}
+
 /// Puts a transition into the table, which has room for it.
 pub(crate) fn put_step(steps: &mut HashMap<Transition, u32>, step: Transition, shape: u32)
     requires { 0 < spare steps.old }
@@ -145,11 +170,15 @@ impl ShapeTree {
         let nodes = root_nodes(alloc)?;
         let steps = HashMap::with_capacity(alloc, PATHS_MOST as usize)?;
         let cache = empty_cache(alloc)?;
+        let alterations = no_alterations(alloc)?;
+        let look_ups = no_look_ups(alloc)?;
         Ok(ShapeTree {
             fields,
             nodes,
             steps,
             cache,
+            alterations,
+            look_ups,
         })
     }
 
@@ -161,5 +190,7 @@ impl ShapeTree {
         copy_items(&mut self.nodes, &other.nodes);
         copy_steps(&mut self.steps, &other.steps);
         copy_items(&mut self.cache, &other.cache);
+        copy_items(&mut self.alterations, &other.alterations);
+        copy_items(&mut self.look_ups, &other.look_ups);
     }
 }

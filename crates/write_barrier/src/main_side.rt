@@ -1,12 +1,13 @@
 //! What the thread that runs commands has, and what it reads. Stores are in `writes.rt` and `fills.rt`,
 //! room for new cells in `room.rt`, free runs of pages in `free_cells.rt`, variables in `roots.rt`.
-ghost use Rattle.std.specs.Prelude.{◌≡◌, ◌+◌, ◌<◌, ◌^◌, length, slice_get, Some, refl};
+ghost use Rattle.std.specs.Prelude.{◌≡◌, ◌+◌, ◌<◌, ◌^◌, ◌↔◌, length, slice_get, Some, refl};
+ghost use Rattle.std.specs.Prelude.{IfSome, IsNone, false};
 ghost use Rattle.std.specs.Borrow.{sem};
 ghost use Rattle.std.proofs.Common.{◌∙◌};
 ghost use Rattle.tagged_word.specs.Readings.{header_at};
 ghost use Rattle.page_space.specs.Sizes.{AreWithin};
 ghost use Rattle.page_space.specs.Extents.{words_count, marks_start};
-ghost use Rattle.shape_tree.specs.Shapes.{AreShapes};
+ghost use Rattle.shape_tree.specs.Shapes.{AreShapes, IsPathShape, IsLocated, shape_path, has_name};
 ghost use Rattle.nursery.specs.Young.{IsYoung};
 ghost use Rattle.heap_table.specs.declared.phase.Phase.TheVariants.{Quiet};
 ghost use Rattle.heap_table.specs.Seats.{heap_words};
@@ -19,7 +20,7 @@ use heap_table::MainSeat;
 use nursery::Nursery;
 use page_space::Regions;
 use remembered_set::Remembered;
-use shape_tree::ShapeTree;
+use shape_tree::{Located, ShapeTree};
 use std::marker::Model;
 use tagged_word::{Header, Word};
 use word_store::Reads;
@@ -148,6 +149,18 @@ impl Main {
         ensures paths { result.now ≡ self.old.paths }
     {
         &mut self.shapes
+    }
+
+    /// Where the field of this name stands in the path of a shape.
+    #[inline(always)]
+    pub fn locate(&mut self, shape: u32, name: u32) -> Option<Located>
+        requires { IsPathShape self.old.paths shape }
+        ensures found { IfSome result (λ found.
+            IsLocated self.old.paths found × (found.shape ≡ shape) × (found.name ≡ name)) }
+        ensures none { IsNone result ↔ (has_name (shape_path self.old.paths shape) name ≡ false) }
+        ensures same { self.new ≡ self.old }
+    {
+        self.shapes.locate(shape, name)
     }
 
     /// The nursery. No other part changes.

@@ -1,13 +1,14 @@
 //! What the variables hold.
-ghost use Rattle.std.specs.Prelude.{◌≡◌, ◌≢◌, ◌↔◌, ◌<◌, IsTrue};
+ghost use Rattle.std.specs.Prelude.{◌≡◌, ◌≢◌, ◌↔◌, ◌<◌, IsTrue, IfSome};
 ghost use Rattle.heap_table.specs.declared.phase.Phase.TheVariants.{Quiet};
 ghost use Rattle.heap_table.specs.Seats.{heap_words};
-ghost use Rattle.handle_roots.specs.declared.held.Held.TheVariants.{Unbound};
+ghost use Rattle.handle_roots.specs.declared.held.Held.TheVariants.{Unbound, Ref};
+ghost use Rattle.handle_roots.specs.Givens.{GivesHeld};
 ghost use Rattle.handle_roots.specs.Roots.{Holds, IsRoot, with_root};
 ghost use Rattle.write_barrier.specs.MutatorState.{with_variable};
 
 use crate::main_side::Main;
-use handle_roots::{Held, held_by};
+use handle_roots::{Given, Held, held_by};
 use heap_table::MainSeat;
 
 /// Both root words of a variable become those of a value.
@@ -54,6 +55,35 @@ impl Main {
     {
         let regions = self.regions();
         held_by(self, &regions, variable)
+    }
+
+    /// What a variable holds, by the word that a slot has for it, where a slot has one; none where it is bound to
+    /// nothing.
+    #[inline(always)]
+    pub fn given(&mut self, variable: u32) -> Option<Given>
+        requires quiet { self.old.seat.phase ≡ Quiet }
+        requires known { variable < self.old.seat.space.variables }
+        requires root { IsRoot self.old.seat.space (heap_words self.old.seat) variable }
+        ensures given { let words = heap_words self.old.seat in
+            GivesHeld self.old.seat.space words variable result }
+        ensures same { self.new ≡ self.old }
+    {
+        let regions = self.regions();
+        handle_roots::given_by(self, &regions, variable)
+    }
+
+    /// The address of the cell to which a variable refers, if it refers to one.
+    #[inline(always)]
+    pub fn referred(&mut self, variable: u32) -> Option<u32>
+        requires quiet { self.old.seat.phase ≡ Quiet }
+        requires known { variable < self.old.seat.space.variables }
+        requires root { IsRoot self.old.seat.space (heap_words self.old.seat) variable }
+        ensures refers { let words = heap_words self.old.seat in
+            IfSome result (λ at. Holds self.old.seat.space words variable (Ref at)) }
+        ensures same { self.new ≡ self.old }
+    {
+        let regions = self.regions();
+        handle_roots::referred(self, &regions, variable)
     }
 
     /// Whether a variable is bound to something.

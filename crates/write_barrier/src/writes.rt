@@ -143,7 +143,7 @@ impl Main {
         if self.remembered.covers(slot) {
             self.judge(slot, value);
         }
-        self.put_slot(cell, offset, value.0);
+        self.put(slot, value.0);
     }
 
     /// Puts a value in the slot of a weak table at an offset. No other word changes. Marking never looks at

@@ -10,22 +10,22 @@ use Rattle.mutator.proofs.fields.del.Goals as goal
 pub plain-requires : goal.plain-requires
 plain-requires c =
     let (graph, shows) = c.requires.shown in
-    let (value, is, stands) = c.in_ok-target.ensures.found graph shows in
-    value_still graph value c.in_ok-target.target c.bound.ensures.same shows stands
+    let (value, is, stands) = c.in_ok-held.ensures.found graph shows in
+    value_still graph value c.in_ok-held.held c.target.ensures.same shows stands
 
 pub delete-requires : goal.delete-requires
 delete-requires c =
     let (graph, shows) = c.requires.shown in
-    let (value, is, stands) = c.in_ok-target.ensures.found graph shows in
-    let shown = shows_still c.bound.ensures.same shows in
-    let found = c.in_ok-found.ensures graph value shown (stands_still c.bound.ensures.same stands) in
+    let (value, is, stands) = c.in_ok-held.ensures.found graph shows in
+    let shown = shows_still c.target.ensures.same shows in
+    let found = c.in_ok-found.ensures graph value shown (stands_still c.target.ensures.same stands) in
     record { graph = graph; plain = found.plain; shows = shown; is = found.stands }
 
 pub returns : goal.returns
 returns c = record {
   carried = λ graph names shows.
-      let (target, is, stands) = c.in_ok-target.ensures.found graph shows in
-      let same = c.bound.ensures.same in
+      let (target, is, stands) = c.in_ok-held.ensures.found graph shows in
+      let same = c.target.ensures.same in
       let shown = shows_still same shows in
       let found = c.in_ok-found.ensures graph target shown (stands_still same stands) in
       let taking = taking_known c.args.x target shown is found in
@@ -36,8 +36,8 @@ returns c = record {
 pub returns-in_err-delete : goal.returns-in_err-delete
 returns-in_err-delete c = record {
   carried = λ graph names shows.
-      let (target, is, stands) = c.in_ok-target.ensures.found graph shows in
-      let same = c.bound.ensures.same in
+      let (target, is, stands) = c.in_ok-held.ensures.found graph shows in
+      let same = c.target.ensures.same in
       let shown = shows_still same shows in
       let found = c.in_ok-found.ensures graph target shown (stands_still same stands) in
       let taking = taking_known c.args.x target shown is found in

@@ -8,22 +8,22 @@ use Rattle.mutator.proofs.fields.get.Goals as goal
 pub plain-requires : goal.plain-requires
 plain-requires c =
     let (graph, shows) = c.requires.shown in
-    let (value, is, stands) = c.in_ok-target.ensures.found graph shows in
-    value_still graph value c.in_ok-target.target c.bound.ensures.same shows stands
+    let (value, is, stands) = c.in_ok-held.ensures.found graph shows in
+    value_still graph value c.in_ok-held.held c.target.ensures.same shows stands
 
 pub hold_get-requires-clause-shown : goal.hold_get-requires-clause-shown
 hold_get-requires-clause-shown c =
     let (graph, shows) = c.requires.shown in
-    let (value, is, stands) = c.in_ok-target.ensures.found graph shows in
-    let shown = shows_still c.bound.ensures.same shows in
-    let found = c.in_ok-found.ensures graph value shown (stands_still c.bound.ensures.same stands) in
+    let (value, is, stands) = c.in_ok-held.ensures.found graph shows in
+    let shown = shows_still c.target.ensures.same shows in
+    let found = c.in_ok-found.ensures graph value shown (stands_still c.target.ensures.same stands) in
     record { graph = graph; plain = found.plain; shows = shown; is = found.stands }
 
 pub returns : goal.returns
 returns c = record {
   carried = λ graph names shows.
-      let (target, is, stands) = c.in_ok-target.ensures.found graph shows in
-      let same = c.bound.ensures.same in
+      let (target, is, stands) = c.in_ok-held.ensures.found graph shows in
+      let same = c.target.ensures.same in
       let shown = shows_still same shows in
       let found = c.in_ok-found.ensures graph target shown (stands_still same stands) in
       let holds = c.hold_get.ensures graph found.plain shown found.stands in
@@ -33,8 +33,8 @@ returns c = record {
       (record { held = holds.is; heap = holds.heap }) (λ rooms. (refl, λ number. refl));
   binds =
       let (graph, shows) = c.requires.shown in
-      let (target, is, stands) = c.in_ok-target.ensures.found graph shows in
-      let same = c.bound.ensures.same in
+      let (target, is, stands) = c.in_ok-held.ensures.found graph shows in
+      let same = c.target.ensures.same in
       let shown = shows_still same shows in
       let found = c.in_ok-found.ensures graph target shown (stands_still same stands) in
       let holds = c.hold_get.ensures graph found.plain shown found.stands in

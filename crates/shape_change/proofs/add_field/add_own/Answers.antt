@@ -1,10 +1,9 @@
 -- The word is put, and then the header.
-use Rattle.std.proofs.Common.{◌≡◌, ◌+◌, ◌<◌, true, ap, subst, ◌∙◌, arith, rules}
+use Rattle.std.proofs.Common.{◌+◌, ◌<◌, ap, subst, ◌∙◌, arith, rules}
 use Rattle.page_space.specs.Extents.{Space, marks_start}
 use Rattle.heap_model.specs.Remembered.{Touch}
 use Rattle.write_barrier.specs.MutatorState.{Mutator}
 use Rattle.write_barrier.specs.Recording.{Touches, touched_one}
-use Rattle.object_cells.specs.Contents.{content_of}
 use Rattle.object_cells.specs.Made.{slot_touch}
 use Rattle.object_cells.proofs.RestOfWords.{put_rest}
 use Rattle.object_cells.proofs.TouchedWords.{then_wiped}
@@ -18,12 +17,10 @@ returns c =
     let space = c.put_own.ensures.puts.beside.space ∙ c.step_to-next.ensures.beside.space in
     let below : c.args.object < marks_start put.seat.space =
     omega (arith, ap (λ (s : Space). marks_start s) space, c.requires.can.within) in
-    let holds : c.content_of-content.result ≡ own_content c.args.new.value =
-    c.content_of-content.ensures ∙ ap (λ rep. content_of true rep c.args.new.value) c.requires.new.rep in
     let touched : Touches mid put (touched_one (slot_touch (own_content c.args.new.value))
     (c.args.object + (2 + c.args.new.slot))) =
     subst (λ (how : Touch). Touches mid put (touched_one how (c.args.object + (2 + c.args.new.slot))))
-    (ap slot_touch holds) c.put_own.ensures.touches in
+    (ap slot_touch c.requires.content) c.put_own.ensures.touches in
     record {
       next = c.step_to-next.result;
       mid = mid;

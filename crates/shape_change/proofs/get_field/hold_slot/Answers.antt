@@ -1,8 +1,7 @@
 -- A variable holds a field by its place: its slot is there, and holds a word of its representation.
-use Rattle.std.proofs.Common.{◌≡◌, ℕ, Bool, ap, sym, ◌∙◌, subst, Some, slice_get, nat_lt}
-use Rattle.std.specs.Prelude.{List}
+use Rattle.std.proofs.Common.{◌≡◌, ℕ, Bool, ap, sym, ◌∙◌, subst, slice_get, nat_lt}
 use Rattle.std.proofs.lemmas.Option.{same_Some}
-use Rattle.heap_model.specs.Types.{Path, PathField, Rep}
+use Rattle.heap_model.specs.Types.{PathField, Rep}
 use Rattle.shape_tree.specs.Shapes.{shape_path}
 use Rattle.heap_model.specs.Kinds.{HasWord}
 use Rattle.heap_model.specs.Showing.{ShowsField}
@@ -15,39 +14,32 @@ slot_place-place-requires-clause-there c = field_slot_there c.requires.whole.who
 
 pub slot_place-place-requires-clause-cap : goal.slot_place-place-requires-clause-cap
 slot_place-place-requires-clause-cap c =
-    cap_there c.cap.result c.requires.whole.whole c.requires.there
-    (c.cap.ensures.cap ∙ ap (λ (paths : List Path). (shape_path paths c.args.shape).cap) c.shapes-shapes.ensures)
+    cap_there c.args.found.cap c.requires.whole.whole c.requires.there c.requires.located.cap
 
 pub hold_field-requires-clause-field : goal.hold_field-requires-clause-field
 hold_field-requires-clause-field c =
+    let found = c.args.found in
     let whole = c.requires.whole.whole in
     let there = field_slot_there whole c.requires.there in
-    let own : c.is_own.result ≡ nat_lt c.args.slot (shape_path c.args.main.now.paths c.args.shape).cap =
-    c.is_own.ensures ∙ c.slot_place-place.ensures.own ∙ ap (nat_lt c.args.slot)
-    (c.cap.ensures.cap ∙ ap (λ (paths : List Path). (shape_path paths c.args.shape).cap) c.shapes-shapes.ensures) in
-    let field =
-    ap (λ (paths : List Path). slice_get (shape_path paths c.args.shape).fields c.args.slot)
-    (sym c.shapes-shapes.ensures)
-    ∙ c.field-rep.ensures in
-    let word : HasWord there.slots c.args.slot c.word_of_place-word.result =
+    let own : c.is_own.result ≡ nat_lt found.at (shape_path c.args.main.now.paths found.shape).cap =
+    c.is_own.ensures ∙ c.slot_place-place.ensures.own ∙ ap (nat_lt found.at) c.requires.located.cap in
+    let word : HasWord there.slots found.at c.word_of_place-word.result =
     sym (c.slot_place-place.ensures.stands there.cell there.words there.slots there.has there.stands there.are)
     ∙ c.word_of_place-word.ensures in
-    field_word_there whole c.requires.there c.is_own.result c.field-rep.result
-    c.word_of_place-word.result own field word
+    field_word_there whole c.requires.there c.is_own.result (record { name = found.name; rep = found.rep })
+    c.word_of_place-word.result own c.requires.located.field word
 
 pub returns : goal.returns
 returns c cell words slots field word value has stands are there slot shows =
+    let found = c.args.found in
     let shape = shape_there c.requires.there has stands in
-    let own : nat_lt c.args.slot (shape_path c.args.main.now.paths cell.header.shape).cap ≡ c.is_own.result =
-    ap (λ s. nat_lt c.args.slot (shape_path c.args.main.now.paths s).cap) shape ∙ sym (
-    c.is_own.ensures ∙ c.slot_place-place.ensures.own ∙ ap (nat_lt c.args.slot)
-    (c.cap.ensures.cap ∙ ap (λ (paths : List Path). (shape_path paths c.args.shape).cap) c.shapes-shapes.ensures)) in
-    let found : slice_get (shape_path c.args.main.now.paths c.args.shape).fields c.args.slot ≡ Some c.field-rep.result =
-    ap (λ (paths : List Path). slice_get (shape_path paths c.args.shape).fields c.args.slot)
-    (sym c.shapes-shapes.ensures)
-    ∙ c.field-rep.ensures in
-    let one : field ≡ c.field-rep.result = same_Some field c.field-rep.result
-    (sym there ∙ ap (λ s. slice_get (shape_path c.args.main.now.paths s).fields c.args.slot) shape ∙ found) in
+    let own : nat_lt found.at (shape_path c.args.main.now.paths cell.header.shape).cap ≡ c.is_own.result =
+    ap (λ s. nat_lt found.at (shape_path c.args.main.now.paths s).cap) shape ∙ sym (
+    c.is_own.ensures ∙ c.slot_place-place.ensures.own ∙ ap (nat_lt found.at) c.requires.located.cap) in
+    let here : PathField = record { name = found.name; rep = found.rep } in
+    let one : field ≡ here = same_Some field here
+    (sym there ∙ ap (λ s. slice_get (shape_path c.args.main.now.paths s).fields found.at) shape
+    ∙ c.requires.located.field) in
     let read : word ≡ c.word_of_place-word.result = same_Some word c.word_of_place-word.result
     (sym slot ∙ sym (c.slot_place-place.ensures.stands cell words slots has stands are)
     ∙ c.word_of_place-word.ensures) in

@@ -1,8 +1,7 @@
 -- A wide field in the object gets an integer.
-use Rattle.std.proofs.Common.{◌≡◌, ◌<◌, arith, ap, sym, ◌∙◌, subst, rules, slice_get, List}
-use Rattle.std.specs.Prelude.{option_map}
+use Rattle.std.proofs.Common.{◌<◌, ◌∙◌, sym, arith, subst, rules}
 use Rattle.std.proofs.lemmas.Option.{same_Some}
-use Rattle.heap_model.specs.Types.{Path, PathField, Rep}
+use Rattle.heap_model.specs.Types.{Rep}
 use Rattle.handle_roots.specs.Roots.{FitsHeld}
 use Rattle.shape_tree.specs.Shapes.{shape_path}
 use Rattle.shape_change.specs.Fillings.{KeepsRaw}
@@ -14,16 +13,10 @@ pub returns-in-Some : goal.returns-in-Some
 returns-in-Some c graph plain what name shows is holds there =
     let fits : FitsHeld c.args.value = search rules in
     let s = setting shows is holds fits there in
-    let rep_at = λ (paths : List Path). option_map (λ (field : PathField). field.rep)
-    (slice_get (shape_path paths c.args.header.shape).fields c.args.slot) in
-    let known = ap rep_at (sym c.shapes-shapes.ensures)
-    ∙ ap (option_map (λ (field : PathField). field.rep)) c.field.ensures in
-    let same : c.field.result.rep ≡ c.setting_of-setting.result.was =
-    same_Some c.field.result.rep c.setting_of-setting.result.was (sym known ∙ c.setting_of-setting.ensures.was) in
-    let cap = c.cap-cap.ensures.cap
-    ∙ ap (λ (paths : List Path). (shape_path paths c.args.header.shape).cap) c.shapes-shapes.ensures in
+    let was = c.setting_of-setting.result.was in
+    let same = same_Some c.args.rep was (sym c.requires.rep ∙ c.setting_of-setting.ensures.was) in
     let own : c.args.slot < (shape_path c.args.main.now.paths c.args.header.shape).cap =
-    omega (arith, cap, c.if-slot-cap.true) in
+    omega (arith, c.requires.cap, c.if-slot-cap.true) in
     kept_raw_sets s c.addresses_fit.ensures.within c.requires.there c.setting_of-setting.ensures holds.shows
     c.in-Some.word own (subst (λ (r : Rep). KeepsRaw r c.args.value c.in-Some.word) same c.in-Some.ensures)
     c.put_raw.ensures

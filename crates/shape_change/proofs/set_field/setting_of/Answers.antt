@@ -1,5 +1,5 @@
 -- How a slot is set.
-use Rattle.std.proofs.Common.{◌≡◌, List, slice_get, get_or, nat_lt, sym, ◌∙◌, ap, subst, rules}
+use Rattle.std.proofs.Common.{List, slice_get, get_or, nat_lt, sym, ◌∙◌, ap, subst, rules}
 use Rattle.std.specs.Prelude.{option_map}
 use Rattle.heap_model.specs.Types.{Path, PathField}
 use Rattle.object_graph.specs.Values.{join}
@@ -17,8 +17,7 @@ slot_place-place-requires-clause-there c = field_slot_there c.requires.shown.sho
 
 pub slot_place-place-requires-clause-cap : goal.slot_place-place-requires-clause-cap
 slot_place-place-requires-clause-cap c =
-    cap_there c.cap.result c.requires.shown.shows.shows.whole c.requires.there
-    (c.cap.ensures.cap ∙ ap (λ (paths : List Path). (shape_path paths c.args.shape).cap) c.shapes-shapes.ensures)
+    cap_there c.args.cap c.requires.shown.shows.shows.whole c.requires.there c.requires.cap
 
 pub returns : goal.returns
 returns c =
@@ -26,22 +25,21 @@ returns c =
     let place = c.slot_place-place.result in
     let fits : FitsHeld c.args.value = search rules in
     let s = shown_setting c.requires.shown c.requires.there fits in
-    let read = is_read s c.shapes-shapes.result.now c.args.shape c.cap.result place c.is_own.result c.field-was.result
-    c.requires.there c.shapes-shapes.ensures c.cap.ensures.cap c.slot_place-place.ensures.place
+    let cap = c.requires.cap ∙ ap (λ (paths : List Path). (shape_path paths c.args.shape).cap) (sym c.shapes.ensures) in
+    let read = is_read s c.shapes.result.now c.args.shape c.args.cap place c.is_own.result c.field-was.result
+    c.requires.there c.shapes.ensures cap c.slot_place-place.ensures.place
     (c.is_own.ensures ∙ c.slot_place-place.ensures.own) c.field-was.ensures in
     let joins = c.join-rep.ensures ∙ ap (join c.field-was.result.rep) c.rep_of.ensures in
     let fills = fills_at s place c.is_own.result c.field-was.result.rep c.join-rep.result c.args.value
     c.content_of.result read c.requires.shown.is_held.shows joins c.content_of.ensures in
-    let cap : c.cap.result ≡ (shape_path old.paths c.args.shape).cap =
-    c.cap.ensures.cap ∙ ap (λ (paths : List Path). (shape_path paths c.args.shape).cap) c.shapes-shapes.ensures in
-    let own = c.is_own.ensures ∙ c.slot_place-place.ensures.own ∙ ap (nat_lt c.args.slot) cap in
+    let own = c.is_own.ensures ∙ c.slot_place-place.ensures.own ∙ ap (nat_lt c.args.slot) c.requires.cap in
     record {
-      place = subst (λ n. IsPlaceOf (heap_of old) c.args.object n c.args.slot place) cap
+      place = subst (λ n. IsPlaceOf (heap_of old) c.args.object n c.args.slot place) c.requires.cap
           c.slot_place-place.ensures.place;
       within = c.slot_place-place.ensures.within;
       was = ap (option_map (λ (field : PathField). field.rep))
           (ap (λ (paths : List Path). slice_get (shape_path paths c.args.shape).fields c.args.slot)
-          (sym c.shapes-shapes.ensures)
+          (sym c.shapes.ensures)
           ∙ c.field-was.ensures);
       joins = joins;
       content = c.content_of.ensures ∙ ap (λ o. content_of o c.join-rep.result c.args.value) own;

@@ -26,6 +26,31 @@ layout_with-layout-requires-clause-few c =
     c.index-node.ensures in
     raw-lt path node.layout node.count is.layout is.count
 
+pub push_fields-requires-clause-room : goal.push_fields-requires-clause-room
+push_fields-requires-clause-room c =
+    let tree = c.self.inside in
+    let before = c.self.invariant.room in
+    let is = IsNodeOf-shown tree c.args.self.now c.args.parent c.index-node.result.now c.self.invariant c.self.view_is
+    c.requires.path c.index-node.ensures in
+    omega (
+      arith,
+      before.fields,
+      before.short,
+      is.count,
+      c.requires.is.short,
+      length-append (shape_path c.args.self.now c.args.parent).fields (c.args.field ∷ []),
+      c.requires.room,
+      ap length c.self.view_is,
+      length-paths_in tree.fields.items tree.nodes.items,
+      tree.fields.ok.0,
+    )
+
+pub overflow_add-node : goal.overflow_add-node
+overflow_add-node c =
+    let is = IsNodeOf-shown c.self.inside c.args.self.now c.args.parent c.index-node.result.now c.self.invariant
+    c.self.view_is c.requires.path c.index-node.ensures in
+    omega (arith, is.short)
+
 -- the tree as it is then
 abbrev new_tree : goal.After-put_cached → Inside
 new_tree c = record {
@@ -33,6 +58,8 @@ new_tree c = record {
   nodes = c.push_reserved.new.self;
   steps = c.put_step.new.steps;
   cache = c.put_cached.new.cache;
+  alterations = c.self.inside.alterations;
+  look_ups = c.self.inside.look_ups;
 }
 
 -- its new node
@@ -111,6 +138,8 @@ became c =
       nodes = c.push_reserved.ensures.items;
       comes = next;
       cache = c.put_cached.ensures;
+      alterations = refl;
+      look_ups = refl;
       steps = subst (λ (next : ℕ).
           (other : Transition)
           → get same_transition c.put_step.new.steps other

@@ -1,11 +1,12 @@
--- Nothing is added where the path is there.
-use Rattle.std.proofs.Common.{subst}
-use Rattle.shape_tree.specs.Shapes.{AreShapes, shape_path, changed}
-use Rattle.shape_tree.proofs.LedPaths.{leads_there}
+-- The cached alteration leads to the changed path.
+use Rattle.shape_tree.specs.declared.alterations.Alteration.{Alteration}
+use Rattle.shape_tree.specs.declared.alterations.Becomes.TheVariants.{To}
+use Rattle.shape_tree.proofs.KeptAlterations.{kept_leads}
 use Rattle.shape_tree.proofs.tree.ShapeTree.change.Goals as goal
 
-pub returns-in-Some-clause-changed : goal.returns-in-Some-clause-changed
-returns-in-Some-clause-changed c =
-    let paths = c.args.self.now in
-    leads_there paths (changed (shape_path paths c.args.shape) c.args.at c.args.rep) c.in-Some.next
-    (subst AreShapes c.self.view_is c.self.invariant.shapes) c.in-Some.ensures
+pub returns-then-is_for-clause-changed : goal.returns-then-is_for-clause-changed
+returns-then-is_for-clause-changed c =
+    let alteration : Alteration = record { shape = c.args.shape; at = c.args.at; becomes = To c.args.rep } in
+    let is = c.is_for.ensures.0 c.if-is_for.true in
+    kept_leads c.self.inside c.args.self.now c.alteration_index.result c.index-kept.result.now alteration
+    c.self.invariant c.self.view_is c.alteration_index.ensures c.index-kept.ensures is.0 is.1

@@ -12,6 +12,10 @@ invariant_of-self c =
     c.copy_items-2.ensures.copied ∙ c.deref-2.ensures.value in
     let cache : c.copy_items-3.new.items.items ≡ other.cache.items =
     c.copy_items-3.ensures.copied ∙ c.deref-3.ensures.value in
+    let alterations : c.copy_items-4.new.items.items ≡ other.alterations.items =
+    c.copy_items-4.ensures.copied ∙ c.deref-4.ensures.value in
+    let look_ups : c.copy_items-5.new.items.items ≡ other.look_ups.items =
+    c.copy_items-5.ensures.copied ∙ c.deref-5.ensures.value in
     let row_count = ap length fields in
     let node_count = ap length nodes in
     let own = c.self.invariant.room in
@@ -22,8 +26,10 @@ invariant_of-self c =
       nodes = c.copy_items-2.new.items;
       steps = c.copy_steps.new.steps;
       cache = c.copy_items-3.new.items;
+      alterations = c.copy_items-4.new.items;
+      look_ups = c.copy_items-5.new.items;
     })
-    c.other.invariant fields nodes c.copy_steps.ensures.copied cache
+    c.other.invariant fields nodes c.copy_steps.ensures.copied cache alterations look_ups
     (record {
       fields = omega (arith, own.fields, c.copy_items.ensures.room);
       nodes = omega (arith, own.nodes, c.copy_items-2.ensures.room);

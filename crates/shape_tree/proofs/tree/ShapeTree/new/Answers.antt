@@ -19,8 +19,10 @@ invariant_of-result c =
       nodes = c.in_ok-nodes.nodes;
       steps = c.in_ok-steps.steps;
       cache = c.in_ok-cache.cache;
+      alterations = c.in_ok-alterations.alterations;
+      look_ups = c.in_ok-look_ups.look_ups;
     }) fields.items
-    nodes.roots steps.empty c.in_ok-cache.ensures
+    nodes.roots steps.empty c.in_ok-cache.ensures c.in_ok-alterations.ensures c.in_ok-look_ups.ensures
     (record {
       fields = omega (arith, fields.exact);
       nodes = omega (arith, nodes.room);

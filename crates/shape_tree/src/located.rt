@@ -1,0 +1,17 @@
+//! Where a field stands: what a look-up by shape and name finds.
+use object_graph::Rep;
+
+/// Where a field stands in the path of a shape.
+#[derive(Clone, Copy)]
+pub struct Located {
+    /// The shape.
+    pub shape: u32,
+    /// The field's name.
+    pub name: u32,
+    /// Its place in the path, counted from 0: the number of its slot.
+    pub at: u32,
+    /// How many in-object slots an object of the shape has.
+    pub cap: u8,
+    /// The field's representation.
+    pub rep: Rep,
+}

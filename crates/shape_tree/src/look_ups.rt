@@ -1,0 +1,145 @@
+//! The look-up cache: what look-ups by shape and name found before, a field or none.
+ghost use Rattle.std.specs.Prelude.{◌≡◌, ◌<◌, ◌≤◌, ◌↔◌, ◌==◌, false, length, slice_get};
+ghost use Rattle.std.specs.Prelude.{option_map, Some, IsTrue, IfSome, IsNone};
+ghost use Rattle.std.specs.List.{list_any};
+ghost use Rattle.std.specs.Vec.{vec_len};
+ghost use Rattle.heap_command.specs.Commands.{cap_most};
+ghost use Rattle.object_graph.specs.Invariants.{fields_most};
+ghost use Rattle.shape_tree.specs.Nodes.{no_look_up, look_up_entries, found_in, TellsOf, Keeps};
+
+use crate::located::Located;
+use object_graph::{PathField, Rep};
+
+/// How many entries the cache has.
+pub(crate) const LOOK_UP_ENTRIES: usize = 2048;
+
+/// A name was looked up in the path of a shape.
+#[derive(Clone, Copy)]
+pub(crate) struct LookUp {
+    /// The shape; 0 where no look-up is cached.
+    pub(crate) shape: u32,
+    pub(crate) name: u32,
+    /// The place of the field, if there is one.
+    pub(crate) at: u32,
+    /// How many in-object slots an object of the shape has.
+    pub(crate) cap: u8,
+    /// The field's representation, if there is one.
+    pub(crate) rep: Rep,
+    /// Whether the path has a field of the name.
+    pub(crate) is_there: bool,
+}
+
+/// The entry of the cache for a name in the path of a shape. Several may share one: then the last stands there.
+#[inline(always)]
+pub(crate) fn look_up_index(shape: u32, name: u32) -> usize
+    ensures { result < look_up_entries }
+{
+    shape.wrapping_add(name.wrapping_mul(61)) as usize % LOOK_UP_ENTRIES
+}
+
+/// The place of the field of this name among these.
+#[inline(always)]
+pub(crate) fn place_of(fields: &[PathField], name: u32) -> Option<u32>
+    requires { length fields.now ≤ fields_most }
+    ensures found { IfSome result (λ at.
+        option_map (λ field. field.name) (slice_get fields.now at) ≡ Some name) }
+    ensures none { IsNone result ↔ (list_any (λ field. field.name == name) fields.now ≡ false) }
+{
+    for (at, field) in fields.iter().enumerate() {
+        if field.name == name {
+            return Some(at as u32);
+        }
+    }
+    None
+}
+
+/// Seeks the field of this name among those of the path of a shape, and keeps what was found at an entry of the
+/// cache: a field or none.
+#[inline(never)]
+pub(crate) fn keep_look_up(
+    look_ups: &mut Vec<LookUp>,
+    entry: usize,
+    fields: &[PathField],
+    cap: u32,
+    shape: u32,
+    name: u32,
+)
+    requires there { entry < vec_len look_ups.old }
+    requires few { length fields.now ≤ fields_most }
+    requires capped { cap ≤ cap_most }
+    ensures { Keeps look_ups.old.items look_ups.new.items entry (record { cap = cap; fields = fields.now })
+        shape name }
+{
+    look_ups[entry] = LookUp::of(fields, cap, shape, name);
+}
+
+impl LookUp {
+    /// What stands where nothing is cached: no path has its shape.
+    pub(crate) fn none() -> LookUp
+        ensures { result ≡ no_look_up }
+    {
+        LookUp {
+            shape: 0,
+            name: 0,
+            at: 0,
+            cap: 0,
+            rep: Rep::Small,
+            is_there: false,
+        }
+    }
+
+    /// The look-up of this name among the fields of the path of a shape.
+    fn of(fields: &[PathField], cap: u32, shape: u32, name: u32) -> LookUp
+        requires few { length fields.now ≤ fields_most }
+        requires capped { cap ≤ cap_most }
+        ensures shape { result.shape ≡ shape }
+        ensures name { result.name ≡ name }
+        ensures tells { TellsOf (record { cap = cap; fields = fields.now }) result }
+    {
+        let cap = cap as u8;
+        match place_of(fields, name) {
+            Some(at) => LookUp {
+                shape,
+                name,
+                at,
+                cap,
+                rep: fields[at as usize].rep,
+                is_there: true,
+            },
+            None => LookUp {
+                shape,
+                name,
+                at: 0,
+                cap,
+                rep: Rep::Small,
+                is_there: false,
+            },
+        }
+    }
+
+    /// Whether it is that of this name in the path of this shape.
+    #[inline(always)]
+    pub(crate) fn is_for(&self, shape: u32, name: u32) -> bool
+        ensures { IsTrue result ↔ ((self.now.shape ≡ shape) × (self.now.name ≡ name)) }
+    {
+        self.shape == shape && self.name == name
+    }
+
+    /// What it found. Each part is read by itself: a caller often needs but one.
+    #[inline(always)]
+    pub(crate) fn found(&self) -> Option<Located>
+        ensures { result ≡ found_in self.now }
+    {
+        if self.is_there {
+            Some(Located {
+                shape: self.shape,
+                name: self.name,
+                at: self.at,
+                cap: self.cap,
+                rep: self.rep,
+            })
+        } else {
+            None
+        }
+    }
+}
