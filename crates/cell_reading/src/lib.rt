@@ -20,7 +20,7 @@ mod limits;
 use cell_layout::Cell;
 pub use limits::{goes_on, row_limit};
 use tagged_word::{Kind, LayoutWord};
-use write_barrier::Main;
+use write_barrier::{Main, layout_of_bits};
 
 /// The cell that stands at an address.
 #[inline(always)]
@@ -55,10 +55,7 @@ fn known_layout(main: &Main, shape: u32) -> LayoutWord
         IsLayoutOf main.now.seat.space (heap_words main.now.seat) shape layout → result ≡ layout }
 {
     let at = main.regions().layout_at(shape);
-    match LayoutWord::parse(main.word(at)) {
-        Some(layout) => layout,
-        None => unreachable!(),
-    }
+    layout_of_bits(main.word(at))
 }
 
 /// The length of the cell of a kind at an address: its second word where that is one, else 0.

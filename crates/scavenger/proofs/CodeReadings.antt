@@ -1,9 +1,9 @@
 -- The words by which a cell is read, where one is known to stand.
-use Rattle.std.proofs.Common.{◌≡◌, ℕ, ◌+◌, List, Option, Some, slice_get, sym, ◌∙◌, ap, subst}
+use Rattle.std.proofs.Common.{◌≡◌, ℕ, ◌+◌, List, Some, slice_get, sym, ◌∙◌, ap, subst}
 use Rattle.tagged_word.specs.declared.header.Header.{Header}
 use Rattle.tagged_word.specs.declared.layout.LayoutWord.{LayoutWord}
 use Rattle.tagged_word.specs.Headers.{IsHeader, header_bits}
-use Rattle.tagged_word.specs.Layouts.{IsLayout, layout_bits}
+use Rattle.tagged_word.specs.Layouts.{layout_bits}
 use Rattle.tagged_word.specs.Cells.{has_length, length_by, cell_size}
 use Rattle.tagged_word.proofs.Cells.{some_same}
 use Rattle.page_space.specs.Extents.{Space, layouts_start}
@@ -13,26 +13,18 @@ use Rattle.heap_model.specs.Types.{Cell}
 
 module _ {space : Space} {words : List ℕ} {at : ℕ} (cell : Cell) (is_cell : IsCell space words cell)
     (stands : cell.at ≡ at) where
-  -- its first word is its header
-  header_read : (word : ℕ) → slice_get words at ≡ Some word → word ≡ header_bits cell.header
+  -- its first word has the bits of its header
+  pub header_read : (word : ℕ) → slice_get words at ≡ Some word → word ≡ header_bits cell.header
   header_read word read =
       some_same read
       (subst (λ (one : ℕ). slice_get words one ≡ Some (header_bits cell.header)) stands is_cell.reads.first)
 
-  -- so that is what it parses as
-  header_found : (word : ℕ) (found : Option Header) → slice_get words at ≡ Some word
-      → ((header : Header) → IsHeader header → word ≡ header_bits header → found ≡ Some header)
-      → found ≡ Some cell.header
-  header_found word found read parses = parses cell.header is_cell.reads.is_header (header_read word read)
-
-  -- and what is parsed is its header
+  -- so what they are told to be is its header
   pub header_is : (word : ℕ) (header : Header) → slice_get words at ≡ Some word
-      → ((one : Header) → IsHeader one → word ≡ header_bits one → Some header ≡ Some one)
-      → header ≡ cell.header
-  header_is word header read parses =
-      let found = header_found word (Some header) read parses in cc
+      → ((one : Header) → IsHeader one → word ≡ header_bits one → header ≡ one) → header ≡ cell.header
+  header_is word header read told = told cell.header is_cell.reads.is_header (header_read word read)
 
-  -- the layout word of its shape is that of its layout
+  -- the layout word of its shape has those of its layout
   layout_read : (shape word : ℕ) → shape ≡ cell.header.shape
       → slice_get words (layouts_start space + shape) ≡ Some word → word ≡ layout_bits cell.layout
   layout_read shape word same read =
@@ -41,16 +33,14 @@ module _ {space : Space} {words : List ℕ} {at : ℕ} (cell : Cell) (is_cell : 
       ∙ sym (slice_get-layouts_in space words cell.header.shape is_cell.reads.known)
       ∙ is_cell.reads.of_shape)
 
-  -- so that is what it parses as
-  pub layout_found : (told : Space) (shape place word : ℕ) (found : Option LayoutWord) → told ≡ space
-      → shape ≡ cell.header.shape → place ≡ layouts_start told + shape → slice_get words place ≡ Some word
-      → ((layout : LayoutWord) → IsLayout layout → word ≡ layout_bits layout → found ≡ Some layout)
-      → found ≡ Some cell.layout
-  layout_found told shape place word found same of_shape here read parses =
-      let is : place ≡ layouts_start space + shape =
-      here ∙ ap (λ (one : Space). layouts_start one + shape) same in
-      parses cell.layout is_cell.reads.is_layout
-      (layout_read shape word of_shape (subst (λ (one : ℕ). slice_get words one ≡ Some word) is read))
+  -- so it is with the word that stands where the layout word is told to be
+  pub layout_read_at : (told : Space) (header : Header) (place word : ℕ) → told ≡ space → header ≡ cell.header
+      → place ≡ layouts_start told + header.shape → slice_get words place ≡ Some word → word ≡ layout_bits cell.layout
+  layout_read_at told header place word same of_header here read =
+      let is : place ≡ layouts_start space + header.shape =
+      here ∙ ap (λ (one : Space). layouts_start one + header.shape) same in
+      layout_read header.shape word (ap (λ (one : Header). one.shape) of_header)
+      (subst (λ (one : ℕ). slice_get words one ≡ Some word) is read)
 
   -- its length is its second word, or 0
   pub length_stands : (layout : LayoutWord) → layout ≡ cell.layout

@@ -1,6 +1,7 @@
 pub mod Places
 pub mod Headers
 mod FirstCells
+mod KnownWords
 pub mod FirstRuns
 mod FirstHeaps
 mod Changes

@@ -15,6 +15,7 @@ ghost use Rattle.write_barrier.specs.Lending.{LendsShapes, LendsNursery};
 ghost use Rattle.write_barrier.specs.MutatorState.{heap_of};
 ghost use Rattle.write_barrier.specs.Reading.{HasHeader, IsHeaderAt, stays_quiet};
 
+use crate::known_words::header_of_bits;
 use free_runs::FreeRuns;
 use heap_table::MainSeat;
 use nursery::Nursery;
@@ -22,7 +23,7 @@ use page_space::Regions;
 use remembered_set::Remembered;
 use shape_tree::{Located, ShapeTree};
 use std::marker::Model;
-use tagged_word::{Header, Word};
+use tagged_word::Header;
 use word_store::Reads;
 
 /// The mutator: the seat of the thread that runs commands, the shapes, the young generation, the
@@ -92,10 +93,7 @@ impl Main {
         ensures of_cell { IsHeaderAt (heap_of self.now) at result }
     {
         self.addresses_fit();
-        match Header::parse(Word(self.word(at))) {
-            Some(header) => header,
-            None => unreachable!(),
-        }
+        header_of_bits(self.word(at))
     }
 
     /// No address of a heap is past 32 bits: there is a word for each address of the regions, and

@@ -1,6 +1,5 @@
 -- The word that is read is the layout word of the shape, so it parses as its layout.
 use Rattle.std.proofs.Common.{◌+◌, ap, arith}
-use Rattle.tagged_word.proofs.Cells.{some_same}
 use Rattle.page_space.specs.Extents.{Space, layouts_start}
 use Rattle.page_space.proofs.LawsHold.{kinds_by_number}
 use Rattle.cell_layout.proofs.CellsThere.{known}
@@ -16,14 +15,15 @@ word-requires-clause-within c =
     let below = known _ _ _ c.requires.known.0 c.requires.known.1 in
     omega (arith, c.layout_at-at.ensures.at, starts, below, (kinds_by_number c.args.main.now.seat.space).marks)
 
-pub unreachable-requires : goal.unreachable-requires
-unreachable-requires c =
-    let is = c.requires.known.1 in
-    let word = layout_word_is is _ _ _ c.regions.ensures.regions c.layout_at-at.ensures.at c.word.ensures.of_heap in
-    let parsed = c.parse.ensures.parses c.requires.known.0 is.is_layout word in
-    let none = c.in-None.is in cc
+pub layout_of_bits-requires : goal.layout_of_bits-requires
+layout_of_bits-requires c =
+    let is = c.requires.known.1 in (
+      c.requires.known.0,
+      is.is_layout,
+      layout_word_is is _ _ _ c.regions.ensures.regions c.layout_at-at.ensures.at c.word.ensures.of_heap,
+    )
 
 pub returns : goal.returns
 returns c layout is =
-    let word = layout_word_is is _ _ _ c.regions.ensures.regions c.layout_at-at.ensures.at c.word.ensures.of_heap in
-    some_same c.in-Some.is (c.parse.ensures.parses layout is.is_layout word)
+    c.layout_of_bits.ensures layout is.is_layout
+    (layout_word_is is _ _ _ c.regions.ensures.regions c.layout_at-at.ensures.at c.word.ensures.of_heap)
