@@ -2,9 +2,9 @@
 use Rattle.std.proofs.Common.{◌≡◌, ◌≢◌, ℕ, ◌<◌, ◌≤◌, ◌↔◌, ◌⊎◌, Bool, true, false, List, [], ◌∷◌, ◌++◌, length}
 use Rattle.std.proofs.Common.{get_or, set, inl, inr, sym, ◌∙◌, subst, arith, IsTrue}
 use Rattle.std.specs.List.{AllPairs, Contains}
-use Rattle.std.proofs.lemmas.Bool.{cases_eq, false≢true, eqb-true}
+use Rattle.std.proofs.lemmas.Bool.{cases_eq, cases_lt, false≢true, eqb-true}
 use Rattle.std.proofs.lemmas.Bool.Decides.{Decides-eqb}
-use Rattle.std.proofs.lemmas.List.{get_or-set_same, get_or-set_other, get_or_default, length-append}
+use Rattle.std.proofs.lemmas.List.{get_or-set_same, get_or-set_other, get_or_default, get_or_past, length-append}
 use Rattle.std.proofs.lemmas.List.{get_or_append_left}
 use Rattle.std.proofs.Math.Seq.{get_or-append_seam}
 use Rattle.std.proofs.lemmas.List.Elements.{All-contains, All-push, Contains-append_left, Contains-append_right}
@@ -21,7 +21,7 @@ abbrev pub Tell : List Bool → List ℕ → Type 0
 Tell flags addresses = (at : ℕ) → IsTrue (get_or flags at false) ↔ Contains addresses at
 
 -- the last of a list is in it
-last_in : (addresses : List ℕ) (at : ℕ) → Contains (addresses ++ at ∷ []) at
+pub last_in : (addresses : List ℕ) (at : ℕ) → Contains (addresses ++ at ∷ []) at
 last_in addresses at = Contains-append_right addresses (at ∷ []) at (first_in at [])
 
 -- what is in a list with one more is the last, or in the list
@@ -34,16 +34,17 @@ in_pushed addresses at other there =
     ]
 
 -- with one address more the flags tell as before, and so does its own
-pub tell_pushed : (flags : List Bool) (addresses : List ℕ) (at : ℕ) → at < length flags → Tell flags addresses
-    → Tell (set flags at true) (addresses ++ at ∷ [])
-tell_pushed flags addresses at below tell other =
+pub tell_pushed : (flags new : List Bool) (addresses : List ℕ) (at : ℕ) → get_or new at false ≡ true
+    → ((other : ℕ) → other ≢ at → get_or new other false ≡ get_or flags other false) → Tell flags addresses
+    → Tell new (addresses ++ at ∷ [])
+tell_pushed flags new addresses at own others tell other =
     elim (cases_eq other at) [
       | inl same ↦ (
         λ _. subst (Contains (addresses ++ at ∷ [])) (sym same) (last_in addresses at),
-        λ _. rw same (get_or-set_same flags at true false below),
+        λ _. rw same own,
       )
       | inr differs ↦
-          let stays = get_or-set_other flags at other true false differs in (
+          let stays = others other differs in (
             λ is_set. Contains-append_left addresses (at ∷ []) other ((tell other).0 (sym stays ∙ is_set)),
             λ there. elim (in_pushed addresses at other there) [
               | inl same ↦ absurd (differs (sym same))
@@ -52,10 +53,14 @@ tell_pushed flags addresses at below tell other =
           )
     ]
 
--- an address whose flag is clear is not listed
-pub clear_not_listed : (flags : List Bool) (addresses : List ℕ) (at : ℕ) → Tell flags addresses
-    → get_or flags at false ≡ false → Contains addresses at → ⊥
-clear_not_listed flags addresses at tell is_clear there = false≢true (sym is_clear ∙ (tell at).1 there)
+-- an address that is listed has a flag
+pub listed_has_flag : (flags : List Bool) (addresses : List ℕ) (at : ℕ) → Tell flags addresses
+    → Contains addresses at → at < length flags
+listed_has_flag flags addresses at tell there =
+    elim (cases_lt at (length flags)) [
+      | inl within ↦ within
+      | inr past ↦ absurd (false≢true (sym (get_or_past flags at false past) ∙ (tell at).1 there))
+    ]
 
 -- the last of a list without repeats is not in the rest
 pub once_last : (at : ℕ) (addresses : List ℕ) → AllPairs (λ one other. one ≢ other) (addresses ++ at ∷ [])

@@ -4,23 +4,33 @@
 //! Model: a `Listing` of `specs/Listing.antt`: the bound that all addresses are below, and the listed
 //! addresses, the first one first. It reads and writes no word of the heap.
 //! Invariant: no address is listed twice, and each is below the bound. So there are no more than the
-//! bound, and room for these is there from the start: no call takes memory later.
+//! bound, and room for these is there from the start: no call takes memory later. It is written as addresses
+//! are pushed.
 #![tactic(auto)]
 
-ghost use Rattle.std.specs.Prelude.{◌≡◌, ◌<◌, ◌↔◌, [], if◌then◌else◌, length, slice_get, Some};
-ghost use Rattle.std.specs.Prelude.{Contains, IsTrue, IfOk, IfNone, MatchOption};
+ghost use Rattle.std.specs.Prelude.{◌≡◌, ◌≢◌, ℕ, ◌<◌, ◌≤◌, ◌↔◌, [], if◌then◌else◌, false, length, slice_get, Some};
+ghost use Rattle.std.specs.Prelude.{slice_index_or, Contains, IsTrue, IfOk, IfNone, MatchOption};
+ghost use Rattle.std.specs.Vec.{vec_capacity};
 ghost use Rattle.cell_list.specs.Listing.{IsListing, pushed};
 
 use std::alloc::Global;
 use std::marker::Model;
 use tagged_word::NoMemory;
 
+/// How many flags are written at once where an address has none: a page of them. So where addresses ascend
+/// most of them have one.
+const STRETCH: usize = 4096;
+
 /// The listed addresses of cells.
 #[derive(Drop)]
 pub struct CellList {
+    // All addresses are below it.
+    bound: u32,
     // In the order in which they were pushed, with room for each address below the bound.
     addresses: Vec<u32>,
-    // For each address below the bound whether it is listed: no call goes through the list to learn it.
+    // The flag of an address tells whether it is listed: no call goes through the list to learn it. There is
+    // room for that of each address below the bound, but what is written costs pages of memory, so flags are
+    // written only as far as addresses were pushed. What has no flag is not listed.
     listed: Vec<bool>,
 }
 
@@ -36,6 +46,40 @@ impl Model for CellList {
     ghost invariant = { IsValid };
 }
 
+/// Writes the flags that are missing up to that of an address, and some behind it, in the room that there
+/// is. It stands apart, so that what `push` inlines stays small.
+#[inline(never)]
+fn grow(flags: &mut Vec<bool>, at: u32, bound: u32)
+    requires below { at < bound }
+    requires room { bound ≤ vec_capacity flags.old }
+    requires none { length flags.old.items ≤ at }
+    ensures reached { at < length flags.new.items }
+    ensures same { (other : ℕ) →
+        slice_index_or flags.new.items other false ≡ slice_index_or flags.old.items other false }
+    ensures room { bound ≤ vec_capacity flags.new }
+{
+    let count = (at as usize + STRETCH).min(bound as usize);
+    if flags.resize(count, false).is_err() {
+        unreachable!();
+    }
+}
+
+/// Sets the flag of an address.
+#[inline(always)]
+fn set_flag(flags: &mut Vec<bool>, at: u32, bound: u32)
+    requires below { at < bound }
+    requires room { bound ≤ vec_capacity flags.old }
+    ensures own { IsTrue (slice_index_or flags.new.items at false) }
+    ensures others { (other : ℕ) → other ≢ at →
+        slice_index_or flags.new.items other false ≡ slice_index_or flags.old.items other false }
+    ensures room { bound ≤ vec_capacity flags.new }
+{
+    if at as usize >= flags.len() {
+        grow(flags, at, bound);
+    }
+    flags[at as usize] = true;
+}
+
 impl CellList {
     /// No address is listed, of those below the bound. It takes all the memory that it needs: later
     /// calls take none.
@@ -43,8 +87,12 @@ impl CellList {
         ensures { IfOk result (λ list. list ≡ record { bound = bound; addresses = [] }) }
     {
         let addresses = Vec::with_capacity(alloc, bound as usize)?;
-        let listed = vec![in alloc; false; bound as usize]?;
-        Ok(CellList { addresses, listed })
+        let listed = Vec::with_capacity(alloc, bound as usize)?;
+        Ok(CellList {
+            bound,
+            addresses,
+            listed,
+        })
     }
 
     /// How many addresses are listed.
@@ -71,7 +119,7 @@ impl CellList {
         requires { at < self.now.bound }
         ensures { IsTrue result ↔ Contains self.now.addresses at }
     {
-        self.listed[at as usize]
+        (at as usize) < self.listed.len() && self.listed[at as usize]
     }
 
     /// Lists the address as the last, where it is not listed so far, and answers whether that was so.
@@ -82,13 +130,11 @@ impl CellList {
         ensures value { self.new ≡ (if result then pushed self.old at else self.old) }
         ensures bound { self.new.bound ≡ self.old.bound }
     {
-        if self.listed[at as usize] {
+        if self.contains(at) {
             return false;
         }
-        self.listed[at as usize] = true;
-        if self.addresses.push(at).is_err() {
-            unreachable!();
-        }
+        set_flag(&mut self.listed, at, self.bound);
+        self.addresses.push_reserved(at);
         true
     }
 

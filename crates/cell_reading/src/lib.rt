@@ -20,7 +20,7 @@ mod limits;
 use cell_layout::Cell;
 pub use limits::{goes_on, row_limit};
 use tagged_word::{Kind, LayoutWord};
-use write_barrier::{Main, layout_of_bits};
+use write_barrier::Main;
 
 /// The cell that stands at an address.
 #[inline(always)]
@@ -34,15 +34,12 @@ pub fn known_cell(main: &Main, at: u32) -> Cell
     let header = main.header(at);
     let layout = known_layout(main, header.shape);
     let length = known_length(main, at, layout.kind);
-    match layout.size(length) {
-        Some(size) => Cell {
-            at,
-            header,
-            layout,
-            length,
-            size,
-        },
-        None => unreachable!(),
+    Cell {
+        at,
+        header,
+        layout,
+        length,
+        size: layout.known_size(length),
     }
 }
 
@@ -55,7 +52,7 @@ fn known_layout(main: &Main, shape: u32) -> LayoutWord
         IsLayoutOf main.now.seat.space (heap_words main.now.seat) shape layout → result ≡ layout }
 {
     let at = main.regions().layout_at(shape);
-    layout_of_bits(main.word(at))
+    LayoutWord::of_bits(main.word(at))
 }
 
 /// The length of the cell of a kind at an address: its second word where that is one, else 0.

@@ -1,12 +1,12 @@
--- The words of an image: the same cells stand in them, in the same rows.
-use Rattle.std.proofs.Common.{◌≡◌, ℕ, ◌+◌, inl, inr, List, All, Contains, slice_get}
+-- The words of an image, and words that are to become those: the same cells stand in them, in the same rows.
+use Rattle.std.proofs.Common.{◌≡◌, ℕ, ◌+◌, ◌<◌, ◌≤◌, ◌⊎◌, inl, inr, List, length, All, Contains, Some, slice_get}
 use Rattle.std.proofs.Common.{refl, sym, ◌∙◌, subst, arith}
 use Rattle.std.proofs.lemmas.Bool.{cases_lt}
 use Rattle.std.proofs.lemmas.List.Elements.{All-weaker, All-contains_itself}
 use Rattle.tagged_word.specs.Shapes.{shapes_most}
 use Rattle.heap_model.specs.Types.{Region, Cell}
 use Rattle.page_space.specs.declared.region.Region.TheVariants.{Page, Eden, Segment}
-use Rattle.page_space.specs.Extents.{layouts_start}
+use Rattle.page_space.specs.Extents.{roots_start, layouts_start, marks_start}
 use Rattle.page_space.proofs.Starts.{marks_start_is}
 use Rattle.cell_layout.specs.Cells.{IsRow, layouts_in}
 use Rattle.cell_layout.specs.CellLaws.{ReadsAlike}
@@ -20,15 +20,37 @@ use Rattle.heap_model.proofs.CellsApart.{IsOfCell, has_is_cell, first_of_cell}
 use Rattle.heap_model.proofs.RowCovers.{stretch_alike}
 use Rattle.cell_layout.proofs.Puts.{two_words}
 use Rattle.heap_model.proofs.WordsAlike.{extent_below_roots}
-use Rattle.collector.specs.Images.{AreWordsOf}
+use Rattle.collector.specs.Images.{AreWordsOf, IsOfSomeCell}
 use Rattle.heap_model.proofs.RegionRows.{row_is, row_of}
 use Rattle.collector.proofs.RowAddresses.{not_behind}
 
--- the words are those of an image of a heap whose sizes and rows are right
+-- Each word of a cell, each root word and each layout word is the heap's. Each other word of pages, of eden and of the
+-- segments is 0, or the heap's.
+pub record KeepCells (heap : Heap) (words : List ℕ) : Type 0 where
+  pub count : length words ≡ marks_start heap.space
+  pub cells : (at : ℕ) → IsOfSomeCell heap at → slice_get words at ≡ slice_get heap.words at
+  pub rest : (at : ℕ) → at < roots_start heap.space → (IsOfSomeCell heap at → ⊥)
+      → (slice_get words at ≡ Some 0) ⊎ (slice_get words at ≡ slice_get heap.words at)
+  pub roots : (at : ℕ) → roots_start heap.space ≤ at → at < layouts_start heap.space
+      → slice_get words at ≡ slice_get heap.words at
+  pub layouts : (at : ℕ) → layouts_start heap.space ≤ at → at < marks_start heap.space
+      → slice_get words at ≡ slice_get heap.words at
+
+-- the words of an image do
+pub keep_cells : {heap : Heap} {words : List ℕ} → AreWordsOf heap words → KeepCells heap words
+keep_cells are = record {
+  count = are.count;
+  cells = are.cells;
+  rest = λ at below none. inl (are.rest at below none);
+  roots = are.roots;
+  layouts = are.layouts;
+}
+
+-- the words keep the cells of a heap whose sizes and rows are right
 pub record Copying (heap : Heap) (words : List ℕ) : Type 0 where
   pub sized : HasSizes heap
   pub rows : HasRows heap
-  pub are : AreWordsOf heap words
+  pub are : KeepCells heap words
 
 -- the words of a cell are the heap's
 pub cell_word : {heap : Heap} {words : List ℕ} {cell : Cell} {others : List ℕ} (at : ℕ) → Copying heap words
@@ -91,6 +113,17 @@ row_stands {heap} {words} row copying among used =
     (All-weaker (Contains row.cells) (ReadsAlike heap.space heap.words words) has row.cells
     (All-contains_itself row.cells))
 
+-- where the word behind a row is 0, it still is
+zero_stays : {heap : Heap} {words : List ℕ} (row : Row) → Copying heap words
+    → Contains (cell_extents heap.space) row.extent → IsUsedRow heap row → row.end < row.extent.start + row.extent.words
+    → slice_get heap.words row.end ≡ Some 0 → slice_get words row.end ≡ Some 0
+zero_stays {heap} {words} row copying among used inside zero =
+    elim (copying.are.rest row.end (omega (arith, inside, extent_below_roots heap.space row.extent among))
+    (not_behind heap row row.end copying.rows among used (omega arith) inside)) [
+      | inl now ↦ now
+      | inr same ↦ same ∙ zero
+    ]
+
 -- a used row ends where it ended, kind by kind: behind the cells of a segment the word is 0
 ends_of : {heap : Heap} {words : List ℕ} (row : Row) (region : Region) → Copying heap words
     → Contains (cell_extents heap.space) row.extent → IsUsedRow heap row → EndsUsed heap row.extent row.end region
@@ -100,9 +133,10 @@ ends_of row Eden copying among used ends = ends
 ends_of {heap} row (Segment half worker) copying among used ends = (
   ends.0,
   elim (cases_lt row.end (row.extent.start + row.extent.words)) [
-    | inl inside ↦ inr
-        (copying.are.rest row.end (omega (arith, inside, extent_below_roots heap.space row.extent among))
-        (not_behind heap row row.end copying.rows among used (omega arith) inside))
+    | inl inside ↦ elim ends.1 [
+      | inl at_end ↦ inl at_end
+      | inr zero ↦ inr (zero_stays row copying among used inside zero)
+    ]
     | inr at_end ↦ inl (omega (arith, ends.0, at_end))
   ],
 )
@@ -182,14 +216,14 @@ has_sizes {heap} copying = record {
 }
 
 -- the image is blank
-pub is_blank : {heap : Heap} {words : List ℕ} → Copying heap words → Blank (written heap words)
-is_blank {heap} copying =
+pub is_blank : {heap : Heap} {words : List ℕ} → Copying heap words → AreWordsOf heap words → Blank (written heap words)
+is_blank {heap} copying are =
     let rows = copying.rows in
     record {
       rows = rows.rows;
       are = record { everywhere = rows.are.everywhere; each = rows_are copying };
       rest = λ row at there past below.
           let is = row_is row rows.are there in
-          copying.are.rest at (omega (arith, below, extent_below_roots heap.space row.extent is.among))
+          are.rest at (omega (arith, below, extent_below_roots heap.space row.extent is.among))
           (not_behind heap row at rows is.among is.used past below);
     }

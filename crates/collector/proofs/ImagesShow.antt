@@ -14,7 +14,7 @@ use Rattle.heap_moves.proofs.Unmoved.{word_unmoved, stands_unmoved, fits_unmoved
 use Rattle.heap_moves.proofs.MovedGraphs.{moves_show}
 use Rattle.collector.specs.Images.{IsImageOf}
 use Rattle.collector.specs.ImageLaws.{ImagesShow, ImagesAreBlank}
-use Rattle.collector.proofs.CopiedCells.{Copying, cell_stays, cell_stood, has_rows, has_sizes, is_blank}
+use Rattle.collector.proofs.CopiedCells.{Copying, keep_cells, cell_stays, cell_stood, has_rows, has_sizes, is_blank}
 
 -- an image is the heap with other words
 pub image_is : (heap image : Heap) → IsImageOf heap image → image ≡ written heap image.words
@@ -28,7 +28,7 @@ image_is heap image is = λ i. record {
 
 -- the words of an image of a whole heap
 pub copying : {heap image : Heap} → Whole heap → IsImageOf heap image → Copying heap image.words
-copying whole is = record { sized = whole.sized; rows = whole.rows; are = is.words }
+copying whole is = record { sized = whole.sized; rows = whole.rows; are = keep_cells is.words }
 
 -- each cell stays where it is
 abbrev pub same_place : ℕ → Option ℕ
@@ -65,4 +65,4 @@ images_show heap image graph shows is =
 
 -- an image is blank
 pub images_are_blank : ImagesAreBlank
-images_are_blank heap image whole is = subst Blank (sym (image_is heap image is)) (is_blank (copying whole is))
+images_are_blank heap image whole is = subst Blank (sym (image_is heap image is)) (is_blank (copying whole is) is.words)

@@ -3,6 +3,7 @@ mod CopiedCells
 pub mod ImagesShow
 mod RowWalks
 mod FilledWords
+mod BlankedWords
 pub mod ImageStores
 pub mod ImagesTight
 pub mod ImagesFree

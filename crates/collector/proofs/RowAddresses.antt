@@ -1,14 +1,19 @@
 -- Which addresses of a region are of cells: those of its used row, and no others.
-use Rattle.std.proofs.Common.{◌≡◌, ℕ, ◌+◌, ◌≤◌, ◌<◌, Contains, refl, arith}
-use Rattle.page_space.specs.Extents.{ContainsAddress}
+use Rattle.std.proofs.Common.{◌≡◌, ℕ, ◌+◌, ◌*◌, ◌/◌, ◌≤◌, ◌<◌, Contains, refl, subst, arith}
+use Rattle.page_space.specs.declared.region.Region.TheVariants.{Page}
+use Rattle.page_space.specs.Sizes.{page_words}
+use Rattle.page_space.specs.Extents.{Extent, ContainsAddress, eden_start}
+use Rattle.page_space.proofs.Standing.{extent_of}
 use Rattle.page_space.proofs.Covering.{disjoint}
 use Rattle.cell_layout.proofs.Rows.{cell_within, row_ascends}
-use Rattle.heap_model.specs.Heaps.{Heap, Row, IsUsedRow, cell_extents, words_of_cell}
+use Rattle.heap_model.specs.Heaps.{Heap, Row, EndsUsed, IsUsedRow, cell_extents, words_of_cell}
 use Rattle.heap_model.specs.Wholeness.{HasRows}
 use Rattle.heap_model.proofs.RowEnds.{one_used_row}
 use Rattle.heap_model.proofs.CellsApart.{IsOfCell, cell_extent_stands}
 use Rattle.heap_model.proofs.RowCovers.{covered}
+use Rattle.heap_model.proofs.RegionRows.{row_of}
 use Rattle.heap_model.proofs.Patches.{row_holds}
+use Rattle.write_barrier.proofs.FirstRuns.{page_among}
 use Rattle.collector.specs.Images.{IsOfSomeCell}
 
 -- each address of a used row is of a cell
@@ -38,3 +43,13 @@ not_behind heap row at rows among used past below of_some =
     let within =
     cell_within heap.space heap.words own.extent.start own.end own.cells of_some.cell has.used.stands has.in_row in
     omega (arith, within.1, (one_used_row heap own row has.used used same).end, past, of_cell.below)
+
+-- each address of a page is
+pub of_page : (heap : Heap) (at : ℕ) → HasRows heap → at < eden_start heap.space → IsOfSomeCell heap at
+of_page heap at rows below =
+    let page : ℕ = at / page_words in
+    let own = row_of (extent_of heap.space (Page page)) rows.are (page_among heap.space page (omega arith)) in
+    let row = own.row in
+    let ends : row.end ≡ page_words * page + page_words =
+    subst (λ (extent : Extent). EndsUsed heap extent row.end extent.region) own.same own.is.used.ends in
+    of_row heap row at own.is.among own.is.used (omega (arith, own.is.starts)) (omega (arith, ends))

@@ -29,6 +29,12 @@ pub record IsSegmentBetween (space : Space) (start end : ℕ) : Type 0 where
 abbrev pub EndsRowAt : Heap → ℕ → ℕ → Type 0
 EndsRowAt heap start end = (row : Row) → IsRowFrom heap start row → row.end ≡ end
 
+-- the words behind the used row of the region between two addresses have become 0, and no other has changed
+pub record BlanksBehind (heap : Heap) (new : List ℕ) (start end : ℕ) : Type 0 where
+  pub row_end : ℕ
+  pub ends : EndsRowAt heap start row_end
+  pub blanks : BlanksWithin heap.words new row_end end
+
 -- From an address to another the words are those of an image: the heap's where a cell stands, and else 0.
 pub record AreCellsWithin (heap : Heap) (words : List ℕ) (from to : ℕ) : Type 0 where
   pub cells : (at : ℕ) → from ≤ at → at < to → IsOfSomeCell heap at → slice_get words at ≡ slice_get heap.words at

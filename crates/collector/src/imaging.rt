@@ -1,4 +1,5 @@
-//! Images of a heap: a heap as plain data, copied out of the table of words.
+//! Images of a heap: a heap as plain data. Its words are copied out of the table, or the heap ends and they are
+//! the table.
 ghost use Rattle.std.specs.Prelude.{◌≡◌, ◌≤◌, ◌⊎◌, length};
 ghost use Rattle.std.specs.Vec.{vec_capacity};
 ghost use Rattle.std.specs.Borrow.{sem};
@@ -10,6 +11,7 @@ ghost use Rattle.heap_model.specs.Wholeness.{Whole};
 ghost use Rattle.write_barrier.specs.MutatorState.{heap_of};
 ghost use Rattle.collector.specs.Images.{AreWordsOf, IsImageOf};
 
+use crate::blanking::blank_cells;
 use crate::filling::fill_words;
 use crate::script_heap::Heap;
 use heap_model::{HeapImage, HeapWords};
@@ -53,6 +55,23 @@ fn imaged(main: &mut Main, mut words: Vec<u64>) -> HeapWords
     HeapWords::from_vec(words)
 }
 
+/// The words and the shapes of a mutator's side, as an image.
+fn parts_of(mut main: Main) -> HeapImage
+    ensures { image_heap result ≡ heap_of main }
+{
+    let regions = main.regions();
+    let used = main.used();
+    let survivors = main.nursery_mut().survivors();
+    let (shapes, words) = main.into_parts();
+    HeapImage {
+        regions,
+        used,
+        survivors,
+        shapes,
+        words: HeapWords::from_vec(words),
+    }
+}
+
 impl Heap {
     ghost use Rattle.collector.specs.States.{HeapShows};
     ghost use Rattle.collector.specs.Lending.{EndsKept};
@@ -87,16 +106,16 @@ impl Heap {
         &self.spare
     }
 
-    /// The heap as an image of it. It takes no memory, and gives back all that the heap had but
-    /// the image's.
+    /// The heap as an image of it. It takes no memory: the image has the table of the heap's words and
+    /// the shapes, and all else that the heap had is given back.
     pub fn into_image(mut self) -> HeapImage
         requires { (graph : Graph) × HeapShows self graph }
         ensures { IsImageOf (heap_of self.main) (image_heap result) }
     {
-        self.make_image();
+        blank_cells(&mut self.main);
         let Heap {
-            main: _,
-            spare,
+            main,
+            spare: _,
             memory: _,
             list: _,
             marking: _,
@@ -104,6 +123,6 @@ impl Heap {
             collected: _,
             alloc: _,
         } = self;
-        spare
+        parts_of(main)
     }
 }

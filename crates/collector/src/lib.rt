@@ -9,6 +9,7 @@
 //! says what an image is, and `laws_of_images` what it shows.
 #![tactic(auto)]
 
+mod blanking;
 mod collecting;
 mod cycles;
 mod filling;

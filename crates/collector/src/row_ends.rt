@@ -2,7 +2,7 @@
 ghost use Rattle.std.specs.Prelude.{◌≡◌};
 ghost use Rattle.heap_table.specs.declared.phase.Phase.TheVariants.{Quiet};
 ghost use Rattle.heap_model.specs.RegionRows.{StandsBetween};
-ghost use Rattle.heap_model.specs.Wholeness.{Whole};
+ghost use Rattle.heap_model.specs.Wholeness.{HasRows};
 ghost use Rattle.write_barrier.specs.MutatorState.{heap_of};
 ghost use Rattle.collector.specs.Filling.{IsSegmentBetween, EndsRowAt};
 
@@ -14,7 +14,7 @@ use write_barrier::Main;
 /// cell to cell.
 fn segment_row_end(main: &mut Main, start: u32, end: u32) -> u32
     requires quiet { main.old.seat.phase ≡ Quiet }
-    requires whole { Whole (heap_of main.old) }
+    requires rows { HasRows (heap_of main.old) }
     requires stands { IsSegmentBetween main.old.seat.space start end }
     ensures ends { EndsRowAt (heap_of main.old) start result }
     ensures same { main.new ≡ main.old }
@@ -33,7 +33,7 @@ fn segment_row_end(main: &mut Main, start: u32, end: u32) -> u32
 /// The address behind the used row of the region that stands between two addresses.
 pub(crate) fn row_end(main: &mut Main, start: u32, end: u32) -> u32
     requires quiet { main.old.seat.phase ≡ Quiet }
-    requires whole { Whole (heap_of main.old) }
+    requires rows { HasRows (heap_of main.old) }
     requires stands { StandsBetween main.old.seat.space start end }
     ensures ends { EndsRowAt (heap_of main.old) start result }
     ensures same { main.new ≡ main.old }

@@ -1,5 +1,5 @@
 -- The words of a cell by their addresses: its slots, and the first root words of variables.
-use Rattle.std.proofs.Common.{◌≡◌, ℕ, ◌+◌, ◌*◌, ◌<◌, inl, inr, List, Some, All, Contains, slice_get}
+use Rattle.std.proofs.Common.{◌≡◌, ℕ, ◌+◌, ◌*◌, ◌<◌, ◌≤◌, inl, inr, List, Some, All, Contains, slice_get}
 use Rattle.std.proofs.Common.{refl, sym, ◌∙◌, ap, subst, arith}
 use Rattle.std.proofs.lemmas.Bool.{cases_lt}
 use Rattle.std.proofs.lemmas.Option.{same_Some}
@@ -8,7 +8,6 @@ use Rattle.tagged_word.specs.Cells.{tagged_offsets}
 use Rattle.page_space.specs.Extents.{Space, roots_start, marks_start, root_words}
 use Rattle.page_space.proofs.LawsHold.{kinds_by_number}
 use Rattle.handle_roots.specs.Roots.{root_at}
-use Rattle.cell_layout.specs.Slots.{IsLeastFrom}
 use Rattle.cell_layout.proofs.OneCell.{slots_lie_within}
 use Rattle.heap_model.specs.Types.{Cell}
 use Rattle.heap_model.specs.Heaps.{Heap, HasCell}
@@ -75,6 +74,12 @@ module _ {heap : Heap} {cell : Cell} {words : List ℕ} (has : HasCell heap cell
       (slots_lie_within heap.space heap.words cell offset (has_is_cell has)
       (marking_slots cell.layout.kind cell.layout cell.length offset visited)).within
 
+  -- behind its header
+  pub slot_behind : (offset : ℕ) → Contains (tagged_offsets cell.layout cell.length) offset → 1 ≤ offset
+  slot_behind offset visited =
+      (slots_lie_within heap.space heap.words cell offset (has_is_cell has)
+      (marking_slots cell.layout.kind cell.layout cell.length offset visited)).behind_header
+
   -- so a word of the cell stands before the marks
   pub word_below : (offset : ℕ) → Whole heap → offset < cell.size → cell.at + offset < marks_start heap.space
   word_below offset whole within =
@@ -103,20 +108,30 @@ module _ {heap : Heap} {cell : Cell} {words : List ℕ} (has : HasCell heap cell
       let own : HasCell heap cell slot.words = subst (λ (one : Cell). HasCell heap one slot.words) same slot.has in
       (visited, word_found slot.offset (4 * at + 1) own (slot_within slot.offset visited) slot.holds)
 
--- with the next slot's target, those of all before and its own are marked
-pub next_slot : {main : Mutator} {old new : Listing} (offsets : List ℕ) (cell from next : ℕ) → HasGrown main old new
-    → ((offset at : ℕ) → Contains offsets offset → offset < from → HoldsReference (heap_of main) (cell + offset) at
+-- with the target of the slot at an offset, those of all before and its own are marked
+pub next_slot : {main : Mutator} {old new : Listing} (offsets : List ℕ) (cell next : ℕ) → HasGrown main old new
+    → ((offset at : ℕ) → Contains offsets offset → offset < next → HoldsReference (heap_of main) (cell + offset) at
     → Contains old.addresses at)
-    → IsLeastFrom offsets from next
     → ((at : ℕ) → HoldsReference (heap_of main) (cell + next) at → Contains new.addresses at)
     → (offset at : ℕ) → Contains offsets offset → offset < next + 1 → HoldsReference (heap_of main) (cell + offset) at
     → Contains new.addresses at
-next_slot {main} {new = new} offsets cell from next grown before least own offset at visited below refers =
-    elim (cases_lt offset from) [
+next_slot {main} {new = new} offsets cell next grown before own offset at visited below refers =
+    elim (cases_lt offset next) [
       | inl earlier ↦ stays_marked at grown (before offset at visited earlier refers)
-      | inr behind ↦
-          let same : offset ≡ next = omega (arith, least.least offset visited behind, below) in
+      | inr last ↦
+          let same : offset ≡ next = omega (arith, last, below) in
           own at (subst (λ (one : ℕ). HoldsReference (heap_of main) (cell + one) at) same refers)
+    ]
+
+-- where an offset is none of a list, those that are not behind it are before it
+pub passes_offset : (offsets : List ℕ) (next : ℕ) → (Contains offsets next → ⊥) → (offset : ℕ)
+    → Contains offsets offset → offset < next + 1 → offset < next
+passes_offset offsets next none offset there below =
+    elim (cases_lt offset next) [
+      | inl earlier ↦ earlier
+      | inr last ↦
+          let same : offset ≡ next = omega (arith, last, below) in
+          absurd (none (subst (λ (one : ℕ). Contains offsets one) same there))
     ]
 
 -- where all slots are before an offset, each target is marked

@@ -1,6 +1,7 @@
 pub mod LiveStands
 mod GrownLists
 mod CellSlots
+mod SlotEnds
 mod LastPairs
 mod AddedPairs
 mod AddedWaits

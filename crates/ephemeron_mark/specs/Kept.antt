@@ -10,28 +10,28 @@ use Rattle.ephemeron_mark.specs.Pairs.{Waits, IsLastOf}
 abbrev pub keys_of : List WaitingPair → List ℕ
 keys_of pairs = map (λ pair. pair.key) pairs
 
--- For each address it is told which pair is the last that waits for it, and for each pair which before it waits for the
--- same key.
+-- For each address it is told which pair is the last that waits for it, if one does, and for each pair which before it
+-- waits for the same key.
 pub record AreTold (last : List ℕ) (pairs : List WaitingPair) : Type 0 where
-  pub latest : (key : ℕ) → key < length last → IsLastOf (keys_of pairs) (length pairs) key (slice_index last key)
+  pub latest : (key : ℕ) → IsLastOf (keys_of pairs) (length pairs) key (slice_index last key)
   pub earlier : (place : ℕ) (pair : WaitingPair) → slice_get pairs place ≡ Some pair
       → IsLastOf (keys_of pairs) place pair.key pair.earlier
-  pub below : (place : ℕ) (pair : WaitingPair) → slice_get pairs place ≡ Some pair → pair.key < length last
 
--- the slots, and the keys in the same order
+-- the bound of the slots, these, and the keys in the same order
 abbrev pub waits_of : waiting.Inside → Waits
 waits_of inside = record {
-  bound = length inside.last.items;
+  bound = inside.slots.bound;
   slots = inside.slots.addresses;
   keys = keys_of inside.pairs.items;
 }
 
--- Each slot has its pair, there is room for as many as addresses, and the pairs that wait for a key are told.
+-- Each slot has its pair, there is room for as many as addresses and for what is told of each address, and the pairs
+-- that wait for a key are told.
 pub record IsWaiting (inside : waiting.Inside) : Type 0 where
-  pub bound : inside.slots.bound ≡ length inside.last.items
-  pub fits : length inside.last.items < 2 ^ 32
+  pub fits : inside.slots.bound < 2 ^ 32
   pub as_many : length inside.pairs.items ≡ length inside.slots.addresses
-  pub room : length inside.last.items ≤ vec_capacity inside.pairs
+  pub room : inside.slots.bound ≤ vec_capacity inside.pairs
+  pub room_for_last : inside.slots.bound ≤ vec_capacity inside.last
   pub told : AreTold inside.last.items inside.pairs.items
 
 -- the cells that were found, and the weak maps

@@ -1,5 +1,6 @@
 //! Marking what words refer to: those of variables, and those of the slots of a cell.
-ghost use Rattle.std.specs.Prelude.{ℕ, ◌<◌, Contains};
+ghost use Rattle.std.specs.Prelude.{ℕ, ◌<◌, All, Contains};
+ghost use Rattle.tagged_word.specs.Cells.{tagged_offsets};
 ghost use Rattle.page_space.specs.Extents.{marks_start};
 ghost use Rattle.live_cells.specs.Live.{HasSlotTo};
 ghost use Rattle.live_cells.specs.Marked.{HasRootTargets};
@@ -7,9 +8,10 @@ ghost use Rattle.write_barrier.specs.MutatorState.{heap_of};
 ghost use Rattle.ephemeron_mark.specs.Marked.{IsLiveAt};
 ghost use Rattle.ephemeron_mark.specs.Progress.{HoldsReference, IsMarking, HasGrown, IsCellOf};
 
-use cell_layout::{Cell, next_tagged};
+use cell_layout::Cell;
 use cell_list::CellList;
-use tagged_word::Word;
+use tagged_word::cell::{PLAIN_HEAD, STORE_SLOT};
+use tagged_word::{Kind, Word};
 use write_barrier::Main;
 
 /// Marks what the word at an address refers to, where it is a reference.
@@ -39,6 +41,26 @@ pub(crate) fn mark_roots(main: &Main, cells: &mut CellList)
     }
 }
 
+/// Marks what the slots of a live cell refer to, of those that marking visits. They stand before an
+/// offset, up to which each offset is tried.
+#[inline(always)]
+fn mark_before(main: &Main, cells: &mut CellList, cell: &Cell, slots_end: u32)
+    requires marking { IsMarking main.now cells.old }
+    requires live { IsLiveAt (heap_of main.now) cell.now.at }
+    requires stands { IsCellOf (heap_of main.now) cell.now }
+    requires ends { All (λ offset. offset < slots_end) (tagged_offsets cell.now.layout cell.now.length) }
+    ensures grown { HasGrown main.now cells.old cells.new }
+    ensures slots { (at : ℕ) → HasSlotTo (heap_of main.now) cell.now.at at → Contains cells.new.addresses at }
+{
+    // No address is past 32 bits.
+    main.addresses_fit();
+    for offset in STORE_SLOT..slots_end {
+        if cell.layout.is_tagged(cell.length, offset) {
+            mark_target(main, cells, cell.at + offset);
+        }
+    }
+}
+
 /// Marks what the slots of a live cell refer to, of those that marking visits.
 pub(crate) fn mark_slots(main: &Main, cells: &mut CellList, cell: &Cell)
     requires marking { IsMarking main.now cells.old }
@@ -47,11 +69,10 @@ pub(crate) fn mark_slots(main: &Main, cells: &mut CellList, cell: &Cell)
     ensures grown { HasGrown main.now cells.old cells.new }
     ensures slots { (at : ℕ) → HasSlotTo (heap_of main.now) cell.now.at at → Contains cells.new.addresses at }
 {
-    // No address is past 32 bits.
-    main.addresses_fit();
-    let mut from = 0;
-    'slots: while let Some(offset) = next_tagged(cell, from) {
-        mark_target(main, cells, cell.at + offset);
-        from = offset + 1;
+    // Plain cells and stores have most of the slots: their loops do not ask for the kind at each.
+    match cell.layout.kind {
+        Kind::Plain => mark_before(main, cells, cell, PLAIN_HEAD + cell.layout.used),
+        Kind::Store => mark_before(main, cells, cell, cell.size),
+        _ => mark_before(main, cells, cell, STORE_SLOT + 1),
     }
 }

@@ -1,5 +1,5 @@
 //! The pairs that wait for their keys, found by key.
-ghost use Rattle.std.specs.Prelude.{◌≡◌, ℕ, ◌<◌, ◌⊎◌, [], IfOk, length, slice_get, Some};
+ghost use Rattle.std.specs.Prelude.{◌≡◌, ◌≢◌, ℕ, ◌<◌, ◌≤◌, ◌⊎◌, [], IfOk, length, slice_get, slice_index, Some};
 ghost use Rattle.std.specs.Vec.{vec_capacity};
 ghost use Rattle.ephemeron_mark.specs.Pairs.{WaitsFor, IsLastOf, none_waits};
 ghost use Rattle.ephemeron_mark.specs.Kept.{AreTold};
@@ -7,7 +7,11 @@ ghost use Rattle.ephemeron_mark.specs.Kept.{AreTold};
 use cell_list::CellList;
 use std::alloc::Global;
 use std::marker::Model;
+use std::mem;
 use tagged_word::NoMemory;
+
+/// Of how many addresses it is written at once that no pair waits for them: a page of it.
+const STRETCH: usize = 1024;
 
 /// A pair that waits, beside the slot of its value.
 #[derive(Clone, Copy)]
@@ -26,8 +30,9 @@ pub(crate) struct Waiting {
     slots: CellList,
     // The pairs in the same order, with room for each address below the bound.
     pairs: Vec<WaitingPair>,
-    // For each address below the bound, how many pairs there are up to the last one that waits for it; 0
-    // where none does.
+    // For an address, how many pairs there are up to the last one that waits for it; 0 where none does. There
+    // is room for each address below the bound, but what is written costs pages of memory, so it is written
+    // only as far as pairs waited for addresses. For one behind that none does.
     last: Vec<u32>,
 }
 
@@ -48,12 +53,45 @@ fn forget_pairs(last: &mut Vec<u32>, pairs: &mut Vec<WaitingPair>)
     requires { AreTold last.old.items pairs.old.items }
     ensures told { AreTold last.new.items [] }
     ensures none { pairs.new.items ≡ [] }
-    ensures as_many { length last.new.items ≡ length last.old.items }
     ensures capacity { vec_capacity pairs.new ≡ vec_capacity pairs.old }
+    ensures capacity_of_last { vec_capacity last.new ≡ vec_capacity last.old }
 {
     while let Some(pair) = pairs.pop() {
         last[pair.key as usize] = pair.earlier;
     }
+}
+
+/// Writes what is missing up to a key, and some behind it, in the room that there is: that no pair waits. It
+/// stands apart, so that what `add` inlines stays small.
+#[inline(never)]
+fn grow(last: &mut Vec<u32>, key: u32)
+    requires room { key < vec_capacity last.old }
+    requires none { length last.old.items ≤ key }
+    ensures reached { key < length last.new.items }
+    ensures same { (other : ℕ) → slice_index last.new.items other ≡ slice_index last.old.items other }
+    ensures capacity { vec_capacity last.old ≤ vec_capacity last.new }
+{
+    let count = (key as usize + STRETCH).min(last.capacity());
+    if last.resize(count, 0).is_err() {
+        unreachable!();
+    }
+}
+
+/// Tells of a key how many pairs there are up to the last one that waits for it. It answers what was told
+/// so far.
+#[inline(always)]
+fn tell_last(last: &mut Vec<u32>, key: u32, count: u32) -> u32
+    requires room { key < vec_capacity last.old }
+    ensures before { result ≡ slice_index last.old.items key }
+    ensures own { slice_index last.new.items key ≡ count }
+    ensures others { (other : ℕ) → other ≢ key →
+        slice_index last.new.items other ≡ slice_index last.old.items other }
+    ensures capacity { vec_capacity last.old ≤ vec_capacity last.new }
+{
+    if key as usize >= last.len() {
+        grow(last, key);
+    }
+    mem::replace(&mut last[key as usize], count)
 }
 
 impl Waiting {
@@ -64,7 +102,7 @@ impl Waiting {
     {
         let slots = CellList::new(alloc, bound)?;
         let pairs = Vec::with_capacity(alloc, bound as usize)?;
-        let last = vec![in alloc; 0; bound as usize]?;
+        let last = Vec::with_capacity(alloc, bound as usize)?;
         Ok(Waiting { slots, pairs, last })
     }
 
@@ -92,11 +130,8 @@ impl Waiting {
             return;
         }
         let count = self.slots.len() as u32;
-        let earlier = self.last[key as usize];
-        if self.pairs.push(WaitingPair { key, earlier }).is_err() {
-            unreachable!();
-        }
-        self.last[key as usize] = count;
+        let earlier = tell_last(&mut self.last, key, count);
+        self.pairs.push_reserved(WaitingPair { key, earlier });
     }
 
     /// How many pairs there are up to the last one that waits for a key; 0 where none does.
@@ -105,6 +140,9 @@ impl Waiting {
         ensures last { IsLastOf self.now.keys (length self.now.keys) key result }
         ensures as_many { length self.now.slots ≡ length self.now.keys }
     {
+        if key as usize >= self.last.len() {
+            return 0;
+        }
         self.last[key as usize]
     }
 

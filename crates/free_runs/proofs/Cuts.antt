@@ -5,8 +5,9 @@ use Rattle.std.proofs.lemmas.Bool.{cases_eq}
 use Rattle.std.proofs.lemmas.Bool.Decides.{nat_tests}
 use Rattle.std.proofs.lemmas.List.{drop_more, take-append-drop, set_split}
 use Rattle.page_space.specs.declared.run.Run.{Run}
-use Rattle.free_runs.specs.FreeRuns.{left_of, TakesFrom}
+use Rattle.free_runs.specs.FreeRuns.{left_of, longest_in, TakesFrom}
 use Rattle.free_runs.specs.Standing.{StandsAt}
+use Rattle.free_runs.proofs.Bounds.{longest_joined}
 
 -- nothing is left of a run of n words, and the words behind them of a longer one
 abbrev pub Left : Run → ℕ → List Run → Type 0
@@ -71,3 +72,37 @@ taken_front runs n place run stands read longer = record {
       ∙ ap (λ k. take place runs ++ record { at = run.at + n; words = run.words - n } ∷ drop k runs) next
       ∙ ap (λ left. take place runs ++ (left ++ drop (place + 1) runs)) (sym (left_longer run n longer));
 }
+
+-- what is left of a run is no longer
+left_shorter : (run : Run) (n : ℕ) (left : List Run) → Left run n left → longest_in left ≤ run.words
+left_shorter run n left is =
+    elim is [
+      | inl (whole, none) ↦ rw none (omega arith)
+      | inr (longer, some) ↦ rw some (omega arith)
+    ]
+
+-- where words of a shorter run are taken, the longest stays
+longest_stays : {old new : List Run} {n : ℕ} {taken : Run} → (takes : TakesFrom old new n taken)
+    → takes.run.words < longest_in old → longest_in new ≡ longest_in old
+longest_stays {n = n} takes shorter =
+    let left = left_of takes.run n in
+    let was = ap longest_in takes.stood ∙ longest_joined takes.before (takes.run ∷ takes.behind) in
+    let is = ap longest_in takes.left ∙ longest_joined takes.before (left ++ takes.behind) in
+    let less = left_shorter takes.run n left (left_is takes.run n takes.enough) in
+    omega (arith, was, is, longest_joined left takes.behind, less, shorter)
+
+-- so it is where it is taken whole
+pub whole_keeps_longest : (runs : List Run) (n place : ℕ) (run : Run) → StandsAt runs n place
+    → run ≡ get_or runs place run → run.words ≡ n → run.words < longest_in runs
+    → longest_in (take place runs ++ drop (place + 1) runs) ≡ longest_in runs
+unfolding taken_whole
+whole_keeps_longest runs n place run stands read whole shorter =
+    longest_stays (taken_whole runs n place run stands read whole) shorter
+
+-- and where the words behind it stay
+pub front_keeps_longest : (runs : List Run) (n place : ℕ) (run : Run) → StandsAt runs n place
+    → run ≡ get_or runs place run → run.words ≢ n → run.words < longest_in runs
+    → longest_in (set runs place (record { at = run.at + n; words = run.words - n })) ≡ longest_in runs
+unfolding taken_front
+front_keeps_longest runs n place run stands read more shorter =
+    longest_stays (taken_front runs n place run stands read more) shorter

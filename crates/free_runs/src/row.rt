@@ -115,9 +115,7 @@ impl Row {
         requires { length self.old < runs_most }
         ensures { self.new ≡ self.old ++ run ∷ [] }
     {
-        if self.runs.push(run).is_err() {
-            unreachable!();
-        }
+        self.runs.push_reserved(run);
         self.longest = self.longest.max(run.words);
     }
 
@@ -132,6 +130,7 @@ impl Row {
             unreachable!();
         };
         let run = self.runs[place];
+        let is_longest = run.words == self.longest;
         if run.words == n {
             self.runs.remove(place);
         } else {
@@ -140,7 +139,12 @@ impl Row {
                 words: run.words - n,
             };
         }
-        self.longest = longest(&self.runs);
+        // A shorter run and what is left of it are none that the longest goes by.
+        self.longest = if is_longest {
+            longest(&self.runs)
+        } else {
+            self.longest
+        };
         Run {
             at: run.at,
             words: n,

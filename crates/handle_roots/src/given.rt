@@ -1,5 +1,6 @@
 //! Values by the words that slots have for them.
-ghost use Rattle.std.specs.Prelude.{◌≡◌};
+ghost use Rattle.std.specs.Prelude.{◌≡◌, true};
+ghost use Rattle.tagged_word.specs.Words.{small};
 ghost use Rattle.handle_roots.specs.declared.held.Held.{Held as What};
 ghost use Rattle.handle_roots.specs.declared.held.Held.TheVariants as held;
 ghost use Rattle.handle_roots.specs.Roots.{FitsHeld, first_word};
@@ -22,7 +23,8 @@ impl Given {
     /// An integer, by its word where it is small.
     #[inline(always)]
     pub fn integer(v: i64) -> Given
-        ensures { Gives result (held.Int v) }
+        ensures gives { Gives result (held.Int v) }
+        ensures by_word { small v ≡ true → (word : Word) × (result ≡ Given.Word word) }
     {
         match Word::small(v) {
             Some(word) => Given::Word(word),

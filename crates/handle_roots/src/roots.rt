@@ -1,8 +1,9 @@
 //! What the variables hold, read off their root words and written to them.
-ghost use Rattle.std.specs.Prelude.{◌≡◌, ◌≢◌, ◌↔◌, ◌+◌, ◌<◌, ◌≤◌, length, IsTrue, IfSome};
+ghost use Rattle.std.specs.Prelude.{◌≡◌, ◌≢◌, ◌↔◌, ◌+◌, ◌<◌, ◌≤◌, ℕ, ℤ, length, slice_set};
+ghost use Rattle.std.specs.Prelude.{IsTrue, IfSome, IsNone};
 ghost use Rattle.page_space.specs.Extents.{layouts_start};
 ghost use Rattle.handle_roots.specs.declared.held.Held.{Held};
-ghost use Rattle.handle_roots.specs.declared.held.Held.TheVariants.{Unbound, Ref};
+ghost use Rattle.handle_roots.specs.declared.held.Held.TheVariants.{Unbound, Int, Ref};
 ghost use Rattle.handle_roots.specs.Roots.{root_at, FitsHeld, first_of, second_of, first_word};
 ghost use Rattle.handle_roots.specs.Roots.{second_word, Holds, IsRoot, with_root};
 ghost use Rattle.tagged_word.specs.Words.{small};
@@ -12,7 +13,7 @@ ghost use Rattle.handle_roots.specs.Givens.{GivesHeld};
 use crate::given::{Given, is_slot_word};
 use crate::held::Held;
 use page_space::Regions;
-use tagged_word::{Class, Word, is_small, odd};
+use tagged_word::{Class, Word, odd};
 use word_store::{Reads, Words};
 
 /// What a variable holds. Only an integer that is not small makes it load the second root word.
@@ -72,10 +73,26 @@ pub fn referred<W: Reads>(words: &mut W, regions: &Regions, variable: u32) -> Op
     requires steady { W.IsSteady words.old }
     requires root { IsRoot regions.now (W.words words.old) variable }
     ensures refers { IfSome result (λ at. Holds regions.now (W.words words.old) variable (Ref at)) }
+    ensures none { IsNone result → (at : ℕ) → ¬ Holds regions.now (W.words words.old) variable (Ref at) }
     ensures kept { W.words words.new ≡ W.words words.old }
     ensures rest { W.Rest words.old words.new }
 {
     referred_by_first(words.load(regions.root_at(variable)))
+}
+
+/// The small integer that a variable holds, if it holds one.
+#[inline(always)]
+pub fn small_by<W: Reads>(words: &mut W, regions: &Regions, variable: u32) -> Option<i64>
+    requires known { variable < regions.now.variables }
+    requires steady { W.IsSteady words.old }
+    requires root { IsRoot regions.now (W.words words.old) variable }
+    ensures holds { IfSome result (λ v. IsTrue (small v) × Holds regions.now (W.words words.old) variable (Int v)) }
+    ensures none { IsNone result → (v : ℤ) → IsTrue (small v) →
+        ¬ Holds regions.now (W.words words.old) variable (Int v) }
+    ensures kept { W.words words.new ≡ W.words words.old }
+    ensures rest { W.Rest words.old words.new }
+{
+    small_by_first(words.load(regions.root_at(variable)))
 }
 
 /// Makes a variable hold what another one holds: both of its root words are copied.
@@ -94,8 +111,7 @@ pub fn copy<W: Words>(words: &mut W, regions: &Regions, from: u32, to: u32)
 {
     let first = words.load(regions.root_at(from));
     let second = words.load(second_at(regions, from));
-    words.put(regions.root_at(to), first);
-    words.put(second_at(regions, to), second);
+    put_root(words, regions, to, first, second);
 }
 
 /// Makes a variable hold a value: both of its root words are put.
@@ -108,8 +124,59 @@ pub fn hold<W: Words>(words: &mut W, regions: &Regions, variable: u32, value: He
     ensures holds { Holds regions.now (W.words words.new) variable value }
     ensures rest { W.Rest words.old words.new }
 {
-    words.put(regions.root_at(variable), first(value));
-    words.put(second_at(regions, variable), second(value));
+    put_value(words, regions, variable, value);
+}
+
+/// Puts both root words of a value.
+#[inline(always)]
+fn put_value<W: Words>(words: &mut W, regions: &Regions, variable: u32, value: Held)
+    requires known { variable < regions.now.variables }
+    requires steady { W.IsSteady words.old }
+    requires within { layouts_start regions.now ≤ length (W.words words.old) }
+    ensures put { W.words words.new ≡ with_root regions.now (W.words words.old) variable value }
+    ensures rest { W.Rest words.old words.new }
+{
+    match value {
+        Held::Unbound => put_root(words, regions, variable, Word::odd(odd::UNBOUND).0, 0),
+        Held::Undefined => put_root(words, regions, variable, Word::odd(odd::UNDEFINED).0, 0),
+        Held::Ref(at) => put_root(words, regions, variable, Word::reference(at).0, 0),
+        Held::Int(v) => put_integer(words, regions, variable, v),
+    }
+}
+
+/// Puts both root words of an integer. That it is small is asked once for the two.
+#[inline(always)]
+fn put_integer<W: Words>(words: &mut W, regions: &Regions, variable: u32, v: i64)
+    requires known { variable < regions.now.variables }
+    requires steady { W.IsSteady words.old }
+    requires within { layouts_start regions.now ≤ length (W.words words.old) }
+    ensures put { W.words words.new ≡ with_root regions.now (W.words words.old) variable (Int v) }
+    ensures rest { W.Rest words.old words.new }
+{
+    match Word::small(v) {
+        Some(word) => put_root(words, regions, variable, word.0, 0),
+        None => put_root(
+            words,
+            regions,
+            variable,
+            Word::odd(odd::WIDE).0,
+            v.cast_unsigned(),
+        ),
+    }
+}
+
+/// Puts both root words of a variable.
+#[inline(always)]
+fn put_root<W: Words>(words: &mut W, regions: &Regions, variable: u32, first: u64, second: u64)
+    requires known { variable < regions.now.variables }
+    requires steady { W.IsSteady words.old }
+    requires within { layouts_start regions.now ≤ length (W.words words.old) }
+    ensures put { let at = root_at regions.now variable in
+        W.words words.new ≡ slice_set (slice_set (W.words words.old) at first) (at + 1) second }
+    ensures rest { W.Rest words.old words.new }
+{
+    words.put(regions.root_at(variable), first);
+    words.put(second_at(regions, variable), second);
 }
 
 /// The address of the second root word of a variable.
@@ -147,59 +214,31 @@ fn held_by_class(class: Class) -> Option<Held>
     }
 }
 
+/// The small integer of a first root word, if it is that of one.
+#[inline(always)]
+fn small_by_first(word: u64) -> Option<i64>
+    requires { (held : Held) × FitsHeld held × (word ≡ first_word held) }
+    ensures holds { (held : Held) → FitsHeld held → word ≡ first_word held →
+        IfSome result (λ v. IsTrue (small v) × (held ≡ Int v)) }
+    ensures none { IsNone result → (v : ℤ) → IsTrue (small v) → FitsHeld (Int v) → word ≢ first_word (Int v) }
+{
+    match held_by_first(word) {
+        Some(Held::Int(v)) => Some(v),
+        _ => None,
+    }
+}
+
 /// The address that a first root word refers to, if it is that of a reference.
 #[inline(always)]
 fn referred_by_first(word: u64) -> Option<u32>
     requires { (held : Held) × FitsHeld held × (word ≡ first_word held) }
-    ensures { (held : Held) → FitsHeld held → word ≡ first_word held →
+    ensures refers { (held : Held) → FitsHeld held → word ≡ first_word held →
         IfSome result (λ at. held ≡ Ref at) }
+    ensures none { IsNone result → (at : ℕ) → word ≢ first_word (Ref at) }
 {
     if word % 4 == 1 {
         Some((word / 4) as u32)
     } else {
         None
     }
-}
-
-/// The first root word of a value.
-#[inline(always)]
-fn first(value: Held) -> u64
-    ensures { result ≡ first_word value }
-{
-    match value {
-        Held::Unbound => Word::odd(odd::UNBOUND).0,
-        Held::Undefined => Word::odd(odd::UNDEFINED).0,
-        Held::Int(v) => first_of_integer(v),
-        Held::Ref(at) => Word::reference(at).0,
-    }
-}
-
-/// The first root word of an integer.
-#[inline(always)]
-fn first_of_integer(v: i64) -> u64
-    ensures { result ≡ first_of (small v) v }
-{
-    match Word::small(v) {
-        Some(word) => word.0,
-        None => Word::odd(odd::WIDE).0,
-    }
-}
-
-/// The second root word of a value.
-#[inline(always)]
-fn second(value: Held) -> u64
-    ensures { result ≡ second_word value }
-{
-    match value {
-        Held::Int(v) => second_of_integer(v),
-        _ => 0,
-    }
-}
-
-/// The second root word of an integer.
-#[inline(always)]
-fn second_of_integer(v: i64) -> u64
-    ensures { result ≡ second_of (small v) v }
-{
-    if is_small(v) { 0 } else { v.cast_unsigned() }
 }

@@ -46,38 +46,41 @@ impl LoopCounters {
         ensures place { result ≡ (standing_after at self.old what.now).at }
         ensures turns { self.new ≡ (standing_after at self.old what.now).turns }
     {
+        // Read before a `repeat` is told from an `end`, and wanted for both: so a command, which most lines are, is
+        // told from the two by one test.
+        let blocks = self.open;
         match *what {
             What::Run(_) => at + 1,
             What::Repeat { times: 0, end_at } => end_at as usize + 1,
             What::Repeat { times, .. } => {
-                self.enter(times - 1);
+                self.enter(blocks, times - 1);
                 at + 1
             }
+            What::End { .. } if blocks == 0 => at + 1,
             What::End { repeat_at } => self.end(at, repeat_at),
         }
     }
 
-    /// One block more is open, with so many turns left.
+    /// One block more than these is open, with so many turns left.
     #[inline(never)]
-    fn enter(&mut self, turns: u32)
-        requires room { length self.old < 4 }
+    fn enter(&mut self, blocks: usize, turns: u32)
+        requires all { blocks ≡ length self.old }
+        requires room { blocks < 4 }
         ensures { self.new ≡ turns ∷ self.old }
     {
         let [first, second, third, _] = self.left;
         self.left = [turns, first, second, third];
-        self.open += 1;
+        self.open = blocks + 1;
     }
 
     /// Where the run goes on after the `end` at this place, of the `repeat` at the other.
     #[inline(always)]
     fn end(&mut self, at: usize, repeat_at: u32) -> usize
         requires small { at < 2 ^ 63 }
+        requires some { 1 ≤ length self.old }
         ensures place { result ≡ (closed at self.old repeat_at).at }
         ensures turns { self.new ≡ (closed at self.old repeat_at).turns }
     {
-        if self.open == 0 {
-            return at + 1;
-        }
         if self.left[0] > 0 {
             self.left[0] -= 1;
             return repeat_at as usize + 1;

@@ -56,23 +56,22 @@ pub(crate) fn run_ahead(
     ensures space { heap.new.main.seat.space ≡ heap.old.main.seat.space }
     ensures further { from.executed ≤ result.executed }
 {
-    let lines = script.lines();
-    let (mut at, mut executed) = (from.at, from.executed);
     if is_full(out) {
-        return Reached { at, executed };
+        return from;
     }
-    while at < lines.len() {
-        if executed == LINES_MOST {
-            return Reached { at, executed };
-        }
-        let line = &lines[at];
-        let Some(next) = passes(heap, objects, turns, at, &line.what) else {
-            return Reached { at, executed };
+    let lines = script.lines();
+    let (mut at, mut left) = (from.at, LINES_MOST - from.executed);
+    while left > 0 && at < lines.len() {
+        let Some(next) = passes(heap, objects, turns, at, &lines[at].what) else {
+            break;
         };
         at = next;
-        executed += 1;
+        left -= 1;
     }
-    Reached { at, executed }
+    Reached {
+        at,
+        executed: LINES_MOST - left,
+    }
 }
 
 /// Whether what waits has to be handed on before the next line.

@@ -168,6 +168,21 @@ impl MainSeat {
         Paused { seat: self }
     }
 
+    /// The words before the marks, as the table has them. It takes no memory: what stands behind them is
+    /// cut off.
+    pub fn into_words(self) -> Vec<u64>
+        ensures { result.items ≡ heap_words self }
+    {
+        let MainSeat {
+            regions: _,
+            phase: _,
+            heap_count,
+            mut table,
+        } = self;
+        table.truncate(heap_count as usize);
+        table
+    }
+
     /// How many words the table has.
     #[inline(always)]
     pub(crate) fn table_count(&self) -> u32

@@ -5,6 +5,7 @@ pub mod ObjectsAt
 pub mod Rebinding
 pub mod Unbinding
 pub mod IntegerSums
+mod SmallSums
 pub mod ValueTexts
 pub mod Writings
 pub mod SameHeld

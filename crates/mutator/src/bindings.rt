@@ -1,6 +1,6 @@
 //! The commands `let`, `drop` and `add`, on what variables are bound to. How a variable is bound to
 //! a field is said in `fields.rt`, and to a new object in `making.rt`.
-ghost use Rattle.std.specs.Prelude.{◌≡◌, ℕ, false, List, [], Ok, Err, OnOk, IsTrue};
+ghost use Rattle.std.specs.Prelude.{◌≡◌, ℕ, false, List, [], Ok, Err, Some, OnOk, IsTrue, IfSome};
 ghost use Rattle.heap_command.specs.Commands.{IsWithin};
 ghost use Rattle.object_graph.specs.Graphs.{Graph};
 ghost use Rattle.write_barrier.specs.MutatorState.{MainShows};
@@ -12,6 +12,7 @@ use crate::lookups::{bound, integer, integer_of, operands};
 use crate::stop::Stop;
 use handle_roots::Held;
 use heap_command::{Command, FaultWord, Operand};
+use tagged_word::is_small;
 use write_barrier::Main;
 
 /// Binds `x` to the value. What another variable is bound to is copied, whatever it is.
@@ -89,6 +90,26 @@ pub fn add_ahead(main: &mut Main, x: u32, v: Operand) -> bool
     ensures faulted { result ≡ false → (graph : Graph) (names : List (List ℕ)) → MainShows main.old graph →
         (word : FaultWord) × Carries names main.old main.new graph (Command.Add x v) [] (Err (Stop.Fault word)) }
 {
+    match small_sum(main, x, v) {
+        Some(sum) => {
+            main.hold(x, Held::Int(sum));
+            true
+        }
+        None => add_any(main, x, v),
+    }
+}
+
+/// The same, whatever the integers are.
+#[inline(always)]
+fn add_any(main: &mut Main, x: u32, v: Operand) -> bool
+    requires shown { (graph : Graph) × MainShows main.old graph }
+    requires within { IsWithin main.old.seat.space.variables field_numbers (Command.Add x v) }
+    ensures carried { IsTrue result → (graph : Graph) (names : List (List ℕ)) → MainShows main.old graph →
+        Carries names main.old main.new graph (Command.Add x v) [] (Ok tt) }
+    ensures unchanged { result ≡ false → main.new ≡ main.old }
+    ensures faulted { result ≡ false → (graph : Graph) (names : List (List ℕ)) → MainShows main.old graph →
+        (word : FaultWord) × Carries names main.old main.new graph (Command.Add x v) [] (Err (Stop.Fault word)) }
+{
     match sum(main, x, v) {
         Some(sum) => {
             main.hold(x, Held::Int(sum));
@@ -96,6 +117,22 @@ pub fn add_ahead(main: &mut Main, x: u32, v: Operand) -> bool
         }
         None => false,
     }
+}
+
+/// The sum of the small integer that `x` holds and the value, if `x` holds one and the sum is small too.
+#[inline(always)]
+fn small_sum(main: &mut Main, x: u32, v: Operand) -> Option<i64>
+    requires shown { (graph : Graph) × MainShows main.old graph }
+    requires within { IsWithin main.old.seat.space.variables field_numbers (Command.Add x v) }
+    ensures found { IfSome result (λ sum. (graph : Graph) (names : List (List ℕ)) → MainShows main.old graph →
+        FindsSum names graph x v (Some sum)) }
+    ensures same { main.new ≡ main.old }
+{
+    let first = main.small(x)?;
+    let second = integer_of(main, v)?;
+    // Beside a small integer, 64 bits that stand for a small one are those of the sum: one test serves for both.
+    let sum = first.wrapping_add(second);
+    if is_small(sum) { Some(sum) } else { None }
 }
 
 /// The sum of the integer that `x` holds and the value, if both are integers and it has 64 bits.

@@ -51,6 +51,7 @@ pub mod LoopRoots
 pub mod LoopRecorded
 pub mod LoopCopies
 pub mod LoopSlots
+pub mod SlotEnds
 pub mod EmptiedSegments
 pub mod EndRanges
 pub mod EndRuns

@@ -4,6 +4,7 @@ use Rattle.std.proofs.Common.{refl, sym, ◌∙◌, ap, subst, arith}
 use Rattle.std.specs.List.{All, Contains}
 use Rattle.std.proofs.lemmas.List.Elements.{All-contains}
 use Rattle.tagged_word.specs.Cells.{scavenge_offsets}
+use Rattle.tagged_word.proofs.Cells.{slot_within}
 use Rattle.page_space.specs.Extents.{marks_start}
 use Rattle.cell_layout.specs.Slots.{IsLeastFrom}
 use Rattle.heap_model.specs.Types.{Cell}
@@ -104,6 +105,11 @@ module _ {start now : Mutator} {all : Bool} {progress : Progress} {todo : List �
       let inside = slot_in_cell scanned.scavenging.fixed scanned.home.from offset (of_copy offset there) in
       omega (arith, inside.1, scanned.is.size)
 
+  -- behind the header
+  pub slot_behind : (offset : ℕ) → Contains (scavenge_offsets cell.layout cell.length) offset → 1 ≤ offset
+  slot_behind offset there =
+      (slot_within cell.layout cell.length cell.size offset scanned.is.sized.is_layout scanned.is.sized.sized there).0
+
   -- so the slot there is live
   pub slot_is_live : (offset slot : ℕ) → Contains (scavenge_offsets cell.layout cell.length) offset
       → slot ≡ cell.at + offset
@@ -157,6 +163,25 @@ module _ {start now : Mutator} {all : Bool} {progress : Progress} {todo : List �
             is = same_copy (step.fixed ∙ has.on.same ∙ at_slot.fixed) scanned.is;
           };
           grown = has.on.grown;
+        }
+
+    -- where none stands before an offset, those from there on are to do
+    pub slots_pass : (next : ℕ)
+        → ((other : ℕ) → Contains (scavenge_offsets cell.layout cell.length) other → from ≤ other → next ≤ other)
+        → IsScanned start now all progress todo cell (at_copy end eden (cell.at + next) (cell.at + cell.size))
+    slots_pass next none =
+        let to : ℕ = cell.at + cell.size in
+        let moved = moves_front scanned.scavenging (at_copy end eden (cell.at + next) to)
+        (λ other place target stood refers of_cells.
+        at_hand_moves end eden (cell.at + from) (cell.at + next) to other (λ above below.
+        let one = copy_slot scanned other place stood (omega (arith, above)) below in
+        let first = none one.0 one.1 (omega (arith, above, one.2)) in
+        omega (arith, first, one.2))) in
+        record {
+          scavenging = moved.after;
+          home = scanned.home;
+          among = subst (λ (homes : List Home). Contains homes scanned.home) (sym moved.homes) scanned.among;
+          is = same_copy moved.fixed scanned.is;
         }
 
     -- where no slot is left, the copy is done

@@ -8,8 +8,8 @@ ghost use Rattle.heap_table.specs.declared.phase.Phase.TheVariants.{Quiet};
 ghost use Rattle.heap_table.specs.Seats.{heap_words};
 
 use cell_layout::Cell;
-use tagged_word::Kind;
-use write_barrier::{Main, header_of_bits, layout_of_bits};
+use tagged_word::{Header, Kind, LayoutWord};
+use write_barrier::Main;
 
 /// The length of the cell at an address, by its kind: its second word, or 0.
 fn known_length(main: &Main, at: u32, kind: Kind) -> u64
@@ -38,17 +38,14 @@ pub(crate) fn known_cell(main: &Main, at: u32, word: u64) -> Cell
     ensures { (cell : Cell) → IsCell main.now.seat.space (heap_words main.now.seat) cell →
         cell.at ≡ at → result ≡ cell }
 {
-    let header = header_of_bits(word);
-    let layout = layout_of_bits(main.word(main.regions().layout_at(header.shape)));
+    let header = Header::of_bits(word);
+    let layout = LayoutWord::of_bits(main.word(main.regions().layout_at(header.shape)));
     let length = known_length(main, at, layout.kind);
-    let Some(size) = layout.size(length) else {
-        unreachable!()
-    };
     Cell {
         at,
         header,
         layout,
         length,
-        size,
+        size: layout.known_size(length),
     }
 }

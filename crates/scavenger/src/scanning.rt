@@ -1,7 +1,8 @@
 //! The slots that a scavenge follows, in order: those of the variables, the recorded ones, and then those
 //! of the copies on the list.
-ghost use Rattle.std.specs.Prelude.{◌≡◌, ℕ, ◌+◌, ◌≤◌, Bool, List, [], Contains};
+ghost use Rattle.std.specs.Prelude.{◌≡◌, ℕ, ◌+◌, ◌≤◌, ◌<◌, Bool, List, [], All, Contains};
 ghost use Rattle.std.specs.Vec.{vec_capacity};
+ghost use Rattle.tagged_word.specs.Cells.{scavenge_offsets};
 ghost use Rattle.page_space.specs.Extents.{eden_start, layouts_start, roots_start};
 ghost use Rattle.write_barrier.specs.MutatorState.{Mutator};
 ghost use Rattle.scav_copy.specs.declared.places.Home.{Home};
@@ -13,7 +14,9 @@ use crate::known_cells::known_cell;
 use crate::progress::Progress;
 use crate::slots::follow;
 use crate::spaces::Spaces;
-use cell_layout::{Cell, next_scavenge_slot};
+use cell_layout::Cell;
+use tagged_word::Kind;
+use tagged_word::cell::{PLAIN_HEAD, STORE_HEAD, STORE_SLOT};
 use write_barrier::Main;
 
 /// Follows the first root word of each variable.
@@ -81,6 +84,38 @@ fn copy_at(main: &Main, at: u32) -> Cell
     known_cell(main, at, main.word(at))
 }
 
+/// Follows each slot of a copy. They stand before an offset, up to which each offset is tried.
+#[inline(always)]
+fn follow_before(
+    main: &mut Main,
+    spaces: &Spaces,
+    progress: &mut Progress,
+    list: &mut Vec<u32>,
+    cell: &Cell,
+    slots_end: u32,
+)
+    requires scanned { MayScan main.old spaces.now progress.old list.old.items cell.now }
+    requires room { main.old.seat.space.sizes.young ≤ vec_capacity list.old }
+    requires ends { All (λ offset. offset < slots_end) (scavenge_offsets cell.now.layout cell.now.length) }
+    ensures scavenging { (start : Mutator) (all : Bool) (end : ℕ) →
+        AreSpaces main.old.seat.space main.old.young.half all spaces.now →
+        let eden = eden_start main.old.seat.space in
+        let front = at_copy end eden cell.now.at (cell.now.at + cell.now.size) in
+        IsScanned start main.old all progress.old list.old.items cell.now front →
+        Scavenging start main.new all progress.new list.new.items (at_copy end eden 0 0) }
+    ensures grows { HasGrown progress.old progress.new list.old.items list.new.items }
+    ensures keeps { ChangesWords main.old main.new }
+    ensures capacity { vec_capacity list.new ≡ vec_capacity list.old }
+{
+    // No address is past 32 bits.
+    main.addresses_fit();
+    for offset in STORE_SLOT..slots_end {
+        if cell.layout.is_scavenge_slot(cell.length, offset) {
+            follow(main, spaces, progress, list, cell.at + offset);
+        }
+    }
+}
+
 /// Follows each slot of a copy.
 fn follow_slots(
     main: &mut Main,
@@ -101,12 +136,17 @@ fn follow_slots(
     ensures keeps { ChangesWords main.old main.new }
     ensures capacity { vec_capacity list.new ≡ vec_capacity list.old }
 {
-    // No address is past 32 bits.
-    main.addresses_fit();
-    let mut from = 0;
-    'slots: while let Some(offset) = next_scavenge_slot(cell, from) {
-        follow(main, spaces, progress, list, cell.at + offset);
-        from = offset + 1;
+    // Plain cells and stores have most of the slots: their loops do not ask for the kind at each.
+    match cell.layout.kind {
+        Kind::Plain => {
+            let slots_end = PLAIN_HEAD + cell.layout.used;
+            follow_before(main, spaces, progress, list, cell, slots_end);
+        }
+        Kind::Store => {
+            let slots_end = STORE_HEAD + cell.length as u32;
+            follow_before(main, spaces, progress, list, cell, slots_end);
+        }
+        _ => follow_before(main, spaces, progress, list, cell, cell.size),
     }
 }
 

@@ -1,5 +1,5 @@
 //! Cells: how many words one of a layout has, and which of them are slots.
-ghost use Rattle.std.specs.Prelude.{◌≡◌, ◌≤◌, ◌+◌, ◌*◌, ◌<◌, ◌↔◌, ◌∷◌, IsTrue};
+ghost use Rattle.std.specs.Prelude.{◌≡◌, ℕ, ◌≤◌, ◌+◌, ◌*◌, ◌^◌, ◌<◌, ◌↔◌, ◌∷◌, IsTrue, Some};
 ghost use Rattle.std.specs.List.{Contains, range_with_len};
 ghost use Rattle.tagged_word.specs.Layouts.{is_raw};
 ghost use Rattle.tagged_word.specs.Cells.{is_object_kind, is_free_kind, marks_by_length};
@@ -75,10 +75,10 @@ impl Kind {
         }
     }
 
-    /// How many words a cell of this kind has. A length of more words than a cell may have will do
-    /// for any greater one.
+    /// How many words a cell of this kind has, where 64 bits hold it.
+    #[inline(always)]
     fn words(self, cap: u32, length: u64) -> u64
-        requires { length ≤ cell_words_most + 1 }
+        requires { words_of self cap length < 2 ^ 64 }
         ensures { result ≡ words_of self cap length }
     {
         match self {
@@ -110,12 +110,22 @@ impl LayoutWord {
     pub fn size(self, length: u64) -> Option<u32>
         ensures { result ≡ cell_size self length }
     {
+        // A length of more words than a cell may have will do for any greater one.
         let words = self.kind.words(self.cap, length.min(WORDS_MOST as u64 + 1));
         if words >= self.kind.words_least() && words <= WORDS_MOST as u64 {
             Some(words as u32)
         } else {
             None
         }
+    }
+
+    /// The size of a cell in words, where there is known to be one. Nothing is asked of its limits.
+    #[inline(always)]
+    pub fn known_size(self, length: u64) -> u32
+        requires { (size : ℕ) × (cell_size self length ≡ Some size) }
+        ensures { cell_size self length ≡ Some result }
+    {
+        self.kind.words(self.cap, length) as u32
     }
 
     /// Whether marking visits the slot at an offset.

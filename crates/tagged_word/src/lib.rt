@@ -12,6 +12,7 @@
 
 pub mod cell;
 mod header;
+mod known_words;
 mod layout;
 mod no_memory;
 pub mod odd;

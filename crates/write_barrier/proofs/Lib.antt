@@ -1,7 +1,6 @@
 pub mod Places
 pub mod Headers
 mod FirstCells
-mod KnownWords
 pub mod FirstRuns
 mod FirstHeaps
 mod Changes

@@ -47,6 +47,19 @@ impl Main {
         self.fill(at, count, Word::odd(odd::HOLE).0);
     }
 
+    /// Makes so many words at an address 0, where no cell stands any more. What is recorded stays, so this is
+    /// for a heap that ends.
+    pub fn blank(&mut self, at: u32, count: u32)
+        requires quiet { self.old.seat.phase ≡ Quiet }
+        requires within { at + count ≤ marks_start self.old.seat.space }
+        ensures blanked { let table = with_range self.old.seat.table at (replicate count 0) in
+            self.new ≡ with_table self.old table }
+        ensures heap { let words = heap_words self.old.seat in
+            heap_words self.new.seat ≡ with_range words at (replicate count 0) }
+    {
+        self.seat.fill(at, count, 0);
+    }
+
     /// Copies so many words to another address, as words that are no slots there. The two stretches have
     /// no word in common. Of the copies nothing is recorded.
     pub fn copy_words(&mut self, from: u32, to: u32, count: u32)

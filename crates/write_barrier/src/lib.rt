@@ -10,7 +10,6 @@
 mod fills;
 mod free_cells;
 mod held_words;
-mod known_words;
 mod laws;
 mod main_side;
 mod opening;
@@ -19,7 +18,6 @@ mod roots;
 mod values;
 mod writes;
 
-pub use known_words::{header_of_bits, layout_of_bits};
 pub use laws::laws_of_values;
 pub use main_side::Main;
 pub use room::NoRoom;

@@ -15,7 +15,6 @@ ghost use Rattle.write_barrier.specs.Lending.{LendsShapes, LendsNursery};
 ghost use Rattle.write_barrier.specs.MutatorState.{heap_of};
 ghost use Rattle.write_barrier.specs.Reading.{HasHeader, IsHeaderAt, stays_quiet};
 
-use crate::known_words::header_of_bits;
 use free_runs::FreeRuns;
 use heap_table::MainSeat;
 use nursery::Nursery;
@@ -93,7 +92,7 @@ impl Main {
         ensures of_cell { IsHeaderAt (heap_of self.now) at result }
     {
         self.addresses_fit();
-        header_of_bits(self.word(at))
+        Header::of_bits(self.word(at))
     }
 
     /// No address of a heap is past 32 bits: there is a word for each address of the regions, and
@@ -159,6 +158,21 @@ impl Main {
         ensures same { self.new ≡ self.old }
     {
         self.shapes.locate(shape, name)
+    }
+
+    /// The shapes, and the words before the marks, taken out of the heap. It takes no memory.
+    pub fn into_parts(self) -> (ShapeTree, Vec<u64>)
+        ensures paths { result.0 ≡ self.paths }
+        ensures words { result.1.items ≡ heap_words self.seat }
+    {
+        let Main {
+            seat,
+            shapes,
+            nursery: _,
+            free: _,
+            remembered: _,
+        } = self;
+        (shapes, seat.into_words())
     }
 
     /// The nursery. No other part changes.

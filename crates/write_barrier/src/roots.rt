@@ -1,8 +1,9 @@
 //! What the variables hold.
-ghost use Rattle.std.specs.Prelude.{◌≡◌, ◌≢◌, ◌↔◌, ◌<◌, IsTrue, IfSome};
+ghost use Rattle.std.specs.Prelude.{◌≡◌, ◌≢◌, ◌↔◌, ◌<◌, ℕ, ℤ, IsTrue, IfSome, IsNone};
+ghost use Rattle.tagged_word.specs.Words.{small};
 ghost use Rattle.heap_table.specs.declared.phase.Phase.TheVariants.{Quiet};
 ghost use Rattle.heap_table.specs.Seats.{heap_words};
-ghost use Rattle.handle_roots.specs.declared.held.Held.TheVariants.{Unbound, Ref};
+ghost use Rattle.handle_roots.specs.declared.held.Held.TheVariants.{Unbound, Int, Ref};
 ghost use Rattle.handle_roots.specs.Givens.{GivesHeld};
 ghost use Rattle.handle_roots.specs.Roots.{Holds, IsRoot, with_root};
 ghost use Rattle.write_barrier.specs.MutatorState.{with_variable};
@@ -80,10 +81,28 @@ impl Main {
         requires root { IsRoot self.old.seat.space (heap_words self.old.seat) variable }
         ensures refers { let words = heap_words self.old.seat in
             IfSome result (λ at. Holds self.old.seat.space words variable (Ref at)) }
+        ensures none { let words = heap_words self.old.seat in
+            IsNone result → (at : ℕ) → ¬ Holds self.old.seat.space words variable (Ref at) }
         ensures same { self.new ≡ self.old }
     {
         let regions = self.regions();
         handle_roots::referred(self, &regions, variable)
+    }
+
+    /// The small integer that a variable holds, if it holds one.
+    #[inline(always)]
+    pub fn small(&mut self, variable: u32) -> Option<i64>
+        requires quiet { self.old.seat.phase ≡ Quiet }
+        requires known { variable < self.old.seat.space.variables }
+        requires root { IsRoot self.old.seat.space (heap_words self.old.seat) variable }
+        ensures holds { let words = heap_words self.old.seat in
+            IfSome result (λ v. IsTrue (small v) × Holds self.old.seat.space words variable (Int v)) }
+        ensures none { let words = heap_words self.old.seat in
+            IsNone result → (v : ℤ) → IsTrue (small v) → ¬ Holds self.old.seat.space words variable (Int v) }
+        ensures same { self.new ≡ self.old }
+    {
+        let regions = self.regions();
+        handle_roots::small_by(self, &regions, variable)
     }
 
     /// Whether a variable is bound to something.

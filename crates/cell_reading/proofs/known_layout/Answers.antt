@@ -15,8 +15,8 @@ word-requires-clause-within c =
     let below = known _ _ _ c.requires.known.0 c.requires.known.1 in
     omega (arith, c.layout_at-at.ensures.at, starts, below, (kinds_by_number c.args.main.now.seat.space).marks)
 
-pub layout_of_bits-requires : goal.layout_of_bits-requires
-layout_of_bits-requires c =
+pub of_bits-requires : goal.of_bits-requires
+of_bits-requires c =
     let is = c.requires.known.1 in (
       c.requires.known.0,
       is.is_layout,
@@ -25,5 +25,5 @@ layout_of_bits-requires c =
 
 pub returns : goal.returns
 returns c layout is =
-    c.layout_of_bits.ensures layout is.is_layout
+    c.of_bits.ensures layout is.is_layout
     (layout_word_is is _ _ _ c.regions.ensures.regions c.layout_at-at.ensures.at c.word.ensures.of_heap)

@@ -14,7 +14,7 @@ overflow_add-result c =
       arith,
       start_inside space c.args.start c.args.end limits c.requires.stands,
       words_count_most space limits,
-      c.requires.whole.rows.few,
+      c.requires.rows.few,
       c.used.ensures.used,
       limits.young,
     )

@@ -8,7 +8,7 @@ use Rattle.collector.proofs.row_ends.segment_row_end.Goals as goal
 
 pub walk-init : goal.walk-init
 walk-init c = record {
-  walking = walk_begins (heap_of c.args.main.now) c.args.start c.args.end c.requires.whole.rows c.requires.stands;
+  walking = walk_begins (heap_of c.args.main.now) c.args.start c.args.end c.requires.rows c.requires.stands;
   same = refl;
 }
 

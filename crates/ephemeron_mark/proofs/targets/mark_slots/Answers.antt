@@ -1,63 +1,25 @@
--- The slots that marking visits are gone through by their offsets.
+-- The slots end by the kind of the cell.
 use Rattle.std.proofs.Common.{arith}
-use Rattle.cell_layout.proofs.OneCell.{cell_is_sized}
 use Rattle.tagged_word.specs.Cells.{tagged_offsets}
+use Rattle.tagged_word.proofs.Layouts.{fits}
 use Rattle.heap_model.proofs.CellsApart.{has_is_cell}
-use Rattle.live_cells.specs.Live.{IsLive}
-use Rattle.heap_table.specs.Seats.{heap_words}
-use Rattle.ephemeron_mark.proofs.GrownLists.{grows_again}
-use Rattle.ephemeron_mark.proofs.CellSlots.{slot_within, word_below, slot_to, next_slot, all_slots}
+use Rattle.cell_layout.proofs.NextSlots.{all_below}
+use Rattle.ephemeron_mark.proofs.CellSlots.{slot_within}
+use Rattle.ephemeron_mark.proofs.SlotEnds.{plain_ends, other_ends}
 use Rattle.ephemeron_mark.proofs.targets.mark_slots.Goals as goal
-
-pub next_tagged-requires : goal.next_tagged-requires
-next_tagged-requires c =
-    cell_is_sized c.args.main.now.seat.space (heap_words c.args.main.now.seat) c.args.cell.now
-    (has_is_cell c.requires.stands.1)
 
 pub overflow_add-cell : goal.overflow_add-cell
 overflow_add-cell c =
-    let has = c.requires.stands.1 in
-    let within = slot_within has c.in-Some.offset c.in-Some.ensures.among in
-    omega (
-      arith,
-      word_below has c.in-Some.offset c.requires.marking.whole within,
-      c.addresses_fit.ensures.fit,
-    )
+    omega (arith, (fits c.args.cell.now.layout (has_is_cell c.requires.stands.1).reads.is_layout).used)
 
-pub mark_target-requires-clause-within : goal.mark_target-requires-clause-within
-mark_target-requires-clause-within c =
-    let has = c.requires.stands.1 in
-    let within = slot_within has c.in-Some.offset c.in-Some.ensures.among in
-    word_below has c.in-Some.offset c.requires.marking.whole within
+pub mark_before-requires-clause-ends : goal.mark_before-requires-clause-ends
+mark_before-requires-clause-ends c = plain_ends c.args.cell.now.layout c.args.cell.now.length c.in-Plain.is
 
-pub mark_target-requires-clause-live : goal.mark_target-requires-clause-live
-mark_target-requires-clause-live c at refers =
-    IsLive.slot c.args.cell.now.at at c.requires.live
-    (slot_to c.requires.stands.1 c.in-Some.offset at c.in-Some.ensures.among refers)
+pub mark_before-requires-in-Store-clause-ends : goal.mark_before-requires-in-Store-clause-ends
+mark_before-requires-in-Store-clause-ends c =
+    all_below (tagged_offsets c.args.cell.now.layout c.args.cell.now.length) c.args.cell.now.size
+    (slot_within c.requires.stands.1)
 
-pub overflow_add-from : goal.overflow_add-from
-overflow_add-from c =
-    let has = c.requires.stands.1 in
-    let within = slot_within has c.in-Some.offset c.in-Some.ensures.among in
-    omega (
-      arith,
-      word_below has c.in-Some.offset c.requires.marking.whole within,
-      c.addresses_fit.ensures.fit,
-    )
-
-pub slots-smaller : goal.slots-smaller
-slots-smaller c =
-    let within = slot_within c.requires.stands.1 c.in-Some.offset c.in-Some.ensures.among in
-    omega (arith, within, c.in-Some.ensures.reached)
-
-pub slots-preserved : goal.slots-preserved
-slots-preserved c = record {
-  grown = grows_again c.slots.invariant.grown c.mark_target.ensures.grown;
-  slots = next_slot (tagged_offsets c.args.cell.now.layout c.args.cell.now.length) c.args.cell.now.at c.slots.from
-      c.in-Some.offset c.mark_target.ensures.grown c.slots.invariant.slots c.in-Some.ensures
-      c.mark_target.ensures.marked;
-}
-
-pub returns-clause-slots : goal.returns-clause-slots
-returns-clause-slots c =
-    all_slots c.slots.cells c.slots.from c.requires.stands.1 c.in_default.ensures c.slots.invariant.slots
+pub mark_before-requires-in_default-clause-ends : goal.mark_before-requires-in_default-clause-ends
+mark_before-requires-in_default-clause-ends c =
+    other_ends c.args.cell.now.layout c.args.cell.now.length c.in_default.not-Plain c.in_default.not-Store

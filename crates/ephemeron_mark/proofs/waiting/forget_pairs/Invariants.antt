@@ -6,8 +6,8 @@ use Rattle.ephemeron_mark.proofs.waiting.forget_pairs.Given as goal
 abbrev pub invariant-loop-pair : goal.invariant-loop-pair
 invariant-loop-pair l = record {
   told : AreTold l.last.items l.pairs.items;
-  as_many : length l.last.items ≡ length l.initial.last.items;
   capacity : vec_capacity l.pairs ≡ vec_capacity l.initial.pairs;
+  capacity_of_last : vec_capacity l.last ≡ vec_capacity l.initial.last;
 }
 
 abbrev pub decreases-loop-pair : goal.decreases-loop-pair

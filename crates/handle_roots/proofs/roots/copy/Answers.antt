@@ -5,8 +5,8 @@ use Rattle.handle_roots.proofs.RootWords.{root_before_layouts}
 use Rattle.handle_roots.proofs.RootsHeld.{with_root_holds}
 use Rattle.handle_roots.proofs.roots.copy.Goals as goal
 
-pub put-requires-clause-within : goal.put-requires-clause-within
-put-requires-clause-within g c =
+pub put_root-requires-clause-within : goal.put_root-requires-clause-within
+put_root-requires-clause-within g c =
     let before = root_before_layouts c.args.regions.now c.args.to c.requires.target_known in
     let kept : g.W.Reads.words c.load-second.new.self ≡ g.W.Reads.words c.args.words.now =
     c.load-second.ensures.kept ∙ c.load-first.ensures.kept in
@@ -17,7 +17,7 @@ returns-clause-holds g c = λ held holds.
     let regions = c.args.regions.now in
     let old = g.W.Reads.words c.args.words.now in
     let before = root_before_layouts regions c.args.to c.requires.target_known in
-    let put : g.W.Reads.words c.put-2.new.self ≡ with_root regions old c.args.to held =
+    let put : g.W.Reads.words c.put_root.new.words ≡ with_root regions old c.args.to held =
     cc (holds.first, holds.second) in
     subst (λ (words : List ℕ). Holds regions words c.args.to held) (sym put)
     (with_root_holds regions old c.args.to held holds.fits (omega arith))

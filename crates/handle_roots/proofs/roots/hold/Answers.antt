@@ -4,11 +4,6 @@ use Rattle.handle_roots.proofs.RootWords.{root_before_layouts}
 use Rattle.handle_roots.proofs.RootsHeld.{with_root_holds}
 use Rattle.handle_roots.proofs.roots.hold.Goals as goal
 
-pub put-requires-clause-within : goal.put-requires-clause-within
-put-requires-clause-within g c =
-    let before = root_before_layouts c.args.regions.now c.args.variable c.requires.known in
-    omega arith
-
 pub returns-clause-holds : goal.returns-clause-holds
 returns-clause-holds g c =
     let fits : FitsHeld c.args.value = search rules in
@@ -16,5 +11,5 @@ returns-clause-holds g c =
     let old = g.W.Reads.words c.args.words.now in
     let held : Holds c.args.regions.now (with_root c.args.regions.now old c.args.variable c.args.value) c.args.variable
     c.args.value = with_root_holds c.args.regions.now old c.args.variable c.args.value fits (omega arith) in
-    let put : g.W.Reads.words c.put-2.new.self ≡ with_root c.args.regions.now old c.args.variable c.args.value = cc in
+    let put : g.W.Reads.words c.put_value.new.words ≡ with_root c.args.regions.now old c.args.variable c.args.value = cc in
     subst (λ words. Holds c.args.regions.now words c.args.variable c.args.value) (sym put) held

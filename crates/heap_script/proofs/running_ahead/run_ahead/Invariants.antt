@@ -5,16 +5,17 @@ use Rattle.heap_script.specs.Between.{Running, only}
 use Rattle.heap_script.specs.Stages.{uncollected}
 use Rattle.heap_script.proofs.running_ahead.run_ahead.Given as goal
 
-abbrev pub invariant-loop-at : goal.invariant-loop-at
-invariant-loop-at l = record {
+abbrev pub invariant-loop-left : goal.invariant-loop-left
+invariant-loop-left l = record {
   running : (taken : List ℕ)
       → Running l.script l.initial.heap l.initial.objects l.out (only []) (only taken) l.fn.from.at
       l.initial.turns l.fn.from.executed uncollected
-      → Running l.script l.heap l.objects l.out (only []) (only taken) l.at l.turns l.executed uncollected;
-  holds : OutputHolds l.script l.fn.from.executed l.out → OutputHolds l.script l.executed l.out;
-  further : l.fn.from.executed ≤ l.executed;
+      → Running l.script l.heap l.objects l.out (only []) (only taken) l.at l.turns (lines_most - l.left) uncollected;
+  holds : OutputHolds l.script l.fn.from.executed l.out → OutputHolds l.script (lines_most - l.left) l.out;
+  most : l.left ≤ lines_most;
+  further : l.fn.from.executed ≤ lines_most - l.left;
   space : l.heap.main.seat.space ≡ l.initial.heap.main.seat.space;
 }
 
-abbrev pub decreases-loop-at : goal.decreases-loop-at
-decreases-loop-at l = lines_most - l.executed
+abbrev pub decreases-loop-left : goal.decreases-loop-left
+decreases-loop-left l = l.left

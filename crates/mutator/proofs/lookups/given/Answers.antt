@@ -14,7 +14,7 @@ returns-in-Int-clause-found c graph shows =
     let fits : SFits w64 v = search rules in
     let P : ℤ → Type 0 = λ w. Gives c.integer.result (held.Int w) in (
       held.Int v,
-      subst P (to_z-of_z w64 v fits) c.integer.ensures,
+      subst P (to_z-of_z w64 v fits) c.integer.ensures.gives,
       (
         Int v,
         ap (value_of graph) c.in-Int.is,

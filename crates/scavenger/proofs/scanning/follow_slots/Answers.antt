@@ -1,102 +1,35 @@
--- The slots of a copy are followed in order.
-use Rattle.std.proofs.Common.{Bool, ◌+◌, ◌∙◌, ℕ, refl, sym, ap, subst, arith, add-zero}
-use Rattle.page_space.specs.Extents.{Space, eden_start, marks_start}
-use Rattle.write_barrier.specs.MutatorState.{Mutator}
-use Rattle.scavenger.specs.Walking.{AreSpaces, IsScanned, at_copy}
-use Rattle.scavenger.proofs.LoopGoing.{same_spaces, same_young, changes_since, may_follow, grows_nothing, grows_again}
-use Rattle.scavenger.proofs.LoopSlots.{ScansOn, copy_ends, offset_in_cell, slot_is_live, slots_go_on, slots_done}
+-- The slots of a copy end by its kind.
+use Rattle.std.proofs.Common.{arith}
+use Rattle.tagged_word.specs.Cells.{scavenge_offsets}
+use Rattle.tagged_word.proofs.Layouts.{fits}
+use Rattle.scavenger.proofs.LoopSlots.{offset_in_cell}
+use Rattle.cell_layout.proofs.NextSlots.{all_below}
+use Rattle.scavenger.proofs.SlotEnds.{plain_ends, store_ends, store_words}
 use Rattle.scavenger.proofs.scanning.follow_slots.Goals as goal
 
-pub slots-init : goal.slots-init
-slots-init c =
-    let cell = c.args.cell.now in
-    let eden = eden_start c.args.main.now.seat.space in
-    record {
-      scanned = λ start all end are scanned.
-          subst (λ (from : ℕ). IsScanned start c.args.main.now all c.args.progress.now c.args.list.now.items cell
-          (at_copy end eden from (cell.at + cell.size))) (sym (add-zero cell.at)) scanned;
-      grows = grows_nothing c.args.progress.now c.args.list.now.items;
-      capacity = refl;
-    }
+pub overflow_add-slots_end : goal.overflow_add-slots_end
+overflow_add-slots_end c =
+    omega (arith, (fits c.args.cell.now.layout c.requires.scanned.scanned.is.sized.is_layout).used)
 
-pub overflow_add-cell : goal.overflow_add-cell
-overflow_add-cell c =
-    let given = c.requires.scanned in
-    let scanned = c.slots.invariant.scanned given.start given.all given.end given.are given.scanned in
-    let inside = offset_in_cell scanned c.in-Some.offset c.in-Some.ensures.among in
-    let same = ap (λ (space : Space). marks_start space) given.scanned.scavenging.changes.seat.space in
-    omega (arith, inside, copy_ends scanned, same, c.addresses_fit.ensures.fit)
+pub follow_before-requires-clause-ends : goal.follow_before-requires-clause-ends
+follow_before-requires-clause-ends c = plain_ends c.args.cell.now.layout c.args.cell.now.length c.in-Plain.is
 
-pub follow-requires-clause-quiet : goal.follow-requires-clause-quiet
-follow-requires-clause-quiet c =
-    let given = c.requires.scanned in
-    (c.slots.invariant.scanned given.start given.all given.end given.are given.scanned).scavenging.quiet
-
-pub follow-requires-clause-spaces : goal.follow-requires-clause-spaces
-follow-requires-clause-spaces c =
-    let given = c.requires.scanned in
-    let scanned = c.slots.invariant.scanned given.start given.all given.end given.are given.scanned in
-    let slot : ℕ = c.args.cell.now.at + c.in-Some.offset in (
-      given.all,
-      same_spaces c.args.spaces.now
-          (changes_since given.scanned.scavenging.changes scanned.scavenging.changes) given.are,
-      may_follow scanned.scavenging slot (scanned.home.from + c.in-Some.offset)
-          (slot_is_live scanned c.in-Some.offset slot c.in-Some.ensures.among refl),
+pub overflow_cast-slots_end : goal.overflow_cast-slots_end
+overflow_cast-slots_end c =
+    omega (
+      arith,
+      store_words c.args.cell.now.layout c.args.cell.now.length c.args.cell.now.size c.in-Store.is
+          c.requires.scanned.scanned.is.sized.sized,
     )
 
-pub follow-requires-clause-room : goal.follow-requires-clause-room
-follow-requires-clause-room c =
-    let given = c.requires.scanned in
-    let scanned = c.slots.invariant.scanned given.start given.all given.end given.are given.scanned in
-    let same = same_young (changes_since given.scanned.scavenging.changes scanned.scavenging.changes) in
-    omega (arith, same, c.requires.room, c.slots.invariant.capacity)
+pub follow_before-requires-in-Store-clause-ends : goal.follow_before-requires-in-Store-clause-ends
+follow_before-requires-in-Store-clause-ends c =
+    store_ends c.args.cell.now.layout c.args.cell.now.length c.in-Store.is
 
-pub overflow_add-from : goal.overflow_add-from
-overflow_add-from c =
-    let given = c.requires.scanned in
-    let scanned = c.slots.invariant.scanned given.start given.all given.end given.are given.scanned in
-    let inside = offset_in_cell scanned c.in-Some.offset c.in-Some.ensures.among in
-    let same = ap (λ (space : Space). marks_start space) given.scanned.scavenging.changes.seat.space in
-    omega (arith, inside, copy_ends scanned, same, c.addresses_fit.ensures.fit)
-
-pub slots-smaller : goal.slots-smaller
-slots-smaller c =
-    let given = c.requires.scanned in
-    let scanned = c.slots.invariant.scanned given.start given.all given.end given.are given.scanned in
-    let inside = offset_in_cell scanned c.in-Some.offset c.in-Some.ensures.among in
-    omega (arith, inside, c.in-Some.ensures.reached)
-
-pub slots-preserved : goal.slots-preserved
-slots-preserved c =
-    let given = c.requires.scanned in
-    let invariant = c.slots.invariant in
-    let cell = c.args.cell.now in
-    let slot : ℕ = cell.at + c.in-Some.offset in
-    let eden : ℕ = eden_start c.args.main.now.seat.space in
-    let to : ℕ = cell.at + cell.size in
-    let step : (start : Mutator) (all : Bool) (end : ℕ)
-    → AreSpaces c.args.main.now.seat.space c.args.main.now.young.half all c.args.spaces.now
-    → IsScanned start c.args.main.now all c.args.progress.now c.args.list.now.items cell (at_copy end eden cell.at to)
-    → ScansOn start c.follow.new.main all c.slots.progress c.follow.new.progress c.slots.list.items
-    c.follow.new.list.items cell (at_copy end eden (cell.at + (c.in-Some.offset + 1)) to) =
-    λ start all end are begun.
-    let scanned = invariant.scanned start all end are begun in
-    slots_go_on c.slots.from scanned c.follow.new.main c.follow.new.progress c.follow.new.list.items c.in-Some.offset
-    slot c.in-Some.ensures refl (λ front state place stood.
-    c.follow.ensures.followed start all front state place
-    (same_spaces c.args.spaces.now (changes_since begun.scavenging.changes scanned.scavenging.changes) are) stood) in
-    record {
-      scanned = λ start all end are begun. (step start all end are begun).scanned;
-      grows = grows_again invariant.grows (step given.start given.all given.end given.are given.scanned).grown;
-      capacity = c.follow.ensures.capacity ∙ invariant.capacity;
-    }
-
-pub returns-clause-scavenging : goal.returns-clause-scavenging
-returns-clause-scavenging c start all end are begun =
-    slots_done c.slots.from (c.slots.invariant.scanned start all end are begun) c.in_default.ensures
-
-pub returns-clause-keeps : goal.returns-clause-keeps
-returns-clause-keeps c =
-    let given = c.requires.scanned in
-    let scanned = c.slots.invariant.scanned given.start given.all given.end given.are given.scanned in
-    changes_since given.scanned.scavenging.changes scanned.scavenging.changes
+pub follow_before-requires-in_default : goal.follow_before-requires-in_default
+follow_before-requires-in_default c = record {
+  scanned = c.requires.scanned;
+  room = c.requires.room;
+  ends = all_below (scavenge_offsets c.args.cell.now.layout c.args.cell.now.length) c.args.cell.now.size
+      (offset_in_cell c.requires.scanned.scanned);
+}

@@ -1,7 +1,6 @@
 -- A pair that comes is the last that waits for its key.
-use Rattle.std.proofs.Common.{rules, ◌≡◌, ◌≤◌, ◌<◌, ◌+◌, ◌⊎◌, ℕ, ◌∷◌, ◌++◌, [], List, length, sym, ◌∙◌, ap, subst}
-use Rattle.std.proofs.Common.{inl, inr, get_or, set, vec_capacity, arith}
-use Rattle.std.proofs.lemmas.List.{length-append, length-set, get_or_default}
+use Rattle.std.proofs.Common.{◌≡◌, ◌+◌, ◌⊎◌, ◌∷◌, ◌++◌, [], List, length, inl, inr, sym, ◌∙◌, ap, subst, arith}
+use Rattle.std.proofs.lemmas.List.{length-append}
 use Rattle.cell_list.specs.Listing.{Listing}
 use Rattle.cell_list.proofs.Flags.{listed_are_few}
 use Rattle.ephemeron_mark.specs.declared.waiting.WaitingPair.{WaitingPair}
@@ -33,25 +32,21 @@ overflow_cast-count c =
       listed_are_few c.push.new.self c.len-count.ensures.own,
       c.len-count.ensures.count,
       c.push.ensures.bound,
-      c.self.invariant.bound,
       c.self.invariant.fits,
     )
 
-pub unreachable-requires : goal.unreachable-requires
-unreachable-requires c =
+pub push_reserved-requires : goal.push_reserved-requires
+push_reserved-requires c =
     let old = c.self.inside in
     let new = push_of_new old.slots c.push.new.self c.args.slot c.push.result c.if-not-push.false
     c.push.ensures.value in
     let more = ap (λ (list : Listing). length list.addresses) new in
-    let full : vec_capacity old.pairs ≤ length old.pairs.items = search rules in
     omega (
       arith,
-      full,
       more,
       length-append old.slots.addresses (c.args.slot ∷ []),
       listed_are_few c.push.new.self c.len-count.ensures.own,
       c.push.ensures.bound,
-      c.self.invariant.bound,
       c.self.invariant.as_many,
       c.self.invariant.room,
     )
@@ -61,23 +56,18 @@ invariant_of-self-2 c =
     let old = c.self.inside in
     let last = old.last.items in
     let pairs : List WaitingPair = old.pairs.items in
-    let pair : WaitingPair = record { key = c.args.key; earlier = c.index-earlier.result.now } in
+    let pair : WaitingPair = record { key = c.args.key; earlier = c.tell_last-earlier.result } in
     let new = push_of_new old.slots c.push.new.self c.args.slot c.push.result c.if-not-push.false
     c.push.ensures.value in
     let more = ap (λ (list : Listing). length list.addresses) new in
     let long = length-append old.slots.addresses (c.args.slot ∷ []) in
-    let items : c.push-2.new.self.items ≡ pairs ++ pair ∷ [] = search rules in
-    let below : c.args.key < length last =
-    omega (arith, c.requires.key, ap (λ (one : Waits). one.bound) c.self.view_is) in
-    let earlier : pair.earlier ≡ get_or last c.args.key 0 =
-    sym (get_or_default last c.args.key 0 c.index-earlier.result.now below ∙ sym c.index-earlier.ensures) in
-    let count : length pairs + 1 ≡ c.len-count.result =
+    let items : c.push_reserved.new.self.items ≡ pairs ++ pair ∷ [] = c.push_reserved.ensures.items in
+    let count : c.len-count.result ≡ length pairs + 1 =
     omega (arith, c.len-count.ensures.count, more, long, c.self.invariant.as_many) in
-    let told = told_added pairs pair last c.self.invariant.told below earlier in
-    let set_long = length-set last c.args.key c.len-count.result in
+    let told = told_added pairs pair last c.tell_last-earlier.new.last.items c.self.invariant.told
+    c.tell_last-earlier.ensures.before (c.tell_last-earlier.ensures.own ∙ count) c.tell_last-earlier.ensures.others in
     record {
-      bound = c.push.ensures.bound ∙ c.self.invariant.bound ∙ sym set_long;
-      fits = omega (arith, set_long, c.self.invariant.fits);
+      fits = omega (arith, c.push.ensures.bound, c.self.invariant.fits);
       as_many = omega (
         arith,
         ap (λ (all : List WaitingPair). length all) items,
@@ -86,55 +76,59 @@ invariant_of-self-2 c =
         long,
         c.self.invariant.as_many,
       );
-      room = omega (arith, set_long, c.push-2.ensures.capacity, c.self.invariant.room);
-      told = subst (λ (n : ℕ). AreTold (set last c.args.key n) c.push-2.new.self.items) count
-          (subst (AreTold (set last c.args.key (length pairs + 1))) (sym items) told);
+      room = omega (arith, c.push.ensures.bound, c.push_reserved.ensures.capacity, c.self.invariant.room);
+      room_for_last = omega (
+        arith,
+        c.push.ensures.bound,
+        c.tell_last-earlier.ensures.capacity,
+        c.self.invariant.room_for_last,
+      );
+      told = subst (AreTold c.tell_last-earlier.new.last.items) (sym items) told;
     }
 
 pub returns-clause-waits : goal.returns-clause-waits
 returns-clause-waits c =
     let old = c.self.inside in
-    let pair : WaitingPair = record { key = c.args.key; earlier = c.index-earlier.result.now } in
+    let pair : WaitingPair = record { key = c.args.key; earlier = c.tell_last-earlier.result } in
     let new = push_of_new old.slots c.push.new.self c.args.slot c.push.result c.if-not-push.false
     c.push.ensures.value in
-    let items : c.push-2.new.self.items ≡ old.pairs.items ++ pair ∷ [] = search rules in
+    let items : c.push_reserved.new.self.items ≡ old.pairs.items ++ pair ∷ [] = c.push_reserved.ensures.items in
     let many = as_many_keys old.pairs.items ∙ c.self.invariant.as_many in
-    as_with_pair (waits_of old) (length (set old.last.items c.args.key c.len-count.result)) c.args.key c.args.slot many
-    (λ (w : Waits). WaitsFor w c.args.key c.args.slot) c.push.new.self.addresses (keys_of c.push-2.new.self.items)
+    as_with_pair (waits_of old) c.push.new.self.bound c.args.key c.args.slot many
+    (λ (w : Waits). WaitsFor w c.args.key c.args.slot) c.push.new.self.addresses
+    (keys_of c.push_reserved.new.self.items)
     (ap (λ (list : Listing). list.addresses) new) (ap keys_of items ∙ keys_with old.pairs.items pair)
-    (added_waits (waits_of old) (length (set old.last.items c.args.key c.len-count.result)) c.args.key c.args.slot many)
+    (added_waits (waits_of old) c.push.new.self.bound c.args.key c.args.slot many)
 
 pub returns-clause-kept : goal.returns-clause-kept
 returns-clause-kept c other at one =
     let old = c.self.inside in
-    let pair : WaitingPair = record { key = c.args.key; earlier = c.index-earlier.result.now } in
+    let pair : WaitingPair = record { key = c.args.key; earlier = c.tell_last-earlier.result } in
     let new = push_of_new old.slots c.push.new.self c.args.slot c.push.result c.if-not-push.false
     c.push.ensures.value in
-    let items : c.push-2.new.self.items ≡ old.pairs.items ++ pair ∷ [] = search rules in
+    let items : c.push_reserved.new.self.items ≡ old.pairs.items ++ pair ∷ [] = c.push_reserved.ensures.items in
     let many = as_many_keys old.pairs.items ∙ c.self.invariant.as_many in
     let before : WaitsFor (waits_of old) other at =
     subst (λ (w : Waits). WaitsFor w other at) (sym c.self.view_is) one in
-    as_with_pair (waits_of old) (length (set old.last.items c.args.key c.len-count.result)) c.args.key c.args.slot many
-    (λ (w : Waits). WaitsFor w other at) c.push.new.self.addresses (keys_of c.push-2.new.self.items)
+    as_with_pair (waits_of old) c.push.new.self.bound c.args.key c.args.slot many
+    (λ (w : Waits). WaitsFor w other at) c.push.new.self.addresses (keys_of c.push_reserved.new.self.items)
     (ap (λ (list : Listing). list.addresses) new) (ap keys_of items ∙ keys_with old.pairs.items pair)
-    (added_kept (waits_of old) (length (set old.last.items c.args.key c.len-count.result)) c.args.key c.args.slot many
-    other at before)
+    (added_kept (waits_of old) c.push.new.self.bound c.args.key c.args.slot many other at before)
 
 pub returns-clause-only : goal.returns-clause-only
 returns-clause-only c other at =
     let old = c.self.inside in
-    let pair : WaitingPair = record { key = c.args.key; earlier = c.index-earlier.result.now } in
+    let pair : WaitingPair = record { key = c.args.key; earlier = c.tell_last-earlier.result } in
     let new = push_of_new old.slots c.push.new.self c.args.slot c.push.result c.if-not-push.false
     c.push.ensures.value in
-    let items : c.push-2.new.self.items ≡ old.pairs.items ++ pair ∷ [] = search rules in
+    let items : c.push_reserved.new.self.items ≡ old.pairs.items ++ pair ∷ [] = c.push_reserved.ensures.items in
     let many = as_many_keys old.pairs.items ∙ c.self.invariant.as_many in
     let Only : Waits → Type 0 = λ w. WaitsFor w other at
     → WaitsFor c.args.self.now other at ⊎ ((other ≡ c.args.key) × (at ≡ c.args.slot)) in
-    as_with_pair (waits_of old) (length (set old.last.items c.args.key c.len-count.result)) c.args.key c.args.slot many
-    Only c.push.new.self.addresses (keys_of c.push-2.new.self.items)
+    as_with_pair (waits_of old) c.push.new.self.bound c.args.key c.args.slot many
+    Only c.push.new.self.addresses (keys_of c.push_reserved.new.self.items)
     (ap (λ (list : Listing). list.addresses) new) (ap keys_of items ∙ keys_with old.pairs.items pair)
-    (λ one. elim (added_only (waits_of old) (length (set old.last.items c.args.key c.len-count.result)) c.args.key
-    c.args.slot many other at one) [
+    (λ one. elim (added_only (waits_of old) c.push.new.self.bound c.args.key c.args.slot many other at one) [
       | inl before ↦ inl (subst (λ (w : Waits). WaitsFor w other at) c.self.view_is before)
       | inr last ↦ inr last
     ])

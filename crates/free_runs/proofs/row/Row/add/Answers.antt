@@ -6,9 +6,9 @@ use Rattle.free_runs.proofs.row.Row.add.Goals as goal
 pub invariant_of-self : goal.invariant_of-self
 invariant_of-self c =
     let old = c.self.inside.runs.items in
-    let items : c.push.new.self.items ≡ old ++ c.args.run ∷ [] = search rules in
+    let items : c.push_reserved.new.self.items ≡ old ++ c.args.run ∷ [] = search rules in
     record {
-      room = omega (arith, c.push.ensures.capacity, c.self.invariant.room);
+      room = omega (arith, c.push_reserved.ensures.capacity, c.self.invariant.room);
       few = omega (
         arith,
         ap length items,

@@ -12,8 +12,8 @@ use Rattle.write_barrier.proofs.main_side.Main.header.Goals as goal
 read_there : (c : goal.After-word) → header_in c.word.result ≡ Some c.requires.there.header
 read_there c = sym (ap (option_and_then header_in) c.word.ensures.of_heap) ∙ c.requires.there.stands
 
-pub header_of_bits-requires : goal.header_of_bits-requires
-header_of_bits-requires c =
+pub of_bits-requires : goal.of_bits-requires
+of_bits-requires c =
     let from = header_from c.word.result c.requires.there.header (read_there c) in
     (c.requires.there.header, from.0, from.1)
 
@@ -21,11 +21,11 @@ pub returns-clause-stands : goal.returns-clause-stands
 returns-clause-stands c =
     let header = c.requires.there.header in
     let from = header_from c.word.result header (read_there c.before) in
-    c.requires.there.stands ∙ sym (ap Some (c.header_of_bits.ensures header from.0 from.1))
+    c.requires.there.stands ∙ sym (ap Some (c.of_bits.ensures header from.0 from.1))
 
 pub returns-clause-of_cell : goal.returns-clause-of_cell
 returns-clause-of_cell c cell words has stands =
     let reads = (has_is_cell has).reads in
     let word = same_Some _ _ (sym c.word.ensures.of_heap ∙ ap (slice_get (heap_words c.args.self.now.seat)) (sym stands)
     ∙ reads.first) in
-    sym (c.header_of_bits.ensures cell.header reads.is_header word)
+    sym (c.of_bits.ensures cell.header reads.is_header word)

@@ -1,22 +1,19 @@
 -- The slots of the copy before an offset are done.
-use Rattle.std.proofs.Common.{◌≡◌, ℕ, ◌+◌, ◌-◌, Bool}
+use Rattle.std.proofs.Common.{◌≡◌, ℕ, ◌+◌, Bool}
 use Rattle.std.specs.Vec.{vec_capacity}
 use Rattle.page_space.specs.Extents.{eden_start}
 use Rattle.write_barrier.specs.MutatorState.{Mutator}
 use Rattle.scavenger.specs.Walking.{AreSpaces, HasGrown, IsScanned, at_copy}
-use Rattle.scavenger.proofs.scanning.follow_slots.Given as goal
+use Rattle.scavenger.proofs.scanning.follow_before.Given as goal
 
-abbrev pub invariant-slots : goal.invariant-slots
-invariant-slots l = record {
+abbrev pub invariant-loop-offset : goal.invariant-loop-offset
+invariant-loop-offset l = record {
   scanned : (start : Mutator) (all : Bool) (end : ℕ)
       → AreSpaces l.fn.main.seat.space l.fn.main.young.half all l.spaces
       → IsScanned start l.fn.main all l.fn.progress l.fn.list.items l.cell
       (at_copy end (eden_start l.fn.main.seat.space) l.cell.at (l.cell.at + l.cell.size))
       → IsScanned start l.main all l.progress l.list.items l.cell
-      (at_copy end (eden_start l.fn.main.seat.space) (l.cell.at + l.from) (l.cell.at + l.cell.size));
+      (at_copy end (eden_start l.fn.main.seat.space) (l.cell.at + l.offset) (l.cell.at + l.cell.size));
   grows : HasGrown l.fn.progress l.progress l.fn.list.items l.list.items;
   capacity : vec_capacity l.list ≡ vec_capacity l.fn.list;
 }
-
-abbrev pub decreases-slots : goal.decreases-slots
-decreases-slots l = l.cell.size - l.from

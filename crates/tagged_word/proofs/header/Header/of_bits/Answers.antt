@@ -1,7 +1,7 @@
 -- The bits of a header give its parts back.
 use Rattle.std.proofs.Common.{◌/◌, ◌%◌, arith}
 use Rattle.tagged_word.proofs.Headers.{same_made}
-use Rattle.write_barrier.proofs.known_words.header_of_bits.Goals as goal
+use Rattle.tagged_word.proofs.header.Header.of_bits.Goals as goal
 
 pub returns : goal.returns
 returns c header is bits =
