@@ -1,12 +1,16 @@
 -- What a variable holds, before and after it is made to hold a value.
-use Rattle.std.proofs.Common.{◌≡◌, ◌≢◌, ℕ, ◌+◌, ◌<◌, ◌∙◌, sym, List, length}
+use Rattle.std.proofs.Common.{◌≡◌, ◌≢◌, ℕ, ℤ, ◌+◌, ◌<◌, ◌∙◌, sym, ap, List, length, IsTrue}
 use Rattle.std.proofs.Common.{slice_get, slice_set, Some, arith, rules}
 use Rattle.std.proofs.Math.ListN.{length-set}
-use Rattle.std.proofs.lemmas.Option.{gets}
+use Rattle.std.proofs.lemmas.List.{set-get_or}
+use Rattle.std.proofs.lemmas.Option.{gets, get_or_from_slice_get}
 use Rattle.std.proofs.lemmas.Grind.{common_steps}
+use Rattle.tagged_word.specs.declared.word.Class.TheVariants.{Small}
+use Rattle.tagged_word.specs.Words.{small, bits_of}
 use Rattle.page_space.specs.Extents.{Space}
 use Rattle.handle_roots.specs.declared.held.Held.{Held}
-use Rattle.handle_roots.specs.Roots.{root_at, first_word, second_word, with_root}
+use Rattle.handle_roots.specs.declared.held.Held.TheVariants.{Int}
+use Rattle.handle_roots.specs.Roots.{root_at, first_of, second_of, first_word, second_word, Holds, with_root}
 use Rattle.handle_roots.specs.RootLaws.{RootsHoldOne, RootsHoldAgain, OtherRootsStay, OtherWordsStay, RootsKeepLength}
 
 -- a word that is put among the words stands there
@@ -45,6 +49,27 @@ with_root_holds space words variable held fits within =
           ∙ slice_get-set_at words at (first_word held) (omega arith);
       second = slice_get-set_at put (at + 1) (second_word held) (omega (arith, length-set {A = ℕ}));
     }
+
+-- where the second root word of a value stands already, only the first one changes
+pub first_alone : (space : Space) (words : List ℕ) (variable : ℕ) (held : Held) →
+    slice_get words (root_at space variable + 1) ≡ Some (second_word held) →
+    with_root space words variable held ≡ slice_set words (root_at space variable) (first_word held)
+first_alone space words variable held there =
+    let at = root_at space variable in
+    let put = slice_set words at (first_word held) in
+    let still = slice_get-set_beside words at (at + 1) (first_word held) (λ same. omega (arith, same)) ∙ there in
+    ap (λ word. slice_set put (at + 1) word)
+    (sym (get_or_from_slice_get put (at + 1) (second_word held) (second_word held) still))
+    ∙ set-get_or put (at + 1) (second_word held)
+
+-- so it is where one small integer replaces another
+pub small_replaced : (space : Space) (words : List ℕ) (variable : ℕ) (was v : ℤ) → IsTrue (small was) →
+    IsTrue (small v) → Holds space words variable (Int was) →
+    with_root space words variable (Int v) ≡ slice_set words (root_at space variable) (bits_of (Small v))
+small_replaced space words variable was v is_was is holds =
+    let second = ap (λ b. second_of b was) is_was ∙ sym (ap (λ b. second_of b v) is) in
+    first_alone space words variable (Int v) (holds.second ∙ ap (λ word. Some word) second)
+    ∙ ap (λ b. slice_set words (root_at space variable) (first_of b v)) is
 
 -- the first root word of another variable stays
 first_stays : (space : Space) (words : List ℕ) (variable other : ℕ) (held : Held) → other ≢ variable →

@@ -13,4 +13,4 @@ mod roots;
 pub use given::Given;
 pub use held::Held;
 pub use laws::laws_of_roots;
-pub use roots::{copy, given_by, held_by, hold, is_bound, referred, small_by};
+pub use roots::{copy, given_by, held_by, hold, is_bound, referred, replace_small, small_by};

@@ -95,6 +95,25 @@ pub fn small_by<W: Reads>(words: &mut W, regions: &Regions, variable: u32) -> Op
     small_by_first(words.load(regions.root_at(variable)))
 }
 
+/// Makes a variable that holds a small integer hold another one. Its second root word is 0 already, and only the first
+/// is put.
+#[inline(always)]
+pub fn replace_small<W: Words>(words: &mut W, regions: &Regions, variable: u32, v: i64)
+    requires known { variable < regions.now.variables }
+    requires steady { W.IsSteady words.old }
+    requires within { layouts_start regions.now ≤ length (W.words words.old) }
+    requires was { (was : ℤ) × IsTrue (small was) × Holds regions.now (W.words words.old) variable (Int was) }
+    requires small { IsTrue (small v) }
+    ensures put { W.words words.new ≡ with_root regions.now (W.words words.old) variable (Int v) }
+    ensures holds { Holds regions.now (W.words words.new) variable (Int v) }
+    ensures rest { W.Rest words.old words.new }
+{
+    let Some(word) = Word::small(v) else {
+        unreachable!()
+    };
+    words.put(regions.root_at(variable), word.0);
+}
+
 /// Makes a variable hold what another one holds: both of its root words are copied.
 #[inline(always)]
 pub fn copy<W: Words>(words: &mut W, regions: &Regions, from: u32, to: u32)
@@ -222,9 +241,11 @@ fn small_by_first(word: u64) -> Option<i64>
         IfSome result (λ v. IsTrue (small v) × (held ≡ Int v)) }
     ensures none { IsNone result → (v : ℤ) → IsTrue (small v) → FitsHeld (Int v) → word ≢ first_word (Int v) }
 {
-    match held_by_first(word) {
-        Some(Held::Int(v)) => Some(v),
-        _ => None,
+    // The lowest bit tells it, and the whole word halved is the integer.
+    if word % 2 == 0 {
+        Some(word.cast_signed() / 2)
+    } else {
+        None
     }
 }
 
@@ -236,9 +257,5 @@ fn referred_by_first(word: u64) -> Option<u32>
         IfSome result (λ at. held ≡ Ref at) }
     ensures none { IsNone result → (at : ℕ) → word ≢ first_word (Ref at) }
 {
-    if word % 4 == 1 {
-        Some((word / 4) as u32)
-    } else {
-        None
-    }
+    Word(word).address()
 }

@@ -16,7 +16,7 @@ use Rattle.object_graph.specs.Objects.{with_entry}
 use Rattle.object_graph.specs.Reach.{reach}
 use Rattle.nursery.specs.Young.{HasRoom}
 use Rattle.mutator.specs.declared.stop.Stop.{Stop}
-use Rattle.mutator.specs.declared.stop.Stop.TheVariants.{Fault, NoRoom, NoClear}
+use Rattle.mutator.specs.declared.stop.Stop.TheVariants.{NoRoom}
 use Rattle.mutator.specs.CarriesOut.{Carries, FindsMapNotFull}
 use Rattle.scavenger.specs.Laws.{KeepsGraphs}
 use Rattle.write_barrier.specs.MutatorState.{Mutator, heap_of, MainShows}
@@ -33,13 +33,6 @@ pub wants_some : (main : Mutator) (graph : Graph) (need : ℕ) → MainShows mai
     → 1 ≤ need
 wants_some main graph zero shows lacks = absurd (lacks (room_for_none main shows.tied shows.shows.whole))
 wants_some main graph (suc need) shows lacks = omega arith
-
--- a command that was tried and stopped leaves the heap as it was
-pub same_stopped : (names : List (List ℕ)) (old new : Mutator) (graph : Graph) (command : Command) (text : List ℕ)
-    (stop : Stop) → Carries names old new graph command text (Err stop) → new ≡ old
-same_stopped names old new graph command text (Fault word) (does-is, same) = same
-same_stopped names old new graph command text (NoRoom need) (next, written, does-is, needs, lacks, same) = same
-same_stopped names old new graph command text (NoClear entries) (full, same) = same
 
 -- a command that stops for want of room wants some words, and no more than a cell may have
 pub refused : (names : List (List ℕ)) (old new : Mutator) (graph : Graph) (variables fields : ℕ) (command : Command)

@@ -14,6 +14,7 @@ mod GoingOn
 mod Collected
 mod LineCarried
 mod Passing
+mod Ahead
 mod Ending
 mod Finishing
 mod Judging

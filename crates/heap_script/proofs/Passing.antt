@@ -10,6 +10,7 @@ use Rattle.write_barrier.specs.MutatorState.{Mutator}
 use Rattle.collector.specs.States.{HeapState}
 use Rattle.collector.proofs.Keeping.{same_heap}
 use Rattle.mutator.specs.declared.output.TheConstants.{OUTPUT_BYTES, ROOM}
+use Rattle.mutator.proofs.StoppedBy.{same_stopped}
 use Rattle.mutator.specs.declared.stop.Stop.{Stop}
 use Rattle.heap_script.specs.Collecting.{Tries}
 use Rattle.heap_script.specs.Runs.{OutputHolds, TellsAt, waiting_of}
@@ -17,7 +18,6 @@ use Rattle.byte_ends.specs.Sink.{Appends}
 use Rattle.heap_script.specs.Progress.{Handed}
 use Rattle.heap_script.specs.Between.{Running, only}
 use Rattle.heap_script.specs.Stages.{uncollected}
-use Rattle.heap_script.proofs.Carrying.{same_stopped}
 
 -- a command that was tried and did not stop was carried out
 pub tried_well : {names : List (List ℕ)} {old new : Mutator} {graph : Graph} {command : Command} {text : List ℕ}

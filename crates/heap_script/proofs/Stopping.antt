@@ -10,6 +10,7 @@ use Rattle.collector.specs.Making.{IsOutOfRoom}
 use Rattle.collector.specs.States.{HeapState, HeapShows}
 use Rattle.collector.proofs.Keeping.{same_heap, keeps_itself}
 use Rattle.mutator.specs.declared.stop.Stop.{Stop}
+use Rattle.mutator.proofs.StoppedBy.{same_stopped}
 use Rattle.mutator.specs.declared.stop.Stop.TheVariants.{Fault, NoRoom, NoClear}
 use Rattle.mutator.specs.CarriesOut.{Carries, AsksWhereFull, field_numbers}
 use Rattle.heap_script.specs.declared.making_way.Tried.{Tried}
@@ -17,7 +18,7 @@ use Rattle.heap_script.specs.declared.making_way.Tried.TheVariants.{Once, Scaven
 use Rattle.heap_script.specs.Collecting.{IsApart, IsSound, LacksWords, FindsPairs, CollectsFully, Tries, FaultsOn}
 use Rattle.heap_script.specs.Collecting.{StopsAt}
 use Rattle.heap_script.specs.MakingWay.{IsServable, IsClearable, DoesNothing, FindsFirst, FindsLast, MakesWay}
-use Rattle.heap_script.proofs.Carrying.{wants_some, refused, same_stopped, never_faults, unfull_behind}
+use Rattle.heap_script.proofs.Carrying.{wants_some, refused, never_faults, unfull_behind}
 use Rattle.heap_script.proofs.Retrying.{Stands, IsReady, fully_collects, fully_faults, no_more}
 use Rattle.heap_script.proofs.Retrying.{pairs_are_full, nowhere}
 

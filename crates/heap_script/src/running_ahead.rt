@@ -1,19 +1,14 @@
 //! Lines that are executed ahead of the next one that collects the heap, writes or does not come through: the short
 //! path of a run. What stops here changes nothing, and is executed by `execute`, which knows why.
-ghost use Rattle.std.specs.Prelude.{◌≡◌, ◌+◌, ◌<◌, ◌≤◌, ◌^◌, ℕ, List, [], length, false, is_ok};
-ghost use Rattle.std.specs.Prelude.{Ok, IsTrue, IsNone, IfSome, OnSome};
+ghost use Rattle.std.specs.Prelude.{◌≡◌, ◌+◌, ◌<◌, ◌≤◌, ℕ, List, [], length, drop, false, is_ok, Ok, IsTrue};
 ghost use Rattle.object_graph.specs.Graphs.{Graph};
 ghost use Rattle.object_graph.specs.Run.{lines_most};
 ghost use Rattle.heap_command.specs.Commands.{IsWithin};
 ghost use Rattle.mutator.specs.CarriesOut.{field_numbers};
-ghost use Rattle.collector.specs.States.{HeapShows, with_cycle};
+ghost use Rattle.collector.specs.States.{HeapShows};
 ghost use Rattle.heap_script.specs.Collecting.{Tries};
 ghost use Rattle.heap_script.specs.Runs.{OutputHolds};
-ghost use Rattle.script_text.specs.Limits.{open_most};
-ghost use Rattle.script_text.specs.Sound.{NamesWithin};
-ghost use Rattle.heap_script.specs.Cycles.{cycle_after_line};
-ghost use Rattle.heap_script.specs.Progress.{objects_made, made_by, command_in, CarriesLine};
-ghost use Rattle.heap_script.specs.LoopCounters.{standing_after};
+ghost use Rattle.heap_script.specs.Progress.{objects_made};
 ghost use Rattle.heap_script.specs.Between.{Running, only};
 ghost use Rattle.heap_script.specs.Stages.{uncollected};
 
@@ -22,7 +17,7 @@ use crate::loop_counters::LoopCounters;
 use collector::Heap;
 use heap_command::Command;
 use mutator::{OUTPUT_BYTES, Output, ROOM, Stop};
-use script_text::{Script, What};
+use script_text::{Line, Script, What};
 
 /// How far a run came: the place of its next line, and how many lines were executed.
 #[derive(Clone, Copy)]
@@ -56,22 +51,46 @@ pub(crate) fn run_ahead(
     ensures space { heap.new.main.seat.space ≡ heap.old.main.seat.space }
     ensures further { from.executed ≤ result.executed }
 {
-    if is_full(out) {
+    let lines = script.lines();
+    let left = (LINES_MOST - from.executed) as usize;
+    if is_full(out) || from.at > lines.len() || left < lines.len() - from.at {
         return from;
     }
-    let lines = script.lines();
-    let (mut at, mut left) = (from.at, LINES_MOST - from.executed);
-    while left > 0 && at < lines.len() {
-        let Some(next) = passes(heap, objects, turns, at, &lines[at].what) else {
-            break;
-        };
-        at = next;
-        left -= 1;
+    // What is left of the script, and how many more lines may be executed than there are in it. So a command counts
+    // nothing, and only a `repeat` or an `end` looks at the limit.
+    let mut rest = lines_from(lines, from.at);
+    let mut spare = left - rest.len();
+    while !rest.is_empty() {
+        match &rest[0].what {
+            What::Run(command) => {
+                if !comes_through(heap, objects, command) {
+                    break;
+                }
+                rest = lines_from(rest, 1);
+            }
+            jump => {
+                if spare < lines.len() {
+                    break;
+                }
+                let next = lines_from(lines, turns.next(lines.len() - rest.len(), jump));
+                spare = spare + rest.len() - 1 - next.len();
+                rest = next;
+            }
+        }
     }
     Reached {
-        at,
-        executed: LINES_MOST - left,
+        at: lines.len() - rest.len(),
+        executed: LINES_MOST - (spare + rest.len()) as u64,
     }
+}
+
+/// The lines from a place on.
+#[inline(always)]
+fn lines_from(lines: &[Line], at: usize) -> &[Line]
+    requires within { at ≤ length lines.now }
+    ensures { result.now ≡ drop at lines.now }
+{
+    &lines[at..]
 }
 
 /// Whether what waits has to be handed on before the next line.
@@ -80,44 +99,6 @@ fn is_full(out: &Output) -> bool
     ensures { result ≡ false → length out.now + ROOM ≤ OUTPUT_BYTES }
 {
     out.bytes().len() > FULL_FROM
-}
-
-/// Executes the line at a place, if it comes through, and answers where the run goes on.
-#[inline(always)]
-fn passes(
-    heap: &mut Heap,
-    objects: &mut u32,
-    turns: &mut LoopCounters,
-    at: usize,
-    what: &What,
-) -> Option<usize>
-    requires shown { (graph : Graph) × HeapShows heap.old graph × (objects.old ≡ length graph.objects) }
-    requires within { NamesWithin heap.old.main.seat.space.variables field_numbers what.now }
-    requires few { objects.old < lines_most }
-    requires small { at < 2 ^ 63 }
-    requires deep { length (standing_after at turns.old what.now).turns ≤ open_most }
-    ensures carried { OnSome result ((names : List (List ℕ)) (graph : Graph) → HeapShows heap.old graph →
-        objects.old ≡ length graph.objects →
-        CarriesLine names heap.old.rest.in_cycle heap.old.main heap.new.main graph (command_in what.now) [] (Ok tt)) }
-    ensures place { IfSome result (λ place. place ≡ (standing_after at turns.old what.now).at) }
-    ensures turned { OnSome result (turns.new ≡ (standing_after at turns.old what.now).turns) }
-    ensures unturned { IsNone result → turns.new ≡ turns.old }
-    ensures rest { OnSome result (heap.new.rest ≡
-        with_cycle heap.old.rest (cycle_after_line heap.old.rest.in_cycle (command_in what.now))) }
-    ensures unchanged { IsNone result → heap.new ≡ heap.old }
-    ensures counted { OnSome result (objects.new ≡ objects.old + made_by (command_in what.now)) }
-    ensures uncounted { IsNone result → objects.new ≡ objects.old }
-{
-    match what {
-        What::Run(command) => {
-            if comes_through(heap, objects, command) {
-                Some(at + 1)
-            } else {
-                None
-            }
-        }
-        What::Repeat { .. } | What::End { .. } => Some(turns.next(at, what)),
-    }
 }
 
 /// Whether the command came through: it was carried out. It is not tried where it collects the heap or writes.
@@ -143,9 +124,9 @@ fn comes_through(heap: &mut Heap, objects: &mut u32, command: &Command) -> bool
         Command::Weak { x } => counted(mutator::new_weak(heap.main_mut(), *x, *objects), objects),
         Command::LetValue { x, v } => mutator::let_value(heap.main_mut(), *x, *v).is_ok(),
         Command::DropVar { x } => mutator::drop_var(heap.main_mut(), *x).is_ok(),
-        Command::Add { x, v } => mutator::add_ahead(heap.main_mut(), *x, *v),
-        Command::Set { x, f, v } => mutator::set(heap.main_mut(), *x, *f, *v).is_ok(),
-        Command::Get { y, x, f } => mutator::get(heap.main_mut(), *y, *x, *f).is_ok(),
+        Command::Add { x, v } => mutator::add_ahead(heap.main_mut(), *x, v),
+        Command::Set { x, f, v } => mutator::set_ahead(heap.main_mut(), *x, *f, v),
+        Command::Get { y, x, f } => mutator::get_ahead(heap.main_mut(), *y, *x, *f),
         Command::Del { x, f } => mutator::del(heap.main_mut(), *x, *f).is_ok(),
         Command::Push { x, v } => mutator::push(heap.main_mut(), *x, *v).is_ok(),
         Command::Put { x, i, v } => mutator::put(heap.main_mut(), *x, *i, *v).is_ok(),

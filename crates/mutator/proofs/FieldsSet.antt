@@ -1,7 +1,7 @@
 -- `set` is carried out as the call on fields says.
-use Rattle.std.proofs.Common.{◌≡◌, refl, ℕ, List, [], Ok, Err, Some, ◌∙◌}
+use Rattle.std.proofs.Common.{◌≡◌, refl, ℕ, List, [], Ok, Err, Some, ◌∙◌, sym, subst}
 use Rattle.std.specs.FinMap.{get}
-use Rattle.heap_model.specs.Types.{Operand, Value, Held}
+use Rattle.heap_model.specs.Types.{Operand, Value, Held, Header, Word}
 use Rattle.heap_command.specs.declared.command.Command.TheVariants.{Set}
 use Rattle.object_graph.specs.declared.value.Value.TheVariants.{Ref}
 use Rattle.object_graph.specs.Objects.{with_field}
@@ -9,7 +9,10 @@ use Rattle.object_graph.specs.Paths.{path_of, with_path}
 use Rattle.object_graph.specs.Graphs.{Graph, PlainObject, value_of, as_plain}
 use Rattle.object_graph.specs.Meaning.{refill}
 use Rattle.object_graph.specs.Limits.{paths_most}
-use Rattle.write_barrier.specs.MutatorState.{Mutator, MainShows}
+use Rattle.handle_roots.specs.declared.given.Given.TheVariants.{Word as GivenWord}
+use Rattle.handle_roots.specs.Givens.{Gives}
+use Rattle.write_barrier.specs.MutatorState.{Mutator, MainShows, heap_of}
+use Rattle.object_cells.specs.CellsAt.{IsHeaderAt}
 use Rattle.object_cells.specs.PlainObjects.{IsPlainAt}
 use Rattle.object_cells.specs.HeldValues.{IsValueHeld}
 use Rattle.shape_change.specs.FieldChanges.{IsShownSetting, HasSetField, SetsField}
@@ -18,7 +21,7 @@ use Rattle.shape_change.specs.declared.stop.FieldStop.TheVariants.{FieldsFull, S
 use Rattle.mutator.specs.Stops.{stop_of}
 use Rattle.mutator.specs.declared.lookups.Found.{Found}
 use Rattle.mutator.specs.CarriesOut.{Carries}
-use Rattle.mutator.specs.Reading.{StandForBoth, IsFound}
+use Rattle.mutator.specs.Reading.{StandForBoth, IsFound, FindsGiven, FindsHeaded}
 use Rattle.mutator.proofs.KnownObjects.{IsKnown, known_found, change_carried}
 use Rattle.mutator.proofs.FieldMeanings.{reshape_done, reshape_full, paths_there, set_room, set_full}
 use Rattle.mutator.proofs.CommandRooms.{set_need_is, keeps_set}
@@ -98,3 +101,31 @@ set_stopped {graph = graph} {v = v} new names f (Full room) setting sets =
       sets.3,
       sets.4,
     )
+
+-- what is known once the word of the value of a `set` was found, and the object with its header
+pub record IsHeadedSetting (main : Mutator) (graph : Graph) (x : ℕ) (v : Operand) (at : ℕ) (header : Header)
+    (word : Word) : Type 0 where
+  pub one : Held
+  pub gives : Gives (GivenWord word) one
+  pub setting : IsSetting main graph x v at one
+  pub headed : IsHeaderAt (heap_of main) at header
+
+-- so it is once they were read
+pub headed_setting : {old mid now : Mutator} {graph : Graph} {at : ℕ} {header : Header} {word : Word} (x : ℕ)
+    (v : Operand) → mid ≡ old → now ≡ mid → MainShows old graph
+    → FindsGiven old graph (value_of graph v) (Ok (GivenWord word))
+    → FindsHeaded mid graph (get graph.bindings x) at header → IsHeadedSetting now graph x v at header word
+headed_setting {graph = graph} {at} {header} x v same still shows (one, gives, (value, is, stands)) headed = record {
+  one = one;
+  gives = gives;
+  setting = record {
+    plain = headed.found.plain;
+    value = value;
+    shows = shows_still (still ∙ same) shows;
+    known = known_found headed.is headed.found.is headed.found.refers;
+    value_is = is;
+    stands = subst (λ main. IsPlainAt main graph at headed.found.plain) (sym still) headed.found.stands;
+    held = (stands_still (still ∙ same) stands).is;
+  };
+  headed = subst (λ main. IsHeaderAt (heap_of main) at header) (sym still) headed.headed;
+}

@@ -1,6 +1,7 @@
 -- Objects by their addresses: the cell that stands there, and what it is.
-use Rattle.std.proofs.Common.{◌≡◌, ℕ, ◌≤◌, Bool, List, [], Some, slice_get, get_or, sym, ap, subst, arith}
-use Rattle.std.specs.Prelude.{IsTrue, codes}
+use Rattle.std.proofs.Common.{◌≡◌, ℕ, ◌≤◌, ◌<◌, Bool, List, [], Some, slice_get, get_or, sym, ap, subst, arith}
+use Rattle.std.specs.Prelude.{IsTrue, Option, codes}
+use Rattle.std.specs.FinMap.{get}
 use Rattle.std.proofs.lemmas.Bool.Decides.{nat_tests}
 use Rattle.std.proofs.lemmas.Option.{slice_get-get_or}
 use Rattle.tagged_word.specs.declared.layout.Kind.TheVariants as kind
@@ -12,6 +13,8 @@ use Rattle.object_graph.specs.Graphs.{Graph}
 use Rattle.object_graph.specs.Reach.{is_marked, reach}
 use Rattle.object_graph.specs.Texts.{noun}
 use Rattle.handle_roots.specs.declared.held.Held.TheVariants as held
+use Rattle.handle_roots.specs.Roots.{Holds}
+use Rattle.heap_table.specs.Seats.{heap_words}
 use Rattle.heap_model.specs.Heaps.{Heap, HasCell}
 use Rattle.heap_model.specs.Slots.{IsPlace}
 use Rattle.heap_model.specs.Wholeness.{Whole}
@@ -21,7 +24,7 @@ use Rattle.object_cells.specs.HeldValues.{IsReachedValue}
 use Rattle.object_cells.proofs.PlainFields.{plain_sound}
 use Rattle.mutator.specs.Kinds.{noun_by_shape}
 use Rattle.mutator.specs.Reading.{StandsFor, HasShapeOf, IsFoundObject}
-use Rattle.mutator.proofs.HeldValues.{holds_object}
+use Rattle.mutator.proofs.HeldValues.{holds_object, held_shows, some_shown, bound_stands, ref_bound}
 use Rattle.mutator.proofs.CellKinds.{other_has_fixed}
 
 -- the object of this number has its place at the address, and the cell there shows it
@@ -124,3 +127,22 @@ found_object {main} header shows held read = record {
   reached = held.reached;
   shaped = subst (λ (h : Header). HasShapeOf main.paths held.object.what h.shape) read (shape_told shows held.object);
 }
+
+-- the object to which what is sought refers, at an address
+pub record ReferredObject (main : Mutator) (graph : Graph) (sought : Option Value) (at : ℕ) : Type 0 where
+  pub value : Value
+  pub is : sought ≡ Some value
+  pub object : HeldObject main graph at value
+
+-- a variable that refers to an address is bound to the object there
+pub referred_object : {main : Mutator} {graph : Graph} (x at : ℕ) → MainShows main graph
+    → x < main.seat.space.variables → Holds main.seat.space (heap_words main.seat) x (held.Ref at)
+    → ReferredObject main graph (get graph.bindings x) at
+referred_object {graph = graph} x at shows known holds =
+    let one = held.Ref at in
+    let some = some_shown one (get graph.bindings x) (ref_bound at) (held_shows x one shows known holds) in
+    record {
+      value = some.value;
+      is = some.is;
+      object = held_object at some.value shows (bound_stands x one some.value shows some.is holds.fits some.shows);
+    }

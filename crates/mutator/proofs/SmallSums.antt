@@ -41,6 +41,14 @@ integer_shown : {heap : Heap} (v : ℤ) (found : Option Value) → ShowsHeld hea
 integer_shown v None shows = absurd (shows_by_kind (held.Int v) None shows)
 integer_shown v (Some value) shows = ap (λ one. Some one) (holds_integer (held.Int v) v value refl shows)
 
+-- the integer of a variable is the one that it holds
+pub integer_held : {main : Mutator} {graph : Graph} (x : ℕ) (v : ℤ) → MainShows main graph
+    → x < main.seat.space.variables → Holds main.seat.space (heap_words main.seat) x (held.Int v)
+    → option_and_then integer_in (get graph.bindings x) ≡ Some v
+integer_held {graph = graph} x v shows known holds =
+    ap (option_and_then integer_in)
+    (integer_shown v (get graph.bindings x) (held_shows x (held.Int v) shows known holds))
+
 -- such a sum is what the command `add` binds
 pub finds_small_sum : {main : Mutator} {graph : Graph} (names : List (List ℕ)) (x : ℕ) (v : Operand) (a b sum : ℤ)
     → MainShows main graph → x < main.seat.space.variables → IsTrue (small a)
@@ -48,6 +56,5 @@ pub finds_small_sum : {main : Mutator} {graph : Graph} (names : List (List ℕ))
     → option_and_then integer_in (value_of graph v) ≡ Some b → SFits w64 b → sum ≡ int_wrapping_add w64 a b
     → IsTrue (small sum) → FindsSum names graph x v (Some sum)
 finds_small_sum {graph = graph} names x v a b sum shows known first holds is_second fits wrapped second =
-    let is_first = ap (option_and_then integer_in)
-    (integer_shown a (get graph.bindings x) (held_shows x (held.Int a) shows known holds)) in
-    finds_sum names graph x v a b (Some sum) is_first is_second (small_sum_is a b sum first fits second wrapped)
+    finds_sum names graph x v a b (Some sum) (integer_held x a shows known holds) is_second
+    (small_sum_is a b sum first fits second wrapped)

@@ -2,6 +2,7 @@
 -- refers to.
 use Rattle.std.specs.Prelude.{◌≡◌, ℕ, ℤ, ◌⊎◌, IsTrue, List, [], Option, Some, None, Result, Ok, Err, slice_get}
 use Rattle.tagged_word.specs.Shapes.{list_shape, weak_shape}
+use Rattle.tagged_word.specs.declared.header.Header.{Header}
 use Rattle.heap_model.specs.Types.{FaultWord, Value, Held, Object, Path, Operand}
 use Rattle.heap_command.specs.declared.command.Command.TheVariants.{Add}
 use Rattle.heap_command.specs.declared.command.FaultWord.TheVariants.{Unbound, NotObject, NotList}
@@ -20,6 +21,7 @@ use Rattle.handle_roots.specs.Givens.{Gives}
 use Rattle.handle_roots.specs.Roots.{FitsHeld}
 use Rattle.heap_model.specs.Slots.{IsPlace}
 use Rattle.write_barrier.specs.MutatorState.{Mutator, MainShows, heap_of}
+use Rattle.object_cells.specs.CellsAt.{IsHeaderAt}
 use Rattle.object_cells.specs.PlainObjects.{IsPlainAt}
 use Rattle.object_cells.specs.ListObjects.{IsListAt}
 use Rattle.object_cells.specs.HeldValues.{IsValueHeld}
@@ -107,6 +109,14 @@ pub record IsFound (main : Mutator) (graph : Graph) (value : Value) (found : Fou
 abbrev pub FindsPlain : Mutator → Graph → Value → Result Found FaultWord → Type 0
 FindsPlain main graph value (Ok found) = IsFound main graph value found
 FindsPlain main graph value (Err word) = (plain_at graph.objects value ≡ None) × (word ≡ NotObject)
+
+-- the value that is sought refers to a plain object that stands here, and this is its cell's header
+pub record FindsHeaded (main : Mutator) (graph : Graph) (sought : Option Value) (at : ℕ) (header : Header)
+    : Type 0 where
+  pub value : Value
+  pub is : sought ≡ Some value
+  pub found : IsFound main graph value (record { at = at; shape = header.shape })
+  pub headed : IsHeaderAt (heap_of main) at header
 
 -- the list to which the value refers stands where it was found
 pub record IsFoundList (main : Mutator) (graph : Graph) (value : Value) (at : ℕ) : Type 0 where

@@ -1,13 +1,13 @@
 //! The commands `set`, `get` and `del`, on the fields of a plain object. What they do to its cells
 //! is done in `shape_change`; what is written of its shape is said in `shapes.rt`.
-ghost use Rattle.std.specs.Prelude.{ℕ, List, [], OnOk};
+ghost use Rattle.std.specs.Prelude.{◌≡◌, ℕ, List, [], Ok, OnOk, IsTrue, false};
 ghost use Rattle.heap_command.specs.Commands.{IsWithin};
 ghost use Rattle.object_graph.specs.Graphs.{Graph};
 ghost use Rattle.write_barrier.specs.MutatorState.{MainShows};
 ghost use Rattle.mutator.specs.Binding.{Binds};
 ghost use Rattle.mutator.specs.CarriesOut.{Carries, field_numbers};
 
-use crate::lookups::{plain, target, target_and_given};
+use crate::lookups::{plain, plain_ahead, slot_word, target, target_and_given};
 use crate::stop::Stop;
 use heap_command::{Command, Operand};
 use write_barrier::Main;
@@ -30,6 +30,55 @@ pub fn set(main: &mut Main, x: u32, f: u32, v: Operand) -> Result<(), Stop>
     let found = plain(main, target)?;
     shape_change::set(main, found.at, f, value)?;
     Ok(())
+}
+
+/// The same as `set` where that comes through, and answers whether it does: nothing changes where it stops, and `set`
+/// tells why.
+#[inline(always)]
+pub fn set_ahead(main: &mut Main, x: u32, f: u32, v: &Operand) -> bool
+    requires shown { (graph : Graph) × MainShows main.old graph }
+    requires within { IsWithin main.old.seat.space.variables field_numbers (Command.Set x f v.now) }
+    ensures carried { IsTrue result → (graph : Graph) (names : List (List ℕ)) → MainShows main.old graph →
+        Carries names main.old main.new graph (Command.Set x f v.now) [] (Ok tt) }
+    ensures unchanged { result ≡ false → main.new ≡ main.old }
+{
+    let Some(word) = slot_word(main, v) else {
+        return set_any(main, x, f, v);
+    };
+    let Some((at, header)) = plain_ahead(main, x) else {
+        return false;
+    };
+    shape_change::set_ahead(main, at, header, f, word)
+}
+
+/// The same, whatever the value is.
+#[cold]
+#[inline(never)]
+fn set_any(main: &mut Main, x: u32, f: u32, v: &Operand) -> bool
+    requires shown { (graph : Graph) × MainShows main.old graph }
+    requires within { IsWithin main.old.seat.space.variables field_numbers (Command.Set x f v.now) }
+    ensures carried { IsTrue result → (graph : Graph) (names : List (List ℕ)) → MainShows main.old graph →
+        Carries names main.old main.new graph (Command.Set x f v.now) [] (Ok tt) }
+    ensures unchanged { result ≡ false → main.new ≡ main.old }
+{
+    set(main, x, f, *v).is_ok()
+}
+
+/// The same as `get` where that comes through, and answers whether it does: nothing changes where it stops, and `get`
+/// tells why.
+#[inline(always)]
+pub fn get_ahead(main: &mut Main, y: u32, x: u32, f: u32) -> bool
+    requires shown { (graph : Graph) × MainShows main.old graph }
+    requires within { IsWithin main.old.seat.space.variables field_numbers (Command.Get y x f) }
+    ensures carried { IsTrue result → (graph : Graph) (names : List (List ℕ)) → MainShows main.old graph →
+        Carries names main.old main.new graph (Command.Get y x f) [] (Ok tt) }
+    ensures unchanged { result ≡ false → main.new ≡ main.old }
+{
+    let Some((at, _)) = plain_ahead(main, x) else {
+        return false;
+    };
+    shape_change::hold_get(main, y, at, f);
+    true
 }
 
 /// Binds `y` to the field `f` of the plain object `x`, or to `undefined` where there is none.

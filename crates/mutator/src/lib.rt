@@ -20,7 +20,7 @@ mod trims;
 mod weak_maps;
 
 pub use bindings::{add, add_ahead, drop_var, let_value};
-pub use fields::{del, get, set};
+pub use fields::{del, get, get_ahead, set, set_ahead};
 pub use lists::{at, new_list, push, put};
 pub use making::new_plain;
 pub use output::{OUTPUT_BYTES, Output, ROOM};

@@ -1,10 +1,9 @@
 -- What the words of slots and fields tell.
 use Rattle.std.proofs.Common.{◌≡◌, ℕ, ◌+◌, ◌<◌, Bool, true, false, List, Some, refl, sym}
 use Rattle.std.proofs.Common.{◌∙◌, ap, subst, arith}
-use Rattle.std.proofs.Common.{Fits, rules}
 use Rattle.std.specs.Prelude.{ℤ}
-use Rattle.std.specs.Int.{w64, cast_signed, cast_unsigned}
-use Rattle.std.proofs.lemmas.Int.{to_z-of_z, of_z-to_z}
+use Rattle.std.specs.Int.{w64, cast_signed}
+use Rattle.std.proofs.lemmas.Int.{to_z-of_z}
 use Rattle.heap_model.specs.Types.{Class, Value, Rep, Cell, Held}
 use Rattle.tagged_word.specs.Words.{IsClass, bits_of}
 use Rattle.tagged_word.specs.Readings.{reference_in}
@@ -26,11 +25,6 @@ use Rattle.heap_model.proofs.ShownBoxes.{cell_before}
 use Rattle.write_barrier.proofs.ShownHeld.{box_by_class, shown_values_are_held}
 use Rattle.object_cells.specs.CellsAt.{HasCellAt}
 use Rattle.object_cells.proofs.CellsRead.{cell_at_before_marks, fits_address}
-
--- a raw word's integer is read back
-pub raw_back : (word : ℕ) → Fits w64 word
-    → cast_signed w64 (cast_unsigned w64 (cast_signed w64 word)) ≡ cast_signed w64 word
-raw_back word fits = ap (cast_signed w64) (of_z-to_z w64 word (search rules))
 
 -- a cell of a heap within the limits stands at an address of 32 bits
 pub cell_fits : {heap : Heap} {cell : Cell} {words : List ℕ} → HasSizes heap

@@ -18,6 +18,7 @@ mod SetOutcomes
 mod SetRefused
 mod SetThere
 mod SetByPlace
+mod SetsTold
 mod WordsPut
 mod FewMissing
 mod ShownFields
@@ -55,3 +56,4 @@ mod FieldAdded
 mod NewNames
 pub mod FullPaths
 pub mod HeldFields
+mod HeldByName

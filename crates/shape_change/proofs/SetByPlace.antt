@@ -1,13 +1,15 @@
 -- What comes of setting a field that is there, by what was read of its slot.
-use Rattle.std.specs.Prelude.{Result, Err}
+use Rattle.std.specs.Prelude.{Result, Err, option_map, slice_get}
 use Rattle.std.proofs.Common.{◌≡◌, ◌<◌, ℕ, nat_lt, true, Some, refl, sym, ◌∙◌, ap, subst, arith}
 use Rattle.std.proofs.lemmas.Bool.Decides.{nat_tests}
 use Rattle.page_space.specs.Sizes.{AreWithin}
+use Rattle.page_space.specs.Extents.{marks_start}
 use Rattle.shape_tree.specs.Shapes.{shape_path, changed}
 use Rattle.object_graph.specs.Objects.{revalued}
 use Rattle.object_graph.specs.Values.{rep_of, join}
 use Rattle.object_graph.specs.Graphs.{Graph, PlainObject}
-use Rattle.heap_model.specs.Types.{Value, Held, Word}
+use Rattle.heap_model.specs.Types.{Value, Held, Word, Rep, PathField}
+use Rattle.heap_model.specs.Heaps.{Heap}
 use Rattle.heap_model.specs.Showing.{ShowsHeld}
 use Rattle.write_barrier.specs.MutatorState.{Mutator, heap_of}
 use Rattle.write_barrier.specs.declared.room.NoRoom.{NoRoom}
@@ -21,11 +23,29 @@ use Rattle.shape_change.specs.declared.stop.FieldStop.{FieldStop}
 use Rattle.shape_change.specs.declared.stop.FieldStop.TheVariants as stop
 use Rattle.shape_change.specs.FieldChanges.{HasSetField, SetsField}
 use Rattle.shape_change.specs.Fillings.{IsSlotSetting, KeepsTagged, KeepsRaw, SetsWider}
-use Rattle.shape_change.specs.Places.{place_at}
+use Rattle.shape_change.specs.declared.slots.Place.{Place}
+use Rattle.shape_change.specs.Places.{place_at, IsPlaceOf}
 use Rattle.shape_change.proofs.Settings.{Setting}
 use Rattle.shape_change.proofs.SetOutcomes.{set_as_it_is}
 use Rattle.shape_change.proofs.SetRefused.{refused_room, paths_enough, wider_sets}
 use Rattle.shape_change.proofs.SetThere.{setting_read, setting_fills, wider_path}
+
+-- a slot that takes a tagged word as it is, is set so
+pub kept_setting : {heap : Heap} {object shape slot cap : ℕ} {held : Held} {was : Rep} {place : Place} {word : Word}
+    → IsPlaceOf heap object cap slot place → place_at object place < marks_start heap.space
+    → cap ≡ (shape_path heap.paths shape).cap
+    → option_map (λ (field : PathField). field.rep) (slice_get (shape_path heap.paths shape).fields slot) ≡ Some was
+    → KeepsTagged was held word
+    → IsSlotSetting heap object shape slot held
+    (record { place = place; was = was; rep = was; content = content.Tagged word })
+kept_setting {heap} {object} {shape} {slot} {place = place} is within cap read keeps = record {
+  place = subst (λ n. IsPlaceOf heap object n slot place) cap is;
+  within = within;
+  was = read;
+  joins = sym keeps.stays;
+  content = sym (keeps.content (nat_lt slot (shape_path heap.paths shape).cap));
+  held = tt;
+}
 
 module _ {old : Mutator} {graph : Graph} {object slot : ℕ} {plain : PlainObject} {what : Value} {name shape : ℕ}
     {held : Held} {sets : SlotSetting} (s : Setting old graph object slot plain what name)

@@ -1,5 +1,5 @@
 -- What is read before a field that is there is set.
-use Rattle.std.proofs.Common.{◌≡◌, ℕ, ◌<◌, Bool, List, length, Some, slice_get, get_or, set, nat_lt, unwrap_or}
+use Rattle.std.proofs.Common.{◌≡◌, ℕ, ◌<◌, Bool, List, length, Option, Some, slice_get, get_or, set, nat_lt, unwrap_or}
 use Rattle.std.proofs.Common.{refl, sym, ◌∙◌, ap, subst, arith}
 use Rattle.std.specs.Prelude.{option_map}
 use Rattle.std.proofs.lemmas.Option.{same_Some, slice_get-get_or}
@@ -28,7 +28,7 @@ use Rattle.object_cells.proofs.FieldsFound.{path_long}
 use Rattle.shape_change.proofs.FieldsSet.{path_changed}
 use Rattle.shape_change.proofs.FoundPlaces.{place_numbered}
 use Rattle.object_cells.proofs.PlainFields.{slots_held, plain_shown, shape_there}
-use Rattle.shape_change.proofs.Settings.{Setting, mapped, setting, slot_is_field}
+use Rattle.shape_change.proofs.Settings.{Setting, setting, slot_is_field}
 use Rattle.shape_change.proofs.SetShown.{FillsAt, held_slot}
 use Rattle.object_cells.proofs.SlotsNow.{numbered_stands}
 use Rattle.object_cells.proofs.HeldContents.{HoldsValue, held_rep_is, value_held}
@@ -66,26 +66,24 @@ shown_setting {old} {slot = slot} shown there fits =
 
 module _ {old : Mutator} {graph : Graph} {object slot : ℕ} {plain : PlainObject} {what : Value} {name : ℕ}
     (s : Setting old graph object slot plain what name) where
-  -- this is read off the shapes
-  pub is_read : (tree : List Path) (shape cap : ℕ) (place : Place) (own : Bool) (known : PathField)
-      → HasField (heap_of old) object shape slot → tree ≡ old.paths → cap ≡ (shape_path tree shape).cap
-      → IsPlaceOf (heap_of old) object cap slot place → own ≡ nat_lt slot cap
-      → slice_get (shape_path tree shape).fields slot ≡ Some known → IsReadOf s shape place own known.rep
-  is_read tree shape cap place own known there same caps is in_object field =
+  -- this is known of a field's representation and its path's cap
+  pub is_read : (shape cap : ℕ) (place : Place) (own : Bool) (was : Rep) → HasField (heap_of old) object shape slot
+      → cap ≡ (shape_path old.paths shape).cap → IsPlaceOf (heap_of old) object cap slot place → own ≡ nat_lt slot cap
+      → option_map (λ (field : PathField). field.rep) (slice_get (shape_path old.paths shape).fields slot) ≡ Some was
+      → IsReadOf s shape place own was
+  is_read shape cap place own was there caps is in_object known =
       let of_shape = shape_there there s.has s.stands in
       let path : shape_path old.paths shape ≡ path_of s.cell.layout.cap plain.fields =
       ap (shape_path old.paths) (sym of_shape) ∙ s.shown.path in
-      let tree_path = ap (λ paths. shape_path paths shape) same ∙ path in
-      let same_cap : cap ≡ s.cell.layout.cap = caps ∙ ap (λ (p : Path). p.cap) tree_path in
+      let same_cap : cap ≡ s.cell.layout.cap = caps ∙ ap (λ (p : Path). p.cap) path in
       let at_cell = subst (λ a. IsPlaceOf (heap_of old) a cap slot place) (sym s.stands) is in
-      let of_path : PathField = record { name = s.field.name; rep = s.field.rep } in
-      let one : known ≡ of_path =
-      same_Some known of_path (sym field ∙ ap (λ (p : Path). slice_get p.fields slot) tree_path
-      ∙ path_field s.cell.layout.cap plain.fields slot s.field s.there) in
+      let rep_in : Path → Option Rep = λ p. option_map (λ (field : PathField). field.rep) (slice_get p.fields slot) in
       record {
         at_place = subst (λ n. IsPlaceOf (heap_of old) s.cell.at n slot place) same_cap at_cell;
         in_object = in_object ∙ ap (nat_lt slot) same_cap;
-        known = ap (λ (f : PathField). f.rep) one;
+        known = same_Some was s.field.rep (sym known ∙ ap rep_in path
+            ∙ ap (option_map (λ (field : PathField). field.rep))
+            (path_field s.cell.layout.cap plain.fields slot s.field s.there));
         path = path ∙ ap (λ n. path_of n plain.fields) s.cap;
       }
 
@@ -143,11 +141,8 @@ module _ {old : Mutator} {graph : Graph} {object slot : ℕ} {plain : PlainObjec
       → IsSlotSetting (heap_of old) object shape slot held sets
       → IsReadOf s shape sets.place (nat_lt slot (shape_path old.paths shape).cap) sets.was
   setting_read {shape = shape} {sets = sets} there is =
-      let path : Path = shape_path old.paths shape in
-      let known = mapped (λ (field : PathField). field.rep) (slice_get path.fields slot) sets.was is.was in
-      subst (IsReadOf s shape sets.place (nat_lt slot path.cap)) known.is
-      (is_read old.paths shape path.cap sets.place (nat_lt slot path.cap) known.x there refl refl is.place refl
-      known.there)
+      let cap = (shape_path old.paths shape).cap in
+      is_read shape cap sets.place (nat_lt slot cap) sets.was there refl is.place refl is.was
 
   -- and so the slot comes to hold the value
   pub setting_fills : {shape : ℕ} {held : Held} {sets : SlotSetting} → HasField (heap_of old) object shape slot

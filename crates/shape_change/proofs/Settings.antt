@@ -45,13 +45,13 @@ pub record Setting (old : Mutator) (graph : Graph) (object slot : ℕ) (plain : 
   pub named : field.name ≡ name
 
 -- what an element that is there is mapped to is that of the element
-pub record IsMapped {X Y : Type 0} (f : X → Y) (found : Option X) (y : Y) : Type 0 where
+record IsMapped {X Y : Type 0} (f : X → Y) (found : Option X) (y : Y) : Type 0 where
   pub x : X
   pub there : found ≡ Some x
   pub is : f x ≡ y
 
 -- so it is
-pub mapped : {X Y : Type 0} (f : X → Y) (found : Option X) (y : Y) → option_map f found ≡ Some y → IsMapped f found y
+mapped : {X Y : Type 0} (f : X → Y) (found : Option X) (y : Y) → option_map f found ≡ Some y → IsMapped f found y
 mapped f None y is = absurd (none-some y is)
 mapped f (Some x) y is = record { x = x; there = refl; is = same_Some (f x) y is }
 

@@ -9,7 +9,7 @@ ghost use Rattle.object_cells.specs.CellsAt.{IsQuietWhole, HasField};
 
 use crate::slots::{hold_field, slot_place, word_of_place};
 use handle_roots::Held;
-use shape_tree::Located;
+use shape_tree::{Located, Recalled};
 use write_barrier::Main;
 
 /// Makes a variable hold the value of a field of the plain object at an address, by where it stands in
@@ -31,6 +31,24 @@ fn hold_slot(main: &mut Main, variable: u32, object: u32, found: Located)
 /// there is none of the name.
 #[inline(always)]
 pub fn hold_get(main: &mut Main, variable: u32, object: u32, name: u32)
+    requires shown { IsShownPlain main.old object }
+    requires known { variable < main.old.seat.space.variables }
+    ensures { (graph : Graph) (plain : PlainObject) → MainShows main.old graph
+        → IsPlainAt main.old graph object plain
+        → HoldsValue main.old main.new variable (value_or_undefined plain name) }
+{
+    let shape = main.header(object).shape;
+    match main.recall(shape, name) {
+        Recalled::Field(found) => hold_slot(main, variable, object, found),
+        Recalled::NoField => main.hold(variable, Held::Undefined),
+        Recalled::Unknown => hold_sought(main, variable, object, name),
+    }
+}
+
+/// The same where the look-up is not at hand.
+#[cold]
+#[inline(never)]
+fn hold_sought(main: &mut Main, variable: u32, object: u32, name: u32)
     requires shown { IsShownPlain main.old object }
     requires known { variable < main.old.seat.space.variables }
     ensures { (graph : Graph) (plain : PlainObject) → MainShows main.old graph

@@ -42,7 +42,7 @@ fn raw_for(was: Rep, value: Held) -> Option<u64>
 
 /// The slot at a place of a plain object comes to hold a tagged word.
 #[inline(always)]
-fn put_tagged(main: &mut Main, object: u32, place: Place, word: Word)
+pub(crate) fn put_tagged(main: &mut Main, object: u32, place: Place, word: Word)
     requires quiet { main.old.seat.phase ≡ Quiet }
     requires within { place_at object place < marks_start main.old.seat.space }
     ensures { FillsSlot main.old main.new (place_at object place) (SlotContent.Tagged word) }
@@ -63,7 +63,7 @@ fn put_raw(main: &mut Main, object: u32, place: Place, word: u64)
 /// Gives the field of this number and representation of the plain object at an address, whose path has this cap,
 /// the value, as `set_by_setting` does. A raw word is put at once.
 #[inline(never)]
-fn set_untagged(
+pub(crate) fn set_untagged(
     main: &mut Main,
     object: u32,
     header: Header,
@@ -88,18 +88,18 @@ fn set_untagged(
     let cap = cap as u32;
     match raw_for(rep, value) {
         Some(word) if slot < cap => {
-            let setting = setting_of(main, object, header.shape, slot, cap, value);
+            let setting = setting_of(main, object, header.shape, slot, rep, cap, value);
             put_raw(main, object, setting.place, word);
             Ok(())
         }
-        _ => set_by_setting(main, object, header, slot, value),
+        _ => set_by_setting(main, object, header, slot, rep, cap, value),
     }
 }
 
 /// Whether a field of this representation keeps it for what a word stands for, and its slot comes to hold
 /// that word.
 #[inline(always)]
-fn takes(was: Rep, word: Word) -> bool
+pub(crate) fn takes(was: Rep, word: Word) -> bool
     ensures { IsTrue result → (held : What) → Gives (Given.Word word) held → KeepsTagged was held word }
 {
     match was {
@@ -135,7 +135,15 @@ pub(crate) fn set_given(
     match value {
         Given::Word(word) if takes(found.rep, word) => {
             let cap = found.cap as u32;
-            let setting = setting_of(main, object, header.shape, found.at, cap, value.held());
+            let setting = setting_of(
+                main,
+                object,
+                header.shape,
+                found.at,
+                found.rep,
+                cap,
+                value.held(),
+            );
             put_tagged(main, object, setting.place, word);
             Ok(())
         }

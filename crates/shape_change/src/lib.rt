@@ -8,6 +8,7 @@
 #![tactic(auto)]
 
 mod add_field;
+mod ahead;
 mod delete_field;
 mod get_field;
 mod kept_rep;
@@ -17,6 +18,7 @@ mod slots;
 mod stop;
 mod transitions;
 
+pub use ahead::set_ahead;
 pub use delete_field::delete;
 pub use get_field::hold_get;
 pub use set_field::set;

@@ -48,24 +48,26 @@ pub(crate) struct SlotSetting {
     pub(crate) content: SlotContent,
 }
 
-/// How the slot of the field of this number of the plain object at an address is set to a value, by the
-/// cap of its path.
+/// How the slot of the field of this number and representation of the plain object at an address is set to a
+/// value, by the cap of its path.
 #[inline(always)]
 pub(crate) fn setting_of(
     main: &Main,
     object: u32,
     shape: u32,
     slot: u32,
+    was: Rep,
     cap: u32,
     value: Held,
 ) -> SlotSetting
     requires shown { IsShownSetting main.now object value }
     requires there { HasField (heap_of main.now) object shape slot }
+    requires was { let fields = (shape_path main.now.paths shape).fields in
+        option_map (λ field. field.rep) (slice_get fields slot) ≡ Some was }
     requires cap { cap ≡ (shape_path main.now.paths shape).cap }
     ensures { IsSlotSetting (heap_of main.now) object shape slot value result }
 {
     let place = slot_place(main, object, cap, slot);
-    let was = main.shapes().field(shape, slot).rep;
     let rep = was.join(rep_of(value));
     SlotSetting {
         place,
@@ -205,19 +207,24 @@ fn set_as_is(main: &mut Main, object: u32, place: Place, content: SlotContent) -
     Ok(())
 }
 
-/// Gives the field of this number of the plain object at an address the value. Its representation
-/// never narrows, and the object gets another shape where it widens.
+/// Gives the field of this number and representation of the plain object at an address, whose path has this cap,
+/// the value. The representation never narrows, and the object gets another shape where it widens.
 #[inline(always)]
 pub(crate) fn set_by_setting(
     main: &mut Main,
     object: u32,
     header: Header,
     slot: u32,
+    rep: Rep,
+    cap: u32,
     value: Held,
 ) -> Result<(), FieldStop>
     requires shown { IsShownSetting main.old object value }
     requires headed { IsHeaderAt (heap_of main.old) object header }
     requires there { HasField (heap_of main.old) object header.shape slot }
+    requires rep { let fields = (shape_path main.old.paths header.shape).fields in
+        option_map (λ field. field.rep) (slice_get fields slot) ≡ Some rep }
+    requires cap { cap ≡ (shape_path main.old.paths header.shape).cap }
     ensures { (graph : Graph) (plain : PlainObject) (what : Value) (name : ℕ)
         → MainShows main.old graph → IsPlainAt main.old graph object plain
         → IsValueHeld main.old graph value what
@@ -225,8 +232,7 @@ pub(crate) fn set_by_setting(
         → SetsField main.old main.new graph object plain name what result }
 {
     main.addresses_fit();
-    let cap = main.shapes().cap(header.shape);
-    let setting = setting_of(main, object, header.shape, slot, cap, value);
+    let setting = setting_of(main, object, header.shape, slot, rep, cap, value);
     if setting.rep != setting.was {
         return set_wider(main, object, header, slot, setting);
     }

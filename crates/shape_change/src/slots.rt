@@ -11,6 +11,8 @@ ghost use Rattle.heap_model.specs.Slots.{IsFieldWord};
 ghost use Rattle.heap_model.specs.Showing.{ShowsField};
 ghost use Rattle.write_barrier.specs.MutatorState.{heap_of, IsTied, with_variable};
 ghost use Rattle.heap_table.specs.Seats.{heap_words};
+ghost use Rattle.std.specs.Int.{cast_signed, w64};
+ghost use Rattle.handle_roots.specs.declared.held.Held.TheVariants as held;
 ghost use Rattle.handle_roots.specs.Roots.{FitsHeld, with_root};
 ghost use Rattle.shape_change.specs.FieldChanges.{HoldsValue};
 ghost use Rattle.object_cells.specs.CellsAt.{IsQuietWhole, HasPlainSlot, IsCapAt};
@@ -97,9 +99,42 @@ fn hold_tagged(main: &mut Main, variable: u32, word: Word)
     if word.0 % 2 == 0 {
         main.hold_word(variable, word);
     } else {
-        let value = value_of_odd(main, word);
-        main.hold(variable, value);
+        hold_odd(main, variable, word);
     }
+}
+
+/// The same of a word that is no small integer's.
+#[inline(always)]
+fn hold_odd(main: &mut Main, variable: u32, word: Word)
+    requires quiet { main.old.seat.phase ≡ Quiet }
+    requires known { variable < main.old.seat.space.variables }
+    requires class { (class : WordClass) × IsClass class × (word.0 ≡ bits_of class) }
+    requires within { (at : ℕ) → reference_in word.0 ≡ Some at
+        → at + 1 < marks_start main.old.seat.space }
+    ensures held { (class : WordClass) → IsClass class → word.0 ≡ bits_of class →
+        let value = held_of_class (heap_of main.old) class in
+        main.new ≡ with_variable main.old variable value }
+    ensures heap { (class : WordClass) → IsClass class → word.0 ≡ bits_of class →
+        let value = held_of_class (heap_of main.old) class in
+        heap_words main.new.seat ≡ with_root main.old.seat.space (heap_words main.old.seat) variable value }
+    ensures fits { (class : WordClass) → IsClass class → word.0 ≡ bits_of class →
+        FitsHeld (held_of_class (heap_of main.old) class) }
+{
+    let value = value_of_odd(main, word);
+    main.hold(variable, value);
+}
+
+/// Makes a variable hold the integer of a raw word.
+#[cold]
+#[inline(never)]
+fn hold_raw(main: &mut Main, variable: u32, word: u64)
+    requires quiet { main.old.seat.phase ≡ Quiet }
+    requires known { variable < main.old.seat.space.variables }
+    ensures held { main.new ≡ with_variable main.old variable (held.Int (cast_signed w64 word)) }
+    ensures heap { let words = heap_words main.old.seat in
+        heap_words main.new.seat ≡ with_root main.old.seat.space words variable (held.Int (cast_signed w64 word)) }
+{
+    main.hold(variable, Held::Int(word.cast_signed()));
 }
 
 /// Makes a variable hold the value of a field, by its word.
@@ -113,7 +148,7 @@ pub(crate) fn hold_field(main: &mut Main, variable: u32, own: bool, rep: Rep, wo
 {
     main.addresses_fit();
     if is_raw(own, rep) {
-        main.hold(variable, Held::Int(word.cast_signed()));
+        hold_raw(main, variable, word);
     } else {
         hold_tagged(main, variable, Word(word));
     }

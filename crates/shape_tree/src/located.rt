@@ -15,3 +15,14 @@ pub struct Located {
     /// The field's representation.
     pub rep: Rep,
 }
+
+/// What is at hand of a look-up by shape and name.
+#[derive(Clone, Copy)]
+pub enum Recalled {
+    /// The field was found.
+    Field(Located),
+    /// The path has no field of the name.
+    NoField,
+    /// It is to be sought.
+    Unknown,
+}

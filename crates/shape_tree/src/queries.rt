@@ -6,10 +6,11 @@ ghost use Rattle.object_graph.specs.Paths.{prefix_of};
 ghost use Rattle.heap_command.specs.Commands.{cap_most};
 ghost use Rattle.object_graph.specs.Invariants.{IsPath, fields_most};
 ghost use Rattle.shape_tree.specs.Shapes.{AreShapes, IsPathShape, IsShapeOf, shape_path, has_name, IsLocated};
+ghost use Rattle.shape_tree.specs.Recalling.{IsRecalled};
 ghost use Rattle.shape_tree.specs.ShapeLayouts.{IsInUse, layout_of, layout_word};
 ghost use Rattle.shape_tree.specs.Nodes.{IsNodeOf};
 
-use crate::located::Located;
+use crate::located::{Located, Recalled};
 use crate::look_ups::{keep_look_up, look_up_index, place_of};
 use crate::node::Node;
 use crate::tree::{FIRST, ShapeTree};
@@ -146,6 +147,22 @@ impl ShapeTree {
             keep_look_up(&mut self.look_ups, entry, fields, node.cap, shape, name);
         }
         self.look_ups[entry].found()
+    }
+
+    /// What is at hand of the look-up of this name in the path of a shape. Nothing is sought.
+    #[inline(always)]
+    pub fn recall(&self, shape: u32, name: u32) -> Recalled
+        requires { IsPathShape self.now shape }
+        ensures { IsRecalled self.now shape name result }
+    {
+        let look_up = &self.look_ups[look_up_index(shape, name)];
+        if !look_up.is_for(shape, name) {
+            return Recalled::Unknown;
+        }
+        match look_up.found() {
+            Some(found) => Recalled::Field(found),
+            None => Recalled::NoField,
+        }
     }
 
     /// The shape of the path without its last field.

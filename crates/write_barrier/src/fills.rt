@@ -15,6 +15,7 @@ use tagged_word::{Word, odd};
 
 impl Main {
     /// Puts one word at so many addresses from one on. Of these nothing is recorded.
+    #[inline(always)]
     pub(crate) fn fill(&mut self, at: u32, count: u32, word: u64)
         requires quiet { self.old.seat.phase ≡ Quiet }
         requires within { at + count ≤ marks_start self.old.seat.space }
@@ -33,6 +34,7 @@ impl Main {
 
     /// Makes so many words at an address holes. Of these nothing is recorded, since a hole refers to
     /// nothing: so it is as if each was stored in a slot, too.
+    #[inline(always)]
     pub fn fill_holes(&mut self, at: u32, count: u32)
         requires quiet { self.old.seat.phase ≡ Quiet }
         requires within { at + count ≤ marks_start self.old.seat.space }

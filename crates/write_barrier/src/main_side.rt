@@ -8,6 +8,7 @@ ghost use Rattle.tagged_word.specs.Readings.{header_at};
 ghost use Rattle.page_space.specs.Sizes.{AreWithin};
 ghost use Rattle.page_space.specs.Extents.{words_count, marks_start};
 ghost use Rattle.shape_tree.specs.Shapes.{AreShapes, IsPathShape, IsLocated, shape_path, has_name};
+ghost use Rattle.shape_tree.specs.Recalling.{IsRecalled};
 ghost use Rattle.nursery.specs.Young.{IsYoung};
 ghost use Rattle.heap_table.specs.declared.phase.Phase.TheVariants.{Quiet};
 ghost use Rattle.heap_table.specs.Seats.{heap_words};
@@ -20,7 +21,7 @@ use heap_table::MainSeat;
 use nursery::Nursery;
 use page_space::Regions;
 use remembered_set::Remembered;
-use shape_tree::{Located, ShapeTree};
+use shape_tree::{Located, Recalled, ShapeTree};
 use std::marker::Model;
 use tagged_word::Header;
 use word_store::Reads;
@@ -158,6 +159,15 @@ impl Main {
         ensures same { self.new ≡ self.old }
     {
         self.shapes.locate(shape, name)
+    }
+
+    /// What is at hand of the look-up of this name in the path of a shape. Nothing is sought.
+    #[inline(always)]
+    pub fn recall(&self, shape: u32, name: u32) -> Recalled
+        requires { IsPathShape self.now.paths shape }
+        ensures { IsRecalled self.now.paths shape name result }
+    {
+        self.shapes.recall(shape, name)
     }
 
     /// The shapes, and the words before the marks, taken out of the heap. It takes no memory.

@@ -26,6 +26,22 @@ fn hold_in(seat: &mut MainSeat, variable: u32, value: Held)
     handle_roots::hold(&mut paused, &regions, variable, value);
 }
 
+/// The root words of a variable that holds a small integer become those of another one.
+#[inline(always)]
+fn replace_small_in(seat: &mut MainSeat, variable: u32, v: i64)
+    requires quiet { seat.old.phase ≡ Quiet }
+    requires known { variable < seat.old.space.variables }
+    requires was { (was : ℤ) × IsTrue (small was) × Holds seat.old.space seat.old.table variable (Int was) }
+    requires small { IsTrue (small v) }
+    ensures held { let words = with_root seat.old.space seat.old.table variable (Int v) in
+        seat.new ≡ record seat.old { table = words } }
+    ensures holds { Holds seat.old.space seat.new.table variable (Int v) }
+{
+    let regions = seat.regions();
+    let mut paused = seat.paused();
+    handle_roots::replace_small(&mut paused, &regions, variable, v);
+}
+
 /// Both root words of a variable become those of another one.
 fn copy_in(seat: &mut MainSeat, from: u32, to: u32)
     requires quiet { seat.old.phase ≡ Quiet }
@@ -103,6 +119,25 @@ impl Main {
     {
         let regions = self.regions();
         handle_roots::small_by(self, &regions, variable)
+    }
+
+    /// Makes a variable that holds a small integer hold another one. Only its first root word changes.
+    #[inline(always)]
+    pub fn replace_small(&mut self, variable: u32, v: i64)
+        requires quiet { self.old.seat.phase ≡ Quiet }
+        requires known { variable < self.old.seat.space.variables }
+        requires was { let words = heap_words self.old.seat in
+            (was : ℤ) × IsTrue (small was) × Holds self.old.seat.space words variable (Int was) }
+        requires small { IsTrue (small v) }
+        ensures held { self.new ≡ with_variable self.old variable (Int v) }
+        ensures heap { let words = heap_words self.old.seat in
+            heap_words self.new.seat ≡ with_root self.old.seat.space words variable (Int v) }
+        ensures holds { let words = heap_words self.new.seat in
+            Holds self.old.seat.space words variable (Int v) }
+    {
+        // The table has a word for each address.
+        self.addresses_fit();
+        replace_small_in(&mut self.seat, variable, v);
     }
 
     /// Whether a variable is bound to something.

@@ -103,7 +103,7 @@ impl Main {
 
     /// Puts a word at an address before the marks: one that is no slot of a cell. No other word
     /// changes.
-    #[inline]
+    #[inline(always)]
     pub fn write(&mut self, a: u32, word: u64)
         requires quiet { self.old.seat.phase ≡ Quiet }
         requires within { a < marks_start self.old.seat.space }
@@ -116,7 +116,7 @@ impl Main {
     }
 
     /// Puts a word at an offset of a cell, before the marks: in no slot. No other word changes.
-    #[inline]
+    #[inline(always)]
     pub fn write_slot(&mut self, cell: u32, offset: u32, word: u64)
         requires quiet { self.old.seat.phase ≡ Quiet }
         requires within { cell + offset < marks_start self.old.seat.space }
@@ -130,7 +130,7 @@ impl Main {
     }
 
     /// Puts a value in the slot of a cell at an offset. No other word changes.
-    #[inline]
+    #[inline(always)]
     pub fn store(&mut self, cell: u32, offset: u32, value: Word)
         requires quiet { self.old.seat.phase ≡ Quiet }
         requires within { cell + offset < marks_start self.old.seat.space }
@@ -160,7 +160,7 @@ impl Main {
     }
 
     /// Puts the header of a cell at an address. No other word changes.
-    #[inline]
+    #[inline(always)]
     pub fn set_header(&mut self, a: u32, header: Header)
         requires quiet { self.old.seat.phase ≡ Quiet }
         requires within { a < marks_start self.old.seat.space }

@@ -21,11 +21,11 @@ drop_var-requires-clause-shown c = some_lent c.main_mut-in-DropVar.ensures.main 
 pub add_ahead-requires-clause-shown : goal.add_ahead-requires-clause-shown
 add_ahead-requires-clause-shown c = some_lent c.main_mut-in-Add.ensures.main c.requires.shown
 
-pub set-requires-clause-shown : goal.set-requires-clause-shown
-set-requires-clause-shown c = some_lent c.main_mut-in-Set.ensures.main c.requires.shown
+pub set_ahead-requires-clause-shown : goal.set_ahead-requires-clause-shown
+set_ahead-requires-clause-shown c = some_lent c.main_mut-in-Set.ensures.main c.requires.shown
 
-pub get-requires-clause-shown : goal.get-requires-clause-shown
-get-requires-clause-shown c = some_lent c.main_mut-in-Get.ensures.main c.requires.shown
+pub get_ahead-requires-clause-shown : goal.get_ahead-requires-clause-shown
+get_ahead-requires-clause-shown c = some_lent c.main_mut-in-Get.ensures.main c.requires.shown
 
 pub del-requires-clause-shown : goal.del-requires-clause-shown
 del-requires-clause-shown c = some_lent c.main_mut-in-Del.ensures.main c.requires.shown
@@ -142,32 +142,20 @@ returns-in-Add-clause-unchanged c = λ ill.
 pub returns-in-Set-clause-carried : goal.returns-in-Set-clause-carried
 returns-in-Set-clause-carried c = λ well names graph shown made.
     let lent = c.main_mut-in-Set.ensures.main in
-    let carries = c.set.ensures.carried graph names (shows_lent lent shown) in
-    rw c.in-Set.is (tried_well c.set.result (sym c.is_ok-in-Set.ensures.value ∙ well)
-    (tried lent refl refl shown carries))
+    rw c.in-Set.is (tried lent refl refl shown (c.set_ahead.ensures.carried well graph names (shows_lent lent shown)))
 
 pub returns-in-Set-clause-unchanged : goal.returns-in-Set-clause-unchanged
 returns-in-Set-clause-unchanged c = λ ill.
-    let (graph, shown, made) = c.requires.shown in
-    let lent = c.main_mut-in-Set.ensures.main in
-    let carries = c.set.ensures.carried graph [] (shows_lent lent shown) in
-    tried_ill [] c.args.heap.now graph c.args.command.now [] c.set.result (sym c.is_ok-in-Set.ensures.value ∙ ill)
-    (rw c.in-Set.is (tried lent refl refl shown carries))
+    lent_still c.args.heap.now c.main_mut-in-Set.ensures.main (c.set_ahead.ensures.unchanged ill)
 
 pub returns-in-Get-clause-carried : goal.returns-in-Get-clause-carried
 returns-in-Get-clause-carried c = λ well names graph shown made.
     let lent = c.main_mut-in-Get.ensures.main in
-    let carries = c.get.ensures.carried graph names (shows_lent lent shown) in
-    rw c.in-Get.is (tried_well c.get.result (sym c.is_ok-in-Get.ensures.value ∙ well)
-    (tried lent refl refl shown carries))
+    rw c.in-Get.is (tried lent refl refl shown (c.get_ahead.ensures.carried well graph names (shows_lent lent shown)))
 
 pub returns-in-Get-clause-unchanged : goal.returns-in-Get-clause-unchanged
 returns-in-Get-clause-unchanged c = λ ill.
-    let (graph, shown, made) = c.requires.shown in
-    let lent = c.main_mut-in-Get.ensures.main in
-    let carries = c.get.ensures.carried graph [] (shows_lent lent shown) in
-    tried_ill [] c.args.heap.now graph c.args.command.now [] c.get.result (sym c.is_ok-in-Get.ensures.value ∙ ill)
-    (rw c.in-Get.is (tried lent refl refl shown carries))
+    lent_still c.args.heap.now c.main_mut-in-Get.ensures.main (c.get_ahead.ensures.unchanged ill)
 
 pub returns-in-Del-clause-carried : goal.returns-in-Del-clause-carried
 returns-in-Del-clause-carried c = λ well names graph shown made.

@@ -1,109 +1,189 @@
-use Rattle.std.proofs.Common.{◌≡◌, ◌-◌, ◌+◌, ◌∙◌, ◌<◌, [], refl, get_or, append-nil, arith}
+use Rattle.std.proofs.Common.{◌≡◌, ◌-◌, ◌+◌, ◌∙◌, ◌≤◌, ℕ, suc, length, drop, get_or, refl, sym, ap, subst, arith, rules}
+use Rattle.std.proofs.lemmas.List.{length-drop}
+use Rattle.script_text.specs.declared.script.What.TheVariants.{Run}
 use Rattle.object_graph.specs.Run.{lines_most}
 use Rattle.script_text.proofs.Left.{at_most_four}
-use Rattle.write_barrier.specs.MutatorState.{heap_of}
-use Rattle.heap_script.specs.Between.{only}
-use Rattle.heap_script.proofs.Ways.{goes_on, past_end}
-use Rattle.heap_script.proofs.LineCarried.{Running-line, TellsAt-line}
-use Rattle.heap_script.proofs.Passing.{holds_on}
-use Rattle.heap_script.proofs.Retrying.{same_regions}
-use Rattle.heap_script.proofs.running_ahead.run_ahead.Goals.{else-loop-left-test, then-loop-left-test+else-at-lines}
-use Rattle.heap_script.proofs.running_ahead.run_ahead.Goals.{then-loop-left-test+then-at-lines+in_default}
+use Rattle.heap_script.specs.Collecting.{CarriesCommand}
+use Rattle.heap_script.specs.Runs.{OutputHolds}
+use Rattle.heap_script.proofs.Asking.{rest_stays}
+use Rattle.heap_script.proofs.Ways.{past_end}
+use Rattle.heap_script.proofs.Ahead.{IsRest, rest_from, behind_first, some_left, one_less, one_spent}
+use Rattle.heap_script.proofs.Ahead.{none_spent, standing, stays_by, passes_by, makes_none, goes_ahead, within_ahead}
+use Rattle.heap_script.proofs.Ahead.{Running-ahead, holds_ahead, IsRest-ahead}
+use Rattle.heap_script.proofs.Retrying.{Stands, carried_at, same_regions}
+use Rattle.heap_script.proofs.running_ahead.run_ahead.Goals.{else-loop-command-test}
+use Rattle.heap_script.proofs.running_ahead.run_ahead.Goals.{then-loop-command-test+in-Run+then-not-comes_through}
+use Rattle.heap_script.proofs.running_ahead.run_ahead.Goals.{then-loop-command-test+in_default+then-spare-lines}
 use Rattle.heap_script.proofs.running_ahead.run_ahead.Goals as goal
 
-pub loop-left-init : goal.loop-left-init
-loop-left-init c =
+pub loop-command-init : goal.loop-command-init
+loop-command-init c =
     let (taken, start) = c.requires.runs in
-    let script = c.args.script.now in
-    let whole : lines_most - (lines_most - c.args.from.executed) ≡ c.args.from.executed =
-    omega (arith, start.reached.few) in
+    let lines = c.lines-lines.result.now in
+    let at = c.args.from.at in
+    let n = c.args.from.executed in
+    let rest = c.lines_from-rest.result.now in
+    let within : at ≤ length lines = omega (arith, c.if-from-lines.false) in
+    let from = c.lines_from-rest.ensures in
+    let is : IsRest lines rest = subst (IsRest lines) (sym from) (rest_from lines at within) in
+    let long : length rest ≡ length lines - at = ap length from ∙ length-drop at lines in
+    let place : length lines - length rest ≡ at = omega (arith, long, within) in
+    let enough : length rest ≤ lines_most - n = omega (arith, long, c.if-left-lines.false) in
+    let whole = none_spent n (length rest) start.reached.few enough in
     record {
-      running = λ taken start. rw whole start;
-      holds = λ held. rw whole held;
-      most = omega arith;
-      further = omega (arith, start.reached.few);
+      running = λ taken start. standing place whole start;
+      holds = λ held. subst (λ (m : ℕ). OutputHolds c.args.script.now m c.args.out.now) (sym whole) held;
+      most = omega (arith, enough);
+      further = subst (λ (m : ℕ). n ≤ m) (sym whole) (omega arith);
       space = refl;
+      within = is.within;
+      tail = is.tail;
     }
 
-pub passes-requires-clause-shown : goal.passes-requires-clause-shown
-passes-requires-clause-shown c =
+pub comes_through-requires-clause-shown : goal.comes_through-requires-clause-shown
+comes_through-requires-clause-shown c =
     let (taken, start) = c.requires.runs in
-    let r = c.loop-left.invariant.running taken start in
+    let r = c.loop-command.invariant.running taken start in
     (r.reached.so_far.graph, r.shown, r.made)
 
-pub passes-requires-clause-few : goal.passes-requires-clause-few
-passes-requires-clause-few c =
+pub comes_through-requires-clause-few : goal.comes_through-requires-clause-few
+comes_through-requires-clause-few c =
     let (taken, start) = c.requires.runs in
-    let r = c.loop-left.invariant.running taken start in
-    omega (arith, r.few, r.reached.few)
+    let r = c.loop-command.invariant.running taken start in
+    let some = some_left c.loop-command.rest.now (sym c.loop-command-test.ensures) in
+    omega (arith, r.few, some)
 
-pub passes-requires-clause-deep : goal.passes-requires-clause-deep
-passes-requires-clause-deep c =
-    let (taken, start) = c.requires.runs in
-    let r = c.loop-left.invariant.running taken start in
-    let lines = c.lines-lines.result.now in
+pub loop-command-preserved-in-Run : goal.loop-command-preserved-in-Run
+loop-command-preserved-in-Run c =
     let script = c.args.script.now in
-    let goes = goes_on lines script.lines c.loop-left.at c.loop-left.turns _ c.lines-lines.ensures.all c.if-at-lines.true
-    r.left in
-    at_most_four script.lines _ _ _ c.lines-lines.ensures.matched goes.left
-
-pub overflow_sub-left : goal.overflow_sub-left
-overflow_sub-left c =
-    let (taken, start) = c.requires.runs in
-    omega (arith, start.reached.few)
-
-pub loop-left-smaller : goal.loop-left-smaller
-loop-left-smaller c =
-    let (taken, start) = c.requires.runs in
-    let r = c.loop-left.invariant.running taken start in
-    omega (arith, r.reached.few)
-
-pub loop-left-preserved : goal.loop-left-preserved
-loop-left-preserved c =
-    let script = c.args.script.now in
-    let names = script.fields in
-    let out = c.args.out.now in
-    let n = lines_most - c.loop-left.left in
     let lines = c.lines-lines.result.now in
-    let line = get_or lines c.loop-left.at past_end in
-    let heap = c.loop-left.heap in
-    let after = c.passes.new.heap in
-    let ran = c.in-Some.ensures in
+    let same = c.lines-lines.ensures.all in
+    let matched = c.lines-lines.ensures.matched in
+    let rest = c.loop-command.rest.now in
+    let next = c.lines_from-rest-in-Run.result.now in
+    let spare = c.loop-command.spare in
+    let ts = c.loop-command.turns in
+    let heap = c.loop-command.heap in
+    let after = c.comes_through.new.heap in
+    let command = c.in-Run.command in
+    let came = c.if-not-comes_through.ensures in
+    let kept = c.loop-command.invariant in
+    let some = some_left rest (sym c.loop-command-test.ensures) in
+    let is : IsRest lines rest = record { within = kept.within; tail = kept.tail } in
+    let on : next ≡ drop (suc (length lines - length rest)) lines =
+    c.lines_from-rest-in-Run.ensures ∙ behind_first lines rest is in
+    let count = one_less spare rest next some c.lines_from-rest-in-Run.ensures in
     let (taken, start) = c.requires.runs in
-    let r = c.loop-left.invariant.running taken start in
-    let most = c.loop-left.invariant.most in
-    let below : n < lines_most = omega (arith, c.loop-left-test.true, most) in
-    let next : lines_most - (c.loop-left.left - 1) ≡ n + 1 = omega (arith, c.loop-left-test.true, most) in
-    let goes = goes_on lines script.lines c.loop-left.at c.loop-left.turns _ c.lines-lines.ensures.all c.if-at-lines.true
-    r.left in
-    let carries = ran.carried names r.reached.so_far.graph r.shown r.made in
-    let on = Running-line script heap after c.loop-left.objects out (only []) (only taken) c.loop-left.at _
-    c.loop-left.turns _ n line.number _ [] r below goes ran.rest carries in
+    let r = kept.running taken start in
+    let tries = came.carried refl script.fields r.reached.so_far.graph r.shown r.made in
+    let stays = came.rest ∙ sym (rest_stays heap.rest command tries.apart) in
+    let carries = CarriesCommand.apart tries.apart (carried_at (Stands.once refl) r.shown tries) in
+    let made = came.counted refl in
+    let now =
+    Running-ahead spare same matched is some kept.most r after next spare (Run command) c.in-Run.is on count stays
+    carries c.comes_through.new.objects ts made refl in
+    let is_next =
+    IsRest-ahead spare same matched is some kept.most r after next spare (Run command) c.in-Run.is on count stays
+    carries in
     record {
       running = λ all first.
-          let q = c.loop-left.invariant.running all first in
-          let way = goes_on lines script.lines c.loop-left.at c.loop-left.turns _ c.lines-lines.ensures.all
-          c.if-at-lines.true q.left in
-          let does = ran.carried names q.reached.so_far.graph q.shown q.made in
-          rw (next, ran.place, ran.turned, ran.counted, ← append-nil out)
-          (Running-line script heap after c.loop-left.objects out (only []) (only all) c.loop-left.at _
-          c.loop-left.turns _ n line.number _ [] q below way ran.rest does);
+          let q = kept.running all first in
+          let does = came.carried refl script.fields q.reached.so_far.graph q.shown q.made in
+          Running-ahead spare same matched is some kept.most q after next spare (Run command) c.in-Run.is on count stays
+          (CarriesCommand.apart does.apart (carried_at (Stands.once refl) q.shown does)) c.comes_through.new.objects ts
+          made refl;
       holds = λ held.
-          rw (next, ← append-nil out)
-          (holds_on n out [] (c.if-is_full.ensures refl) (c.loop-left.invariant.holds held)
-          (TellsAt-line script (heap_of heap.main) _ _ _ _ n line.number _ [] _ r.reached goes carries));
-      most = omega (arith, most);
-      further = omega (arith, c.loop-left.invariant.further, most);
-      space = same_regions heap after r.shown on.shown ran.rest ∙ c.loop-left.invariant.space;
+          holds_ahead spare same matched is some kept.most r after next spare (Run command) c.in-Run.is on count stays
+          carries (c.if-is_full.ensures refl) (kept.holds held);
+      most = omega (arith, count, kept.most);
+      further = omega (arith, count, kept.most, kept.further);
+      space = same_regions heap after r.shown now.shown stays ∙ kept.space;
+      within = is_next.within;
+      tail = is_next.tail;
+    }
+
+pub next-requires : goal.next-requires
+next-requires c =
+    let script = c.args.script.now in
+    let lines = c.lines-lines.result.now in
+    let matched = c.lines-lines.ensures.matched in
+    let rest = c.loop-command.rest.now in
+    let kept = c.loop-command.invariant in
+    let some = some_left rest (sym c.loop-command-test.ensures) in
+    let is : IsRest lines rest = record { within = kept.within; tail = kept.tail } in
+    let (taken, start) = c.requires.runs in
+    let r = kept.running taken start in
+    let goes =
+    goes_ahead c.loop-command.spare c.lines-lines.ensures.all matched is some kept.most r
+    (get_or rest 0 past_end).what refl in
+    record { small = search rules; deep = at_most_four script.lines _ _ _ matched goes.left }
+
+pub lines_from-next-requires : goal.lines_from-next-requires
+lines_from-next-requires c =
+    let lines = c.lines-lines.result.now in
+    let rest = c.loop-command.rest.now in
+    let kept = c.loop-command.invariant in
+    let some = some_left rest (sym c.loop-command-test.ensures) in
+    let is : IsRest lines rest = record { within = kept.within; tail = kept.tail } in
+    let (taken, start) = c.requires.runs in
+    let r = kept.running taken start in
+    let within =
+    within_ahead c.loop-command.spare c.lines-lines.ensures.all c.lines-lines.ensures.matched is some kept.most r
+    (get_or rest 0 past_end).what refl in
+    record { within = subst (λ (n : ℕ). n ≤ length lines) (sym c.next.ensures.place) within }
+
+pub loop-command-preserved : goal.loop-command-preserved
+loop-command-preserved c =
+    let script = c.args.script.now in
+    let lines = c.lines-lines.result.now in
+    let same = c.lines-lines.ensures.all in
+    let matched = c.lines-lines.ensures.matched in
+    let rest = c.loop-command.rest.now in
+    let next = c.lines_from-next.result.now in
+    let spare = c.loop-command.spare in
+    let heap = c.loop-command.heap in
+    let objects = c.loop-command.objects in
+    let kept = c.loop-command.invariant in
+    let what = (get_or rest 0 past_end).what in
+    let none = c.in_default.not-Run in
+    let some = some_left rest (sym c.loop-command-test.ensures) in
+    let is : IsRest lines rest = record { within = kept.within; tail = kept.tail } in
+    let on = c.lines_from-next.ensures ∙ ap (λ (n : ℕ). drop n lines) c.next.ensures.place in
+    let long : length next ≤ length lines =
+    omega (arith, ap length c.lines_from-next.ensures, length-drop c.next.result lines) in
+    let enough : length lines ≤ spare = omega (arith, c.if-spare-lines.false) in
+    let left = spare + length rest - 1 - length next in
+    let count : left + length next + 1 ≡ spare + length rest =
+    one_spent spare (length lines) (length rest) (length next) enough long some in
+    let stays = stays_by heap.rest what none in
+    let (taken, start) = c.requires.runs in
+    let r = kept.running taken start in
+    let carries = passes_by script.fields heap.rest.in_cycle heap.main r.reached.so_far.graph what none in
+    let is_next =
+    IsRest-ahead spare same matched is some kept.most r heap next left what refl on count stays carries in
+    record {
+      running = λ all first.
+          let q = kept.running all first in
+          Running-ahead spare same matched is some kept.most q heap next left what refl on count stays
+          (passes_by script.fields heap.rest.in_cycle heap.main q.reached.so_far.graph what none) objects
+          c.next.new.self (makes_none objects what none) c.next.ensures.turns;
+      holds = λ held.
+          holds_ahead spare same matched is some kept.most r heap next left what refl on count stays carries
+          (c.if-is_full.ensures refl) (kept.holds held);
+      most = omega (arith, count, kept.most);
+      further = omega (arith, count, kept.most, kept.further);
+      space = kept.space;
+      within = is_next.within;
+      tail = is_next.tail;
     }
 
 pub returns-clause-runs : goal.returns-clause-runs
 returns-clause-runs c taken start =
-    let running = c.loop-left.invariant.running taken start in
-    elim c.loop-left-test.branch [
-      | else-loop-left-test w ↦ rw (w.heap-is, w.objects-is, w.turns-is) running
-      | then-loop-left-test+else-at-lines w ↦ rw (w.heap-is, w.objects-is, w.turns-is) running
-      | then-loop-left-test+then-at-lines+in_default w ↦
-          let same = w.in_default.ensures in
-          rw (w.heap-is, w.objects-is, w.turns-is, same.unchanged, same.uncounted, same.unturned) running
+    let running = c.loop-command.invariant.running taken start in
+    elim c.loop-command-test.branch [
+      | else-loop-command-test w ↦ rw (w.heap-is, w.objects-is) running
+      | then-loop-command-test+in-Run+then-not-comes_through w ↦
+          let same = w.if-not-comes_through.ensures in
+          rw (w.heap-is, w.objects-is, same.unchanged refl, same.uncounted refl) running
+      | then-loop-command-test+in_default+then-spare-lines w ↦ rw (w.heap-is, w.objects-is) running
     ]

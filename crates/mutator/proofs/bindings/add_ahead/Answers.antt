@@ -18,9 +18,10 @@ returns-in-Some c = record {
       let x = c.args.x in
       let total = c.in-Some.sum in
       let fits : SFits w64 total = search rules in
-      let P : Held → Type 0 = λ one. HoldsAnew c.args.main.now c.hold.new.self x one in
+      let P : Held → Type 0 = λ one. HoldsAnew c.args.main.now c.replace_small.new.self x one in
       let holds = subst P (ap (λ v. held.Int v) (to_z-of_z w64 total fits))
-      (holds_after x _ c.small_sum.ensures.same (record { held = c.hold.ensures.held; heap = c.hold.ensures.heap })) in
+      (holds_after x _ c.small_sum.ensures.same
+      (record { held = c.replace_small.ensures.held; heap = c.replace_small.ensures.heap })) in
       value_carried names x (held.Int total) refl shows (c.in-Some.ensures.found graph names shows) refl tt
       c.requires.within.0 fits (ShowsHeld.integer total) holds (λ rooms. (refl, λ number. refl));
   unchanged = λ ill. absurd (cc);
@@ -34,7 +35,7 @@ pub returns-in-None-clause-carried : goal.returns-in-None-clause-carried
 returns-in-None-clause-carried c well graph names shows =
     let same = c.in-None.ensures.same in
     let after = c.add_any.new.main in
-    subst (λ (main : Mutator). Carries names main after graph (Add c.args.x c.args.v) [] (Ok tt)) same
+    subst (λ (main : Mutator). Carries names main after graph (Add c.args.x c.args.v.now) [] (Ok tt)) same
     (c.add_any.ensures.carried well graph names (shows_still same shows))
 
 pub returns-in-None-clause-faulted : goal.returns-in-None-clause-faulted
@@ -43,5 +44,6 @@ returns-in-None-clause-faulted c ill graph names shows =
     let after = c.add_any.new.main in
     let (word, is) = c.add_any.ensures.faulted ill graph names (shows_still same shows) in (
       word,
-      subst (λ (main : Mutator). Carries names main after graph (Add c.args.x c.args.v) [] (Err (Fault word))) same is,
+      subst (λ (main : Mutator). Carries names main after graph (Add c.args.x c.args.v.now) [] (Err (Fault word)))
+          same is,
     )

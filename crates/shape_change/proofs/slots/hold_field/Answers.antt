@@ -1,11 +1,11 @@
 -- A variable holds what a field's word stands for, by its representation.
-use Rattle.std.proofs.Common.{ap, ◌∙◌}
-use Rattle.std.specs.Int.{w64, cast_signed, cast_unsigned}
+use Rattle.std.proofs.Common.{rules, refl}
+use Rattle.std.specs.Int.{w64, cast_signed}
 use Rattle.handle_roots.specs.declared.held.Held.TheVariants as held
 use Rattle.heap_model.proofs.SlotWords.{field_is_slot}
 use Rattle.write_barrier.specs.MutatorState.{heap_of}
 use Rattle.write_barrier.specs.Values.{held_of_class}
-use Rattle.object_cells.proofs.WordsTold.{raw_field_told, raw_back, slot_within}
+use Rattle.object_cells.proofs.WordsTold.{raw_field_told, slot_within}
 use Rattle.shape_change.proofs.HeldFields.{slot_class, field_by_class}
 use Rattle.shape_change.proofs.slots.hold_field.Goals as goal
 
@@ -24,14 +24,13 @@ hold_tagged-requires-clause-within c = λ at refers.
 pub returns-then-is_raw : goal.returns-then-is_raw
 returns-then-is_raw c value shows =
     let raw = c.is_raw.ensures.raw c.if-is_raw.true in
+    let value_of = held.Int (cast_signed w64 c.args.word) in
     record {
-      held = held.Int (cast_signed w64 (cast_unsigned w64 c.cast_signed.result));
-      shows = raw_field_told c.args.word _ c.args.rep value raw.0 raw.1
-          (ap (λ n. held.Int (cast_signed w64 (cast_unsigned w64 n))) c.cast_signed.ensures
-          ∙ ap (λ n. held.Int n) (raw_back c.args.word c.ranges.word)) shows;
-      fits = c.hold.ensures.holds.fits;
-      is = c.hold.ensures.held;
-      heap = c.hold.ensures.heap;
+      held = value_of;
+      shows = raw_field_told c.args.word value_of c.args.rep value raw.0 raw.1 refl shows;
+      fits = search rules;
+      is = c.hold_raw.ensures.held;
+      heap = c.hold_raw.ensures.heap;
     }
 
 pub returns-else-is_raw : goal.returns-else-is_raw
