@@ -42,7 +42,7 @@ integer_shown v None shows = absurd (shows_by_kind (held.Int v) None shows)
 integer_shown v (Some value) shows = ap (λ one. Some one) (holds_integer (held.Int v) v value refl shows)
 
 -- the integer of a variable is the one that it holds
-pub integer_held : {main : Mutator} {graph : Graph} (x : ℕ) (v : ℤ) → MainShows main graph
+integer_held : {main : Mutator} {graph : Graph} (x : ℕ) (v : ℤ) → MainShows main graph
     → x < main.seat.space.variables → Holds main.seat.space (heap_words main.seat) x (held.Int v)
     → option_and_then integer_in (get graph.bindings x) ≡ Some v
 integer_held {graph = graph} x v shows known holds =

@@ -1,13 +1,12 @@
 //! The commands `let`, `drop` and `add`, on what variables are bound to. How a variable is bound to
 //! a field is said in `fields.rt`, and to a new object in `making.rt`.
 ghost use Rattle.std.specs.Prelude.{◌≡◌, ℕ, ℤ, false, List, [], Ok, Err, Some, OnOk, IsTrue, IfSome};
-ghost use Rattle.std.specs.Prelude.{option_and_then};
 ghost use Rattle.tagged_word.specs.Words.{small};
-ghost use Rattle.heap_command.specs.Commands.{IsWithin, NamesBelow};
+ghost use Rattle.heap_command.specs.Commands.{IsWithin};
 ghost use Rattle.heap_table.specs.Seats.{heap_words};
 ghost use Rattle.handle_roots.specs.declared.held.Held.TheVariants.{Int};
 ghost use Rattle.handle_roots.specs.Roots.{Holds};
-ghost use Rattle.object_graph.specs.Graphs.{Graph, value_of, integer_in};
+ghost use Rattle.object_graph.specs.Graphs.{Graph};
 ghost use Rattle.write_barrier.specs.MutatorState.{MainShows};
 ghost use Rattle.mutator.specs.Binding.{Binds};
 ghost use Rattle.mutator.specs.Reading.{FindsSum};
@@ -105,8 +104,7 @@ pub fn add_ahead(main: &mut Main, x: u32, v: &Operand) -> bool
 }
 
 /// The same, whatever the integers are.
-#[cold]
-#[inline(never)]
+#[inline(always)]
 fn add_any(main: &mut Main, x: u32, v: &Operand) -> bool
     requires shown { (graph : Graph) × MainShows main.old graph }
     requires within { IsWithin main.old.seat.space.variables field_numbers (Command.Add x v.now) }
@@ -125,8 +123,7 @@ fn add_any(main: &mut Main, x: u32, v: &Operand) -> bool
     }
 }
 
-/// The sum of the small integer that `x` holds and the value, if `x` holds one and the sum is small too. It is not
-/// sought where the value is that of a variable which holds another integer.
+/// The sum of the small integer that `x` holds and the value, if `x` holds one and the sum is small too.
 #[inline(always)]
 fn small_sum(main: &mut Main, x: u32, v: &Operand) -> Option<i64>
     requires shown { (graph : Graph) × MainShows main.old graph }
@@ -137,30 +134,11 @@ fn small_sum(main: &mut Main, x: u32, v: &Operand) -> Option<i64>
         × Holds main.old.seat.space (heap_words main.old.seat) x (Int was))) }
     ensures same { main.new ≡ main.old }
 {
-    // The value comes first: what is told of the other word is known where it is put.
-    let second = small_of(main, v)?;
     let first = main.small(x)?;
+    let second = integer_of(main, *v)?;
     // Beside a small integer, 64 bits that stand for a small one are those of the sum: one test serves for both.
     let sum = first.wrapping_add(second);
     if is_small(sum) { Some(sum) } else { None }
-}
-
-/// The integer that the operand stands for, if it is written there, or is small.
-#[inline(always)]
-fn small_of(main: &mut Main, v: &Operand) -> Option<i64>
-    requires shown { (graph : Graph) × MainShows main.old graph }
-    requires within { NamesBelow main.old.seat.space.variables v.now }
-    ensures found { IfSome result (λ integer. (graph : Graph) → MainShows main.old graph →
-        option_and_then integer_in (value_of graph v.now) ≡ Some integer) }
-    ensures same { main.new ≡ main.old }
-{
-    if let Operand::Int(v) = v {
-        return Some(*v);
-    }
-    match v {
-        Operand::Var(y) => main.small(*y),
-        Operand::Int(_) | Operand::Undefined => None,
-    }
 }
 
 /// The sum of the integer that `x` holds and the value, if both are integers and it has 64 bits.
