@@ -6,8 +6,8 @@ ghost use Rattle.handle_roots.specs.declared.held.Held.TheVariants as held;
 ghost use Rattle.handle_roots.specs.Roots.{FitsHeld, first_word};
 ghost use Rattle.handle_roots.specs.Givens.{Gives, has_slot_word};
 
+use crate::first_words::held_by_first;
 use crate::held::Held;
-use crate::roots::held_by_first;
 use tagged_word::{Word, odd};
 
 /// What a variable holds, or an operand stands for: by the word that a slot has for it, where a slot has one.

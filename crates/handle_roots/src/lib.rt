@@ -5,6 +5,7 @@
 //! Invariant: none. Each call works on any words that a crate above has.
 #![tactic(auto)]
 
+mod first_words;
 mod given;
 mod held;
 mod laws;
@@ -13,4 +14,7 @@ mod roots;
 pub use given::Given;
 pub use held::Held;
 pub use laws::laws_of_roots;
-pub use roots::{copy, given_by, held_by, hold, is_bound, referred, replace_small, small_by};
+pub use roots::{
+    copy, given_by, held_by, hold, is_bound, referred, replace_small, replace_wide, small_by,
+    small_word_by, wide_by,
+};

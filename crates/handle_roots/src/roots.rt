@@ -1,19 +1,18 @@
 //! What the variables hold, read off their root words and written to them.
 ghost use Rattle.std.specs.Prelude.{◌≡◌, ◌≢◌, ◌↔◌, ◌+◌, ◌<◌, ◌≤◌, ℕ, ℤ, length, slice_set};
-ghost use Rattle.std.specs.Prelude.{IsTrue, IfSome, IsNone};
+ghost use Rattle.std.specs.Prelude.{IsTrue, IfSome, IsNone, false};
 ghost use Rattle.page_space.specs.Extents.{layouts_start};
 ghost use Rattle.handle_roots.specs.declared.held.Held.{Held};
 ghost use Rattle.handle_roots.specs.declared.held.Held.TheVariants.{Unbound, Int, Ref};
-ghost use Rattle.handle_roots.specs.Roots.{root_at, FitsHeld, first_of, second_of, first_word};
-ghost use Rattle.handle_roots.specs.Roots.{second_word, Holds, IsRoot, with_root};
+ghost use Rattle.handle_roots.specs.Roots.{root_at, Holds, IsRoot, with_root};
 ghost use Rattle.tagged_word.specs.Words.{small};
-ghost use Rattle.handle_roots.specs.RootDecoding.{decoded, decoded_by};
-ghost use Rattle.handle_roots.specs.Givens.{GivesHeld};
+ghost use Rattle.handle_roots.specs.Givens.{Gives, GivesHeld};
 
+use crate::first_words::{held_by_first, referred_by_first, small_by_first};
 use crate::given::{Given, is_slot_word};
 use crate::held::Held;
 use page_space::Regions;
-use tagged_word::{Class, Word, odd};
+use tagged_word::{Word, odd};
 use word_store::{Reads, Words};
 
 /// What a variable holds. Only an integer that is not small makes it load the second root word.
@@ -114,6 +113,61 @@ pub fn replace_small<W: Words>(words: &mut W, regions: &Regions, variable: u32, 
     words.put(regions.root_at(variable), word.0);
 }
 
+/// The integer that a variable holds in its second root word, if it holds one there.
+#[inline(always)]
+pub fn wide_by<W: Reads>(words: &mut W, regions: &Regions, variable: u32) -> Option<i64>
+    requires known { variable < regions.now.variables }
+    requires steady { W.IsSteady words.old }
+    requires root { IsRoot regions.now (W.words words.old) variable }
+    ensures holds { IfSome result (λ v. (small v ≡ false) × Holds regions.now (W.words words.old) variable (Int v)) }
+    ensures none { IsNone result → (v : ℤ) → small v ≡ false →
+        ¬ Holds regions.now (W.words words.old) variable (Int v) }
+    ensures kept { W.words words.new ≡ W.words words.old }
+    ensures rest { W.Rest words.old words.new }
+{
+    if words.load(regions.root_at(variable)) != Word::odd(odd::WIDE).0 {
+        return None;
+    }
+    Some(words.load(second_at(regions, variable)).cast_signed())
+}
+
+/// The word of the small integer that a variable holds, if it holds one.
+#[inline(always)]
+pub fn small_word_by<W: Reads>(words: &mut W, regions: &Regions, variable: u32) -> Option<Word>
+    requires known { variable < regions.now.variables }
+    requires steady { W.IsSteady words.old }
+    requires root { IsRoot regions.now (W.words words.old) variable }
+    ensures holds { IfSome result (λ word. (v : ℤ) × IsTrue (small v) × Gives (Given.Word word) (Int v)
+        × Holds regions.now (W.words words.old) variable (Int v)) }
+    ensures none { IsNone result → (v : ℤ) → IsTrue (small v) →
+        ¬ Holds regions.now (W.words words.old) variable (Int v) }
+    ensures kept { W.words words.new ≡ W.words words.old }
+    ensures rest { W.Rest words.old words.new }
+{
+    let word = words.load(regions.root_at(variable));
+    if word % 2 == 0 {
+        Some(Word(word))
+    } else {
+        None
+    }
+}
+
+/// Makes a variable that holds an integer in its second root word hold another one there. Its first says so already,
+/// and only the second is put.
+#[inline(always)]
+pub fn replace_wide<W: Words>(words: &mut W, regions: &Regions, variable: u32, v: i64)
+    requires known { variable < regions.now.variables }
+    requires steady { W.IsSteady words.old }
+    requires within { layouts_start regions.now ≤ length (W.words words.old) }
+    requires was { (was : ℤ) × (small was ≡ false) × Holds regions.now (W.words words.old) variable (Int was) }
+    requires wide { small v ≡ false }
+    ensures put { W.words words.new ≡ with_root regions.now (W.words words.old) variable (Int v) }
+    ensures holds { Holds regions.now (W.words words.new) variable (Int v) }
+    ensures rest { W.Rest words.old words.new }
+{
+    words.put(second_at(regions, variable), v.cast_unsigned());
+}
+
 /// Makes a variable hold what another one holds: both of its root words are copied.
 #[inline(always)]
 pub fn copy<W: Words>(words: &mut W, regions: &Regions, from: u32, to: u32)
@@ -208,54 +262,4 @@ fn second_at(regions: &Regions, variable: u32) -> u32
     // No address of a heap is past 32 bits.
     let _words_count = regions.count();
     regions.root_at(variable) + 1
-}
-
-/// What a first root word tells by itself; none where the integer is in the second.
-#[inline(always)]
-pub(crate) fn held_by_first(word: u64) -> Option<Held>
-    requires { (held : Held) × FitsHeld held × (word ≡ first_word held) }
-    ensures { (held : Held) → FitsHeld held → word ≡ first_word held → result ≡ decoded held }
-{
-    held_by_class(Word(word).known_class())
-}
-
-/// What the class of a first root word tells.
-#[inline(always)]
-fn held_by_class(class: Class) -> Option<Held>
-    ensures { result ≡ decoded_by class }
-{
-    match class {
-        Class::Small(v) => Some(Held::Int(v as i64)),
-        Class::Ref(at) => Some(Held::Ref(at)),
-        Class::Odd(odd::UNDEFINED) => Some(Held::Undefined),
-        Class::Odd(odd::UNBOUND) => Some(Held::Unbound),
-        Class::Odd(_) => None,
-    }
-}
-
-/// The small integer of a first root word, if it is that of one.
-#[inline(always)]
-fn small_by_first(word: u64) -> Option<i64>
-    requires { (held : Held) × FitsHeld held × (word ≡ first_word held) }
-    ensures holds { (held : Held) → FitsHeld held → word ≡ first_word held →
-        IfSome result (λ v. IsTrue (small v) × (held ≡ Int v)) }
-    ensures none { IsNone result → (v : ℤ) → IsTrue (small v) → FitsHeld (Int v) → word ≢ first_word (Int v) }
-{
-    // The lowest bit tells it, and the whole word halved is the integer.
-    if word % 2 == 0 {
-        Some(word.cast_signed() / 2)
-    } else {
-        None
-    }
-}
-
-/// The address that a first root word refers to, if it is that of a reference.
-#[inline(always)]
-fn referred_by_first(word: u64) -> Option<u32>
-    requires { (held : Held) × FitsHeld held × (word ≡ first_word held) }
-    ensures refers { (held : Held) → FitsHeld held → word ≡ first_word held →
-        IfSome result (λ at. held ≡ Ref at) }
-    ensures none { IsNone result → (at : ℕ) → word ≢ first_word (Ref at) }
-{
-    Word(word).address()
 }

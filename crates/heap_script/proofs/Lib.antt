@@ -15,6 +15,8 @@ mod Collected
 mod LineCarried
 mod Passing
 mod Ahead
+mod CommandAhead
+mod JumpAhead
 mod Ending
 mod Finishing
 mod Judging

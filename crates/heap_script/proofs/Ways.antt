@@ -12,7 +12,7 @@ use Rattle.script_text.specs.Sound.{IsMatched, what_at}
 use Rattle.script_text.specs.Unrolled.{executed}
 use Rattle.script_text.specs.Left.{IsLeft, Goes}
 use Rattle.script_text.proofs.Left.{past_command, into_block, past_block, back, out, inside_block}
-use Rattle.heap_script.specs.LoopCounters.{standing_after}
+use Rattle.heap_script.specs.LoopCounters.{standing_after, IsInside}
 use Rattle.heap_script.specs.Progress.{command_in}
 
 -- a line, by its parts
@@ -50,6 +50,22 @@ pub goes_on : (lines all : List Line) (at : ℕ) (ts : List ℕ) (left : List Ex
 goes_on lines all at ts left same within is =
     let line = get_or lines at past_end in
     goes-by all at ts left line.number line.what is (here lines all at same within)
+
+-- an `end` stands in an open block
+inside-by : (lines : List Line) (at : ℕ) (ts : List ℕ) (left : List Executed) (number : ℕ) (what : What)
+    → IsLeft lines at ts left → slice_get lines at ≡ Some (line_by number what) → IsInside ts what
+inside-by lines at ts left number (Run command) is here = tt
+inside-by lines at ts left number (Repeat times end_at) is here = tt
+inside-by lines at [] left number (End repeat_at) is here =
+    absurd (inside_block lines at left number repeat_at is here)
+inside-by lines at (turns ∷ ts) left number (End repeat_at) is here = omega arith
+
+-- so does the line that an index reads, if it is one
+pub is_inside : (lines all : List Line) (at : ℕ) (ts : List ℕ) (left : List Executed) → lines ≡ all → at < length lines
+    → IsLeft all at ts left → IsInside ts (get_or lines at past_end).what
+is_inside lines all at ts left same within is =
+    let line = get_or lines at past_end in
+    inside-by all at ts left line.number line.what is (here lines all at same within)
 
 -- what the line that stands at a place does
 stands : (lines : List Line) (at number : ℕ) (what : What) → slice_get lines at ≡ Some (line_by number what)

@@ -1,15 +1,20 @@
 -- What holds of a run between two of its lines.
-use Rattle.std.specs.Prelude.{◌≡◌, ℕ, ◌≤◌, true, List, length}
+use Rattle.std.specs.Prelude.{◌≡◌, ℕ, ◌+◌, ◌-◌, ◌≤◌, true, List, [], length, drop, Some, None}
+use Rattle.object_graph.specs.Run.{lines_most}
+use Rattle.script_text.specs.declared.script.Line.{Line}
+use Rattle.script_text.specs.declared.script.What.{What}
 use Rattle.script_text.specs.Scripts.{ScriptText}
+use Rattle.script_text.specs.Sound.{IsNumbered, IsMatched, what_at}
 use Rattle.script_text.specs.Left.{IsLeft}
 use Rattle.nursery.specs.Young.{in_eden}
+use Rattle.mutator.specs.CarriesOut.{field_numbers}
 use Rattle.write_barrier.specs.MutatorState.{heap_of}
 use Rattle.collector.specs.States.{HeapState, HeapShows}
 use Rattle.heap_script.specs.Cycles.{is_in_cycle}
-use Rattle.heap_script.specs.Stages.{Collections, stage_of}
+use Rattle.heap_script.specs.Stages.{Collections, uncollected, stage_of}
 use Rattle.heap_script.specs.Reached.{left_after, RanTo}
 use Rattle.heap_script.specs.Spending.{Spends}
-use Rattle.heap_script.specs.Progress.{Handed}
+use Rattle.heap_script.specs.Progress.{Handed, command_in}
 
 -- Between two lines: the lines that are left are those from this place on with these turns left, what was told was
 -- handed on or waits, the objects are counted, the words that were spent are those that the lines need, the heap was so
@@ -29,3 +34,25 @@ pub record Running (script : ScriptText) (heap : HeapState) (objects : ℕ) (wai
 -- these bytes were taken, and no other
 abbrev pub only : List ℕ → List ℕ → Type 0
 only bytes taken = taken ≡ bytes
+
+-- these are the last of some lines
+pub record IsRest (lines rest : List Line) : Type 0 where
+  pub within : length rest ≤ length lines
+  pub tail : rest ≡ drop (length lines - length rest) lines
+
+-- Lines are executed ahead: between two of them the last of the script's lines are left, from the place of the run on,
+-- and so many more may be executed than they are. Nothing is handed on.
+pub record RunsAhead (script : ScriptText) (heap : HeapState) (objects : ℕ) (out taken ts : List ℕ) (rest : List Line)
+    (spare : ℕ) : Type 0 where
+  pub numbered : IsNumbered script
+  pub matched : IsMatched script.lines
+  pub fields : length script.fields ≤ field_numbers
+  pub is : IsRest script.lines rest
+  pub most : spare + length rest ≤ lines_most
+  pub running : Running script heap objects out (only []) (only taken) (length script.lines - length rest) ts
+      (lines_most - (spare + length rest)) uncollected
+
+-- the first of these lines does this, which is no command
+pub record Begins (rest : List Line) (what : What) : Type 0 where
+  pub first : what_at rest 0 ≡ Some what
+  pub none : command_in what ≡ None

@@ -1,5 +1,5 @@
 -- Where a run goes on after a `repeat` or an `end`.
-use Rattle.std.specs.Prelude.{ℕ, suc, zero, List, [], ◌∷◌}
+use Rattle.std.specs.Prelude.{ℕ, suc, zero, ◌≤◌, List, [], ◌∷◌, length}
 use Rattle.script_text.specs.declared.script.What.{What}
 use Rattle.script_text.specs.declared.script.What.TheVariants.{Run, Repeat, End}
 
@@ -25,3 +25,8 @@ abbrev pub standing_after : ℕ → List ℕ → What → Standing
 standing_after at turns (Run command) = record { at = suc at; turns = turns }
 standing_after at turns (Repeat times end_at) = opened at turns times end_at
 standing_after at turns (End repeat_at) = closed at turns repeat_at
+
+-- an `end` stands in an open block
+abbrev pub IsInside : List ℕ → What → Type 0
+IsInside turns (End repeat_at) = 1 ≤ length turns
+IsInside turns _ = Unit {0}

@@ -14,7 +14,7 @@ ghost use Rattle.heap_script.specs.Collecting.{Tries, CarriesAtLast};
 ghost use Rattle.heap_script.specs.Cycles.{asks_collector, cycle_after_line};
 ghost use Rattle.heap_script.specs.Progress.{objects_made, made_by, command_in};
 ghost use Rattle.heap_script.specs.Progress.{CarriesLine, outcome_of};
-ghost use Rattle.heap_script.specs.LoopCounters.{standing_after};
+ghost use Rattle.heap_script.specs.LoopCounters.{standing_after, IsInside};
 
 use crate::collecting::{asks_collector, collect_as_asked};
 use crate::loop_counters::LoopCounters;
@@ -42,6 +42,7 @@ pub(crate) fn execute_line(
     requires short { AreShort script.now.fields }
     requires room { length out.old + ROOM ≤ OUTPUT_BYTES }
     requires small { at < 2 ^ 63 }
+    requires inside { IsInside turns.old what.now }
     requires deep { length (standing_after at turns.old what.now).turns ≤ open_most }
     ensures carried { (graph : Graph) → HeapShows heap.old graph →
         objects.old ≡ length graph.objects → (text : List ℕ)

@@ -2,7 +2,7 @@
 //! is the order of execution is kept in `interpreter`.
 ghost use Rattle.std.specs.Prelude.{◌≡◌, ◌<◌, ◌≤◌, ◌^◌, [], ◌∷◌, length, drop};
 ghost use Rattle.script_text.specs.Limits.{open_most};
-ghost use Rattle.heap_script.specs.LoopCounters.{standing_after, closed};
+ghost use Rattle.heap_script.specs.LoopCounters.{standing_after, closed, IsInside};
 
 use script_text::What;
 use std::marker::Model;
@@ -42,35 +42,31 @@ impl LoopCounters {
     #[inline(always)]
     pub(crate) fn next(&mut self, at: usize, what: &What) -> usize
         requires small { at < 2 ^ 63 }
+        requires inside { IsInside self.old what.now }
         requires deep { length (standing_after at self.old what.now).turns ≤ open_most }
         ensures place { result ≡ (standing_after at self.old what.now).at }
         ensures turns { self.new ≡ (standing_after at self.old what.now).turns }
     {
-        // Read before a `repeat` is told from an `end`, and wanted for both: so a command, which most lines are, is
-        // told from the two by one test.
-        let blocks = self.open;
         match *what {
             What::Run(_) => at + 1,
             What::Repeat { times: 0, end_at } => end_at as usize + 1,
             What::Repeat { times, .. } => {
-                self.enter(blocks, times - 1);
+                self.enter(times - 1);
                 at + 1
             }
-            What::End { .. } if blocks == 0 => at + 1,
             What::End { repeat_at } => self.end(at, repeat_at),
         }
     }
 
-    /// One block more than these is open, with so many turns left.
+    /// One block more is open, with so many turns left.
     #[inline(never)]
-    fn enter(&mut self, blocks: usize, turns: u32)
-        requires all { blocks ≡ length self.old }
-        requires room { blocks < 4 }
+    fn enter(&mut self, turns: u32)
+        requires { length self.old < 4 }
         ensures { self.new ≡ turns ∷ self.old }
     {
         let [first, second, third, _] = self.left;
         self.left = [turns, first, second, third];
-        self.open = blocks + 1;
+        self.open += 1;
     }
 
     /// Where the run goes on after the `end` at this place, of the `repeat` at the other.

@@ -1,15 +1,17 @@
 //! Lines that are executed ahead of the next one that collects the heap, writes or does not come through: the short
 //! path of a run. What stops here changes nothing, and is executed by `execute`, which knows why.
-ghost use Rattle.std.specs.Prelude.{◌≡◌, ◌+◌, ◌<◌, ◌≤◌, ℕ, List, [], length, drop, false, is_ok, Ok, IsTrue};
+ghost use Rattle.std.specs.Prelude.{◌≡◌, ◌+◌, ◌-◌, ◌<◌, ◌≤◌, ℕ, List, [], length, drop, false, is_ok, Ok};
+ghost use Rattle.std.specs.Prelude.{IsTrue, IfSome};
 ghost use Rattle.object_graph.specs.Graphs.{Graph};
 ghost use Rattle.object_graph.specs.Run.{lines_most};
 ghost use Rattle.heap_command.specs.Commands.{IsWithin};
+ghost use Rattle.script_text.specs.Scripts.{ScriptText};
 ghost use Rattle.mutator.specs.CarriesOut.{field_numbers};
 ghost use Rattle.collector.specs.States.{HeapShows};
 ghost use Rattle.heap_script.specs.Collecting.{Tries};
 ghost use Rattle.heap_script.specs.Runs.{OutputHolds};
 ghost use Rattle.heap_script.specs.Progress.{objects_made};
-ghost use Rattle.heap_script.specs.Between.{Running, only};
+ghost use Rattle.heap_script.specs.Between.{Running, only, RunsAhead, Begins};
 ghost use Rattle.heap_script.specs.Stages.{uncollected};
 
 use crate::interpreter::{FULL_FROM, LINES_MOST};
@@ -53,35 +55,65 @@ pub(crate) fn run_ahead(
 {
     let lines = script.lines();
     let left = (LINES_MOST - from.executed) as usize;
-    if is_full(out) || from.at > lines.len() || left < lines.len() - from.at {
+    if is_full(out) || from.at >= lines.len() || left < lines.len() - from.at {
         return from;
     }
     // What is left of the script, and how many more lines may be executed than there are in it. So a command counts
     // nothing, and only a `repeat` or an `end` looks at the limit.
     let mut rest = lines_from(lines, from.at);
     let mut spare = left - rest.len();
-    while !rest.is_empty() {
-        match &rest[0].what {
-            What::Run(command) => {
-                if !comes_through(heap, objects, command) {
-                    break;
-                }
-                rest = lines_from(rest, 1);
-            }
-            jump => {
-                if spare < lines.len() {
-                    break;
-                }
-                let next = lines_from(lines, turns.next(lines.len() - rest.len(), jump));
-                spare = spare + rest.len() - 1 - next.len();
-                rest = next;
-            }
-        }
+    while spare >= lines.len() {
+        let (later, jump) = commands_ahead(heap, objects, rest);
+        rest = later;
+        let Some(what) = jump else {
+            break;
+        };
+        let at = lines.len() - rest.len();
+        let next = turns.next(at, what);
+        spare = spare + next - at - 1;
+        rest = lines_from(lines, next);
     }
     Reached {
         at: lines.len() - rest.len(),
         executed: LINES_MOST - (spare + rest.len()) as u64,
     }
+}
+
+/// Executes the commands of these lines up to the first `repeat` or `end`, or to one that does not come through, and
+/// answers the lines from there on, with what the first of them does where it is a `repeat` or an `end`. Commands have
+/// a loop of their own, so what is wanted only at the ends of blocks takes no register from them.
+#[inline(always)]
+fn commands_ahead<'l>(
+    heap: &mut Heap,
+    objects: &mut u32,
+    lines: &'l [Line],
+) -> (&'l [Line], Option<&'l What>)
+    requires runs { (script : ScriptText) × (out : List ℕ) × (taken : List ℕ) × (ts : List ℕ) × (spare : ℕ)
+        × RunsAhead script heap.old objects.old out taken ts lines.now spare }
+    ensures runs { (script : ScriptText) (out taken ts : List ℕ) (spare : ℕ)
+        → RunsAhead script heap.old objects.old out taken ts lines.now spare
+        → RunsAhead script heap.new objects.new out taken ts result.0.now spare }
+    ensures holds { (script : ScriptText) (out taken ts : List ℕ) (spare : ℕ)
+        → RunsAhead script heap.old objects.old out taken ts lines.now spare → length out + ROOM ≤ OUTPUT_BYTES
+        → OutputHolds script (lines_most - (spare + length lines.now)) out
+        → OutputHolds script (lines_most - (spare + length result.0.now)) out }
+    ensures space { heap.new.main.seat.space ≡ heap.old.main.seat.space }
+    ensures fewer { length result.0.now ≤ length lines.now }
+    ensures begins { IfSome result.1 (λ what. Begins result.0.now what.now) }
+{
+    let mut rest = lines;
+    while !rest.is_empty() {
+        match &rest[0].what {
+            What::Run(command) => {
+                if !comes_through(heap, objects, command) {
+                    return (rest, None);
+                }
+                rest = lines_from(rest, 1);
+            }
+            jump => return (rest, Some(jump)),
+        }
+    }
+    (rest, None)
 }
 
 /// The lines from a place on.

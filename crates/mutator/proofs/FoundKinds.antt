@@ -4,7 +4,7 @@ use Rattle.std.proofs.Common.{arith}
 use Rattle.std.specs.Prelude.{IsTrue, option_and_then}
 use Rattle.std.proofs.lemmas.Option.{none-some}
 use Rattle.tagged_word.specs.Shapes.{first_path_shape, list_shape, weak_shape}
-use Rattle.heap_model.specs.Types.{Value, Object, Path}
+use Rattle.heap_model.specs.Types.{Value, Object, Path, Header}
 use Rattle.object_graph.specs.declared.value.Value.TheVariants.{Int, Undefined, Ref}
 use Rattle.object_graph.specs.declared.object.Object.TheVariants.{Plain, Weak, List as ListOf}
 use Rattle.object_graph.specs.Graphs.{Graph, object_in, found_at}
@@ -14,6 +14,7 @@ use Rattle.heap_model.specs.Slots.{IsPlace}
 use Rattle.write_barrier.specs.MutatorState.{Mutator, heap_of}
 use Rattle.mutator.specs.declared.lookups.Found.{Found}
 use Rattle.mutator.specs.Reading.{HasShapeOf, FindsObject, IsFoundObject, IsFound, IsFoundList, IsFoundWeak}
+use Rattle.mutator.specs.Reading.{FindsHeader, FindsHeaded}
 
 -- a value that refers to no object refers to none of any kind
 none_found : {Kind : Type 0} (as_kind : ℕ → Object → Option Kind) (objects : List Object) (value : Value)
@@ -169,3 +170,10 @@ module _ {main : Mutator} {graph : Graph} {value : Value} {found : Found}
   pub finds_no_weak : found.shape ≢ weak_shape → weak_at graph.objects value ≡ None
   finds_no_weak apart =
       refers_to_none object as_weak (none_weak main.paths object.number found.shape object.what object.shaped apart)
+
+-- an object was found to be plain by its header, where the shape there is that of a path
+pub headed_plain : {main : Mutator} {graph : Graph} {sought : Option Value} {at : ℕ} {header : Header}
+    → FindsHeader main graph sought at header → first_path_shape ≤ header.shape
+    → FindsHeaded main graph sought at header
+headed_plain finds from =
+    record { value = finds.value; is = finds.is; found = finds_plain finds.found from; headed = finds.headed }

@@ -6,6 +6,8 @@ pub mod Rebinding
 pub mod Unbinding
 pub mod IntegerSums
 mod SmallSums
+mod SmallWords
+mod SumsHeld
 pub mod ValueTexts
 pub mod Writings
 pub mod SameHeld

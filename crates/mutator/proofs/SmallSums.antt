@@ -37,12 +37,13 @@ small_sum_is a b sum first fits second wrapped =
     (subst (SFits w64) same sum_fits, same)
 
 -- an integer that is held shows itself
-integer_shown : {heap : Heap} (v : ℤ) (found : Option Value) → ShowsHeld heap (held.Int v) found → found ≡ Some (Int v)
+pub integer_shown : {heap : Heap} (v : ℤ) (found : Option Value) → ShowsHeld heap (held.Int v) found
+    → found ≡ Some (Int v)
 integer_shown v None shows = absurd (shows_by_kind (held.Int v) None shows)
 integer_shown v (Some value) shows = ap (λ one. Some one) (holds_integer (held.Int v) v value refl shows)
 
 -- the integer of a variable is the one that it holds
-integer_held : {main : Mutator} {graph : Graph} (x : ℕ) (v : ℤ) → MainShows main graph
+pub integer_held : {main : Mutator} {graph : Graph} (x : ℕ) (v : ℤ) → MainShows main graph
     → x < main.seat.space.variables → Holds main.seat.space (heap_words main.seat) x (held.Int v)
     → option_and_then integer_in (get graph.bindings x) ≡ Some v
 integer_held {graph = graph} x v shows known holds =

@@ -1,11 +1,12 @@
 -- A heap that is the same as before shows the same.
-use Rattle.std.proofs.Common.{◌≡◌, sym, subst}
+use Rattle.std.proofs.Common.{◌≡◌, ℕ, sym, subst}
 use Rattle.std.specs.Prelude.{Option, Ok}
 use Rattle.handle_roots.specs.declared.given.Given.{Given}
-use Rattle.heap_model.specs.Types.{Operand, Value, Held}
+use Rattle.heap_model.specs.Types.{Operand, Value, Held, Header}
 use Rattle.object_graph.specs.Graphs.{Graph, value_of}
 use Rattle.write_barrier.specs.MutatorState.{Mutator, MainShows}
-use Rattle.mutator.specs.Reading.{StandsFor, StandForBoth, IsShownValue, Finds, FindsGiven, StandsWithGiven}
+use Rattle.mutator.specs.Reading.{StandsFor, StandForBoth, IsShownValue, Finds, FindsGiven, FindsHeader}
+use Rattle.mutator.specs.Reading.{StandsWithGiven}
 
 -- it shows a graph where it showed one
 pub some_still : {old new : Mutator} → new ≡ old → (graph : Graph) × MainShows old graph
@@ -54,3 +55,9 @@ both_given {old} {now} {graph} {first = first} given same (value, is, stands) (h
         stands_second = stands_what;
       };
     }
+
+-- the header that was found is that of the object
+pub header_still : {old new : Mutator} {graph : Graph} {sought : Option Value} {at : ℕ} {header : Header} → new ≡ old
+    → FindsHeader old graph sought at header → FindsHeader new graph sought at header
+header_still {graph = graph} {sought} {at} {header} same finds =
+    subst (λ main. FindsHeader main graph sought at header) (sym same) finds

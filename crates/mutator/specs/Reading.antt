@@ -17,6 +17,10 @@ use Rattle.object_graph.specs.Meaning.{done, fault, does}
 use Rattle.object_graph.specs.Reach.{is_marked, reach}
 use Rattle.shape_tree.specs.Shapes.{IsShapeOf}
 use Rattle.handle_roots.specs.declared.given.Given.{Given}
+use Rattle.handle_roots.specs.declared.given.Given.TheVariants as given
+use Rattle.handle_roots.specs.declared.held.Held.TheVariants as held
+use Rattle.tagged_word.specs.declared.word.Word.{Word}
+use Rattle.tagged_word.specs.Words.{small}
 use Rattle.handle_roots.specs.Givens.{Gives}
 use Rattle.handle_roots.specs.Roots.{FitsHeld}
 use Rattle.heap_model.specs.Slots.{IsPlace}
@@ -109,6 +113,21 @@ pub record IsFound (main : Mutator) (graph : Graph) (value : Value) (found : Fou
 abbrev pub FindsPlain : Mutator → Graph → Value → Result Found FaultWord → Type 0
 FindsPlain main graph value (Ok found) = IsFound main graph value found
 FindsPlain main graph value (Err word) = (plain_at graph.objects value ≡ None) × (word ≡ NotObject)
+
+-- the value that is sought refers to an object that stands here, and this is its cell's header
+pub record FindsHeader (main : Mutator) (graph : Graph) (sought : Option Value) (at : ℕ) (header : Header)
+    : Type 0 where
+  pub value : Value
+  pub is : sought ≡ Some value
+  pub found : IsFoundObject main graph value (record { at = at; shape = header.shape })
+  pub headed : IsHeaderAt (heap_of main) at header
+
+-- the value that is sought is a small integer, and this its word
+pub record IsSmallWord (sought : Option Value) (word : Word) : Type 0 where
+  pub v : ℤ
+  pub small : IsTrue (small v)
+  pub gives : Gives (given.Word word) (held.Int v)
+  pub is : sought ≡ Some (Int v)
 
 -- the value that is sought refers to a plain object that stands here, and this is its cell's header
 pub record FindsHeaded (main : Mutator) (graph : Graph) (sought : Option Value) (at : ℕ) (header : Header)

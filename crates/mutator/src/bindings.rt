@@ -1,12 +1,13 @@
 //! The commands `let`, `drop` and `add`, on what variables are bound to. How a variable is bound to
 //! a field is said in `fields.rt`, and to a new object in `making.rt`.
 ghost use Rattle.std.specs.Prelude.{◌≡◌, ℕ, ℤ, false, List, [], Ok, Err, Some, OnOk, IsTrue, IfSome};
+ghost use Rattle.std.specs.Prelude.{option_and_then};
 ghost use Rattle.tagged_word.specs.Words.{small};
-ghost use Rattle.heap_command.specs.Commands.{IsWithin};
+ghost use Rattle.heap_command.specs.Commands.{IsWithin, NamesBelow};
 ghost use Rattle.heap_table.specs.Seats.{heap_words};
 ghost use Rattle.handle_roots.specs.declared.held.Held.TheVariants.{Int};
 ghost use Rattle.handle_roots.specs.Roots.{Holds};
-ghost use Rattle.object_graph.specs.Graphs.{Graph};
+ghost use Rattle.object_graph.specs.Graphs.{Graph, value_of, integer_in};
 ghost use Rattle.write_barrier.specs.MutatorState.{MainShows};
 ghost use Rattle.mutator.specs.Binding.{Binds};
 ghost use Rattle.mutator.specs.Reading.{FindsSum};
@@ -99,12 +100,33 @@ pub fn add_ahead(main: &mut Main, x: u32, v: &Operand) -> bool
             main.replace_small(x, sum);
             true
         }
+        None => add_wide(main, x, v),
+    }
+}
+
+/// The same where `x` holds an integer that is not small. Where it stays so, its second root word alone is put.
+#[inline(always)]
+fn add_wide(main: &mut Main, x: u32, v: &Operand) -> bool
+    requires shown { (graph : Graph) × MainShows main.old graph }
+    requires within { IsWithin main.old.seat.space.variables field_numbers (Command.Add x v.now) }
+    ensures carried { IsTrue result → (graph : Graph) (names : List (List ℕ)) → MainShows main.old graph →
+        Carries names main.old main.new graph (Command.Add x v.now) [] (Ok tt) }
+    ensures unchanged { result ≡ false → main.new ≡ main.old }
+    ensures faulted { result ≡ false → (graph : Graph) (names : List (List ℕ)) → MainShows main.old graph →
+        (word : FaultWord) × Carries names main.old main.new graph (Command.Add x v.now) [] (Err (Stop.Fault word)) }
+{
+    match wide_sum(main, x, v) {
+        Some(sum) => {
+            main.replace_wide(x, sum);
+            true
+        }
         None => add_any(main, x, v),
     }
 }
 
 /// The same, whatever the integers are.
-#[inline(always)]
+#[cold]
+#[inline(never)]
 fn add_any(main: &mut Main, x: u32, v: &Operand) -> bool
     requires shown { (graph : Graph) × MainShows main.old graph }
     requires within { IsWithin main.old.seat.space.variables field_numbers (Command.Add x v.now) }
@@ -139,6 +161,40 @@ fn small_sum(main: &mut Main, x: u32, v: &Operand) -> Option<i64>
     // Beside a small integer, 64 bits that stand for a small one are those of the sum: one test serves for both.
     let sum = first.wrapping_add(second);
     if is_small(sum) { Some(sum) } else { None }
+}
+
+/// The sum of the integer that `x` holds and the value, if neither that integer nor the sum is small, and the value is
+/// written in the command or small.
+#[inline(always)]
+fn wide_sum(main: &mut Main, x: u32, v: &Operand) -> Option<i64>
+    requires shown { (graph : Graph) × MainShows main.old graph }
+    requires within { IsWithin main.old.seat.space.variables field_numbers (Command.Add x v.now) }
+    ensures found { IfSome result (λ sum. (graph : Graph) (names : List (List ℕ)) → MainShows main.old graph →
+        FindsSum names graph x v.now (Some sum)) }
+    ensures was { IfSome result (λ sum. (small sum ≡ false) × ((was : ℤ) × (small was ≡ false)
+        × Holds main.old.seat.space (heap_words main.old.seat) x (Int was))) }
+    ensures same { main.new ≡ main.old }
+{
+    let first = main.wide(x)?;
+    let second = known_integer(main, v)?;
+    let sum = first.checked_add(second)?;
+    if is_small(sum) { None } else { Some(sum) }
+}
+
+/// The integer that the operand is, or that its variable holds, if that is a small one.
+#[inline(always)]
+fn known_integer(main: &mut Main, v: &Operand) -> Option<i64>
+    requires shown { (graph : Graph) × MainShows main.old graph }
+    requires within { NamesBelow main.old.seat.space.variables v.now }
+    ensures found { IfSome result (λ integer. (graph : Graph) → MainShows main.old graph →
+        option_and_then integer_in (value_of graph v.now) ≡ Some integer) }
+    ensures same { main.new ≡ main.old }
+{
+    match v {
+        Operand::Int(v) => Some(*v),
+        Operand::Undefined => None,
+        Operand::Var(x) => main.small(*x),
+    }
 }
 
 /// The sum of the integer that `x` holds and the value, if both are integers and it has 64 bits.

@@ -11,6 +11,7 @@ mod bindings;
 mod fields;
 mod lists;
 mod lookups;
+mod lookups_ahead;
 mod making;
 mod output;
 mod printing;

@@ -1,6 +1,6 @@
 //! What a command reads: variables, operands, and the objects that values refer to. A read changes
 //! nothing. The fields of an object are read by `shape_change`.
-ghost use Rattle.std.specs.Prelude.{◌≡◌, ◌<◌, option_and_then, Ok, IfSome};
+ghost use Rattle.std.specs.Prelude.{◌≡◌, ◌<◌, option_and_then};
 ghost use Rattle.std.specs.FinMap.{get};
 ghost use Rattle.heap_command.specs.Commands.{NamesBelow};
 ghost use Rattle.object_graph.specs.Graphs.{Graph, value_of, integer_in};
@@ -8,11 +8,11 @@ ghost use Rattle.object_graph.specs.declared.value.Value.{Value};
 ghost use Rattle.write_barrier.specs.MutatorState.{Mutator, MainShows};
 ghost use Rattle.mutator.specs.Reading.{StandsFor, Finds, FindsBoth, IsShownValue, FindsObject, FindsPlain};
 ghost use Rattle.mutator.specs.Reading.{FindsInteger, FindsKey, FindsList, FindsWeak};
-ghost use Rattle.mutator.specs.Reading.{FindsGiven, FindsHeaded, FindsWithGiven};
+ghost use Rattle.mutator.specs.Reading.{FindsGiven, FindsWithGiven};
 
 use handle_roots::{Given, Held};
 use heap_command::{FaultWord, Operand};
-use tagged_word::{Header, Word, odd, shape};
+use tagged_word::shape;
 use write_barrier::Main;
 
 /// An object: where its cell stands, and its shape.
@@ -186,43 +186,6 @@ pub(crate) fn plain(main: &Main, held: Held) -> Result<Found, FaultWord>
         return Err(FaultWord::NotObject);
     }
     Ok(found)
-}
-
-/// Where the cell of the plain object stands that the variable is bound to, and its header, if it is bound to one.
-#[inline(always)]
-pub(crate) fn plain_ahead(main: &mut Main, x: u32) -> Option<(u32, Header)>
-    requires shown { (graph : Graph) × MainShows main.old graph }
-    requires within { x < main.old.seat.space.variables }
-    ensures found { IfSome result (λ found. (graph : Graph) → MainShows main.old graph →
-        FindsHeaded main.old graph (get graph.bindings x) found.0 found.1) }
-    ensures same { main.new ≡ main.old }
-{
-    let at = main.referred(x)?;
-    let header = main.header(at);
-    if header.shape < shape::PATHS {
-        None
-    } else {
-        Some((at, header))
-    }
-}
-
-/// The word that a slot has for the value that the operand stands for, if it has one.
-#[inline(always)]
-pub(crate) fn slot_word(main: &mut Main, v: &Operand) -> Option<Word>
-    requires shown { (graph : Graph) × MainShows main.old graph }
-    requires within { NamesBelow main.old.seat.space.variables v.now }
-    ensures found { IfSome result (λ word. (graph : Graph) → MainShows main.old graph →
-        FindsGiven main.old graph (value_of graph v.now) (Ok (Given.Word word))) }
-    ensures same { main.new ≡ main.old }
-{
-    match v {
-        Operand::Int(v) => Word::small(*v),
-        Operand::Undefined => Some(Word::odd(odd::UNDEFINED)),
-        Operand::Var(x) => match main.given(*x) {
-            Some(Given::Word(word)) => Some(word),
-            Some(Given::Int(_)) | None => None,
-        },
-    }
 }
 
 /// Where the cell of the list stands that the value refers to.

@@ -22,9 +22,10 @@ recorded_of set = shown (flags_of set.bits.items)
 abbrev pub page_bits : ℕ
 page_bits = 32
 
--- the recorded slots ascend below their bound, the flags are those of the pages, and each page's count is that of its
--- flags
+-- the recorded slots ascend below their bound, the bound that is kept is the one that the bits show, the flags are
+-- those of the pages, and each page's count is that of its flags
 pub record IsValid (set : Inside) : Type 0 where
   pub recorded : IsRecorded (recorded_of set)
+  pub bound : set.bound ≡ length (flags_of set.bits.items)
   pub pages : length set.bits.items ≡ page_bits * length set.counts.items
   pub counted : AreCounted (flags_of set.bits.items) set.counts.items

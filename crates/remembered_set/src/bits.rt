@@ -5,7 +5,7 @@ ghost use Rattle.remembered_set.specs.Bits.{flags_of, HasNoBitFrom, IsFirstBitFr
 ghost use Rattle.remembered_set.specs.Flags.{AreClear, IsFirstSet, ClearsBetween, CountsCleared};
 
 /// The flags of a word.
-pub(crate) const BITS: u32 = 64;
+const BITS: u32 = 64;
 
 /// Sets the flag of a place, and answers whether it was clear.
 pub(crate) fn note(bits: &mut [u64], place: u32) -> bool

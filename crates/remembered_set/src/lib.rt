@@ -14,7 +14,7 @@ ghost use Rattle.remembered_set.specs.Recorded.{HasNoneBetween, IsLeastBetween, 
 
 mod bits;
 
-use crate::bits::{BITS, clear, first_set, is_set, note, unset};
+use crate::bits::{clear, first_set, is_set, note, unset};
 use page_space::PAGE_WORDS;
 use std::alloc::Global;
 use std::marker::Model;
@@ -32,6 +32,8 @@ pub struct Remembered {
     // For each page the number of its flags that are set: most pages have none, and are passed
     // over at once.
     counts: Vec<u32>,
+    // The bound of the addresses of pages. It is kept, though the bits show it, since each store asks for it.
+    bound: u32,
 }
 
 impl Model for Remembered {
@@ -55,7 +57,11 @@ impl Remembered {
     {
         let bits = vec![in alloc; 0u64; (PAGE_BITS * pages) as usize]?;
         let counts = vec![in alloc; 0u32; pages as usize]?;
-        Ok(Remembered { bits, counts })
+        Ok(Remembered {
+            bits,
+            counts,
+            bound: PAGE_WORDS * pages,
+        })
     }
 
     /// Whether an address is one of the pages'.
@@ -63,7 +69,7 @@ impl Remembered {
     pub fn covers(&self, slot: u32) -> bool
         ensures { IsTrue result ↔ (slot < self.now.bound) }
     {
-        (slot as u64) < BITS as u64 * self.bits.len() as u64
+        slot < self.bound
     }
 
     /// Records a slot, which may be recorded already.

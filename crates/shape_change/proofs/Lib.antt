@@ -57,3 +57,6 @@ mod NewNames
 pub mod FullPaths
 pub mod HeldFields
 mod HeldByName
+mod PlacesBelow
+mod WordFields
+mod SmallKept

@@ -1,6 +1,7 @@
 pub mod FieldChanges
 pub mod Places
 pub mod Shifts
+pub mod WordPlaces
 pub mod Deletions
 pub mod Fillings
 pub mod Additions

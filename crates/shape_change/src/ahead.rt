@@ -1,5 +1,8 @@
 //! Sets that come through: the call `set` of a word, which tells nothing of a stop. Why one stops is told by `set`.
-ghost use Rattle.std.specs.Prelude.{◌≡◌, ℕ, Some, Ok, IsTrue, false, None, slice_get, option_map};
+ghost use Rattle.std.specs.Prelude.{◌≡◌, ◌≤◌, ℕ, ℤ, Some, Ok, IsTrue, false, None, slice_get, option_map};
+ghost use Rattle.tagged_word.specs.Shapes.{first_path_shape};
+ghost use Rattle.tagged_word.specs.Words.{small};
+ghost use Rattle.handle_roots.specs.declared.held.Held.TheVariants as held;
 ghost use Rattle.object_graph.specs.declared.value.Value.{Value};
 ghost use Rattle.object_graph.specs.Graphs.{Graph, PlainObject};
 ghost use Rattle.object_graph.specs.Objects.{field_value};
@@ -9,17 +12,20 @@ ghost use Rattle.object_cells.specs.CellsAt.{HasField, IsHeaderAt};
 ghost use Rattle.handle_roots.specs.declared.held.Held.{Held as What};
 ghost use Rattle.handle_roots.specs.Givens.{Gives};
 ghost use Rattle.shape_tree.specs.Shapes.{IsLocated, has_name, shape_path};
+ghost use Rattle.shape_tree.specs.declared.located.Located.{Located as Found};
+ghost use Rattle.heap_table.specs.declared.phase.Phase.TheVariants.{Quiet};
+ghost use Rattle.shape_change.specs.WordPlaces.{StandsWord};
 ghost use Rattle.shape_change.specs.FieldChanges.{IsShownSetting, SetsField};
 ghost use Rattle.write_barrier.specs.MutatorState.{heap_of, MainShows};
 
 use crate::add_field::add_given;
 use crate::kept_rep::{put_tagged, set_untagged, takes};
 use crate::set_field::set;
-use crate::slots::slot_place;
+use crate::slots::{Place, own_place, slot_place, stored_place};
 use handle_roots::Given;
 use object_graph::Rep;
-use shape_tree::{Located, Recalled};
-use tagged_word::{Header, Word};
+use shape_tree::{Located, Recalled, WordPlace};
+use tagged_word::{Header, Word, shape};
 use write_barrier::Main;
 
 /// The same as `set` of the value that this is the word of, where that comes through, and answers whether it does. The
@@ -41,7 +47,83 @@ pub fn set_ahead(main: &mut Main, object: u32, header: Header, name: u32, word: 
     }
 }
 
-/// The same where the look-up is not at hand.
+/// The same of the word of a small integer, and of any object: it answers `false` where the object is no plain one.
+/// Only shapes of plain objects are looked up, so where a look-up is at hand the object is one. Each field that is no
+/// wide one takes the word as it is.
+#[inline(always)]
+pub fn set_small_ahead(main: &mut Main, object: u32, header: Header, name: u32, word: Word) -> bool
+    requires small { (v : ℤ) × IsTrue (small v) × Gives (Given.Word word) (held.Int v) }
+    requires plain { (v : ℤ) → Gives (Given.Word word) (held.Int v) → first_path_shape ≤ header.shape →
+        IsShownSetting main.old object (held.Int v) }
+    requires headed { IsHeaderAt (heap_of main.old) object header }
+    ensures set { IsTrue result → (held : What) → Gives (Given.Word word) held
+        → (graph : Graph) (plain : PlainObject) (what : Value) → MainShows main.old graph
+        → IsPlainAt main.old graph object plain → IsValueHeld main.old graph held what
+        → SetsField main.old main.new graph object plain name what (Ok tt) }
+    ensures plain { IsTrue result → first_path_shape ≤ header.shape }
+    ensures unchanged { result ≡ false → main.new ≡ main.old }
+{
+    match main.recall_place(header.shape, name) {
+        WordPlace::InObject(slot) => {
+            let place = own_place(main, object, slot);
+            put_small(main, object, place, word);
+            true
+        }
+        WordPlace::InStore(slot) => {
+            let place = stored_place(main, object, slot);
+            put_small(main, object, place, word);
+            true
+        }
+        WordPlace::Nowhere => {
+            if header.shape < shape::PATHS {
+                return false;
+            }
+            add_ahead(main, object, header, name, word)
+        }
+        WordPlace::Elsewhere => set_elsewhere(main, object, header, name, word),
+    }
+}
+
+/// Gives the field whose slot stands at a place of the plain object at an address, and that is no wide one, the small
+/// integer of a word: its slot takes the word as it is.
+#[inline(always)]
+fn put_small(main: &mut Main, object: u32, place: Place, word: Word)
+    requires small { (v : ℤ) × IsTrue (small v) × Gives (Given.Word word) (held.Int v) }
+    requires quiet { main.old.seat.phase ≡ Quiet }
+    requires stands { (found : Found) × StandsWord main.old object found place }
+    ensures { (found : Found) → StandsWord main.old object found place
+        → (held : What) → Gives (Given.Word word) held
+        → (graph : Graph) (plain : PlainObject) (what : Value) (name : ℕ)
+        → MainShows main.old graph → IsPlainAt main.old graph object plain
+        → IsValueHeld main.old graph held what
+        → option_map (λ field. field.name) (slice_get plain.fields found.at) ≡ Some name
+        → SetsField main.old main.new graph object plain name what (Ok tt) }
+{
+    main.addresses_fit();
+    put_tagged(main, object, place, word);
+}
+
+/// The same as `set_small_ahead` of a wide field, or where no look-up is at hand.
+#[inline(never)]
+fn set_elsewhere(main: &mut Main, object: u32, header: Header, name: u32, word: Word) -> bool
+    requires small { (v : ℤ) × IsTrue (small v) × Gives (Given.Word word) (held.Int v) }
+    requires plain { (v : ℤ) → Gives (Given.Word word) (held.Int v) → first_path_shape ≤ header.shape →
+        IsShownSetting main.old object (held.Int v) }
+    requires headed { IsHeaderAt (heap_of main.old) object header }
+    ensures set { IsTrue result → (held : What) → Gives (Given.Word word) held
+        → (graph : Graph) (plain : PlainObject) (what : Value) → MainShows main.old graph
+        → IsPlainAt main.old graph object plain → IsValueHeld main.old graph held what
+        → SetsField main.old main.new graph object plain name what (Ok tt) }
+    ensures plain { IsTrue result → first_path_shape ≤ header.shape }
+    ensures unchanged { result ≡ false → main.new ≡ main.old }
+{
+    if header.shape < shape::PATHS {
+        return false;
+    }
+    set_ahead(main, object, header, name, word)
+}
+
+/// The same as `set_ahead` where the look-up is not at hand.
 #[cold]
 #[inline(never)]
 fn set_sought(main: &mut Main, object: u32, name: u32, word: Word) -> bool

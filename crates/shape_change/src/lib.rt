@@ -18,8 +18,8 @@ mod slots;
 mod stop;
 mod transitions;
 
-pub use ahead::set_ahead;
+pub use ahead::{set_ahead, set_small_ahead};
 pub use delete_field::delete;
-pub use get_field::hold_get;
+pub use get_field::{get_ahead, hold_get};
 pub use set_field::set;
 pub use stop::FieldStop;

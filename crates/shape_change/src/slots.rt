@@ -81,7 +81,7 @@ fn value_of_odd(main: &Main, word: Word) -> Held
 /// Makes a variable hold what the word of a slot stands for that is not raw. Its lowest bit tells a
 /// small integer, whose word is the variable's first root word too.
 #[inline(always)]
-fn hold_tagged(main: &mut Main, variable: u32, word: Word)
+pub(crate) fn hold_tagged(main: &mut Main, variable: u32, word: Word)
     requires quiet { main.old.seat.phase ≡ Quiet }
     requires known { variable < main.old.seat.space.variables }
     requires class { (class : WordClass) × IsClass class × (word.0 ≡ bits_of class) }
@@ -125,8 +125,7 @@ fn hold_odd(main: &mut Main, variable: u32, word: Word)
 }
 
 /// Makes a variable hold the integer of a raw word.
-#[cold]
-#[inline(never)]
+#[inline(always)]
 fn hold_raw(main: &mut Main, variable: u32, word: u64)
     requires quiet { main.old.seat.phase ≡ Quiet }
     requires known { variable < main.old.seat.space.variables }
@@ -166,16 +165,48 @@ pub(crate) fn slot_place(main: &Main, object: u32, cap: u32, slot: u32) -> Place
     ensures place { IsPlaceOf (heap_of main.now) object cap slot result }
     ensures within { place_at object result < marks_start main.now.seat.space }
 {
-    main.addresses_fit();
     if slot < cap {
-        return Place::InObject(PLAIN_HEAD + slot);
+        own_place(main, object, slot)
+    } else {
+        stored_place(main, object, slot - cap)
     }
-    match Word(main.slot(object, STORE_SLOT)).address() {
-        Some(store) => Place::InStore {
-            store,
-            offset: STORE_HEAD + (slot - cap),
-        },
-        None => unreachable!(),
+}
+
+/// Where an in-object slot stands of the plain object at an address, which has that slot.
+#[inline(always)]
+pub(crate) fn own_place(main: &Main, object: u32, slot: u32) -> Place
+    requires whole { IsQuietWhole main.now }
+    requires there { (cap : ℕ) × IsCapAt (heap_of main.now) object cap
+        × HasPlainSlot (heap_of main.now) object slot × (slot < cap) }
+    ensures stands { StandsSlot (heap_of main.now) object slot result }
+    ensures place { (cap : ℕ) → IsCapAt (heap_of main.now) object cap →
+        IsPlaceOf (heap_of main.now) object cap slot result }
+    ensures own { is_own result ≡ true }
+    ensures within { place_at object result < marks_start main.now.seat.space }
+{
+    main.addresses_fit();
+    Place::InObject(PLAIN_HEAD + slot)
+}
+
+/// Where a slot of the property store stands of the plain object at an address, which has that slot. So it has a
+/// store, and its word for that is a reference: four times the address, and 1.
+#[inline(always)]
+pub(crate) fn stored_place(main: &Main, object: u32, slot: u32) -> Place
+    requires whole { IsQuietWhole main.now }
+    requires there { (cap : ℕ) × IsCapAt (heap_of main.now) object cap
+        × HasPlainSlot (heap_of main.now) object (cap + slot) }
+    ensures stands { (cap : ℕ) → IsCapAt (heap_of main.now) object cap →
+        StandsSlot (heap_of main.now) object (cap + slot) result }
+    ensures place { (cap : ℕ) → IsCapAt (heap_of main.now) object cap →
+        IsPlaceOf (heap_of main.now) object cap (cap + slot) result }
+    ensures own { is_own result ≡ false }
+    ensures within { place_at object result < marks_start main.now.seat.space }
+{
+    main.addresses_fit();
+    let store = (main.slot(object, STORE_SLOT) / 4) as u32;
+    Place::InStore {
+        store,
+        offset: STORE_HEAD + slot,
     }
 }
 

@@ -12,14 +12,17 @@ use Rattle.object_graph.specs.declared.path.PathField.{PathField}
 use Rattle.object_graph.specs.declared.value.Rep.{Rep}
 use Rattle.shape_tree.specs.declared.located.Located.{Located}
 use Rattle.shape_tree.specs.declared.look_ups.LookUp.{LookUp}
+use Rattle.shape_tree.specs.declared.look_ups.Site.{Site}
+use Rattle.shape_tree.specs.declared.look_ups.Site.TheVariants.{Own, Stored, Other}
 use Rattle.shape_tree.specs.Shapes.{IsPathShape, IsLocated, has_name, shape_path}
-use Rattle.shape_tree.specs.Nodes.{IsLookedUp, AreLookedUp, HasLocated, TellsOf, Keeps, found_in}
+use Rattle.shape_tree.specs.Nodes.{IsLookedUp, AreLookedUp, HasLocated, HasWord, TellsOf, Keeps, found_in, place_in}
 use Rattle.shape_tree.specs.Nodes.{look_up_entries, no_look_up}
+use Rattle.shape_tree.specs.Recalling.{HasWordField, IsPlaced}
 use Rattle.shape_tree.proofs.ShapePaths.{IsPathShape-append, shape_path-append}
 
 -- what stands for none tells of no path
 IsLookedUp-none : (paths : List Path) → IsLookedUp paths no_look_up
-IsLookedUp-none paths = λ some. absurd (omega arith)
+IsLookedUp-none paths = record { tells = λ some. absurd (omega arith); sited = tt }
 
 -- the cache of the first tree tells of none
 pub none_looked_up : (paths : List Path) → AreLookedUp paths (replicate look_up_entries no_look_up)
@@ -31,11 +34,14 @@ none_looked_up paths = record {
 -- an entry tells of its path after paths were added
 IsLookedUp-append : (paths more : List Path) (look_up : LookUp) → IsLookedUp paths look_up
     → IsLookedUp (paths ++ more) look_up
-IsLookedUp-append paths more look_up is = λ some.
-    let here = is some in (
-      IsPathShape-append paths more look_up.shape here.0,
-      subst (λ path. TellsOf path look_up) (sym (shape_path-append paths more look_up.shape here.0)) here.1,
-    )
+IsLookedUp-append paths more look_up is = record {
+  tells = λ some.
+      let here = is.tells some in (
+        IsPathShape-append paths more look_up.shape here.0,
+        subst (λ path. TellsOf path look_up) (sym (shape_path-append paths more look_up.shape here.0)) here.1,
+      );
+  sited = is.sited;
+}
 
 -- where paths are added each entry still tells of a path, or of nothing
 pub AreLookedUp-append : (paths more : List Path) (cache : List LookUp) → AreLookedUp paths cache
@@ -52,8 +58,11 @@ pub AreLookedUp-kept : (paths : List Path) (old new : List LookUp) (entry : ℕ)
 AreLookedUp-kept paths old new entry path shape name are keeps is own =
     let look_up = keeps.look_up in
     let same = own ∙ ap (shape_path paths) (sym keeps.of_shape) in
-    let told : IsLookedUp paths look_up = λ some.
-    (subst (IsPathShape paths) (sym keeps.of_shape) is, subst (λ p. TellsOf p look_up) same keeps.tells) in
+    let told : IsLookedUp paths look_up = record {
+      tells = λ some.
+          (subst (IsPathShape paths) (sym keeps.of_shape) is, subst (λ p. TellsOf p look_up) same keeps.tells);
+      sited = keeps.sited (omega (arith, is.from));
+    } in
     subst (AreLookedUp paths) (sym keeps.kept) (record {
       counted = length-set old entry look_up ∙ are.counted;
       each = All-set (IsLookedUp paths) old entry look_up told are.each;
@@ -90,13 +99,25 @@ pub record Answers (paths : List Path) (shape name : ℕ) (found : Option Locate
   pub there : IfSome found (λ l. IsLocated paths l × (l.shape ≡ shape) × (l.name ≡ name))
   pub none : IsNone found ↔ (has_name (shape_path paths shape) name ≡ false)
 
+-- an entry of these parts
+abbrev entry_of : (shape name at cap : ℕ) (rep : Rep) (is_there : Bool) (site : Site) (slot : ℕ) → LookUp
+entry_of shape name at cap rep is_there site slot = record {
+  shape = shape;
+  name = name;
+  at = at;
+  cap = cap;
+  rep = rep;
+  is_there = is_there;
+  site = site;
+  slot = slot;
+}
+
 -- a look-up that tells of the path of its shape answers so, by whether its field is there
-answers_by : (paths : List Path) (shape name at cap : ℕ) (rep : Rep) (is_there : Bool) → IsPathShape paths shape
-    → TellsOf (shape_path paths shape)
-    (record { shape = shape; name = name; at = at; cap = cap; rep = rep; is_there = is_there })
-    → Answers paths shape name
-    (found_in (record { shape = shape; name = name; at = at; cap = cap; rep = rep; is_there = is_there }))
-answers_by paths shape name at cap rep true is tells =
+answers_by : (paths : List Path) (shape name at cap : ℕ) (rep : Rep) (is_there : Bool) (site : Site) (slot : ℕ)
+    → IsPathShape paths shape
+    → TellsOf (shape_path paths shape) (entry_of shape name at cap rep is_there site slot)
+    → Answers paths shape name (found_in (entry_of shape name at cap rep is_there site slot))
+answers_by paths shape name at cap rep true site slot is tells =
     let found : Located = record { shape = shape; name = name; at = at; cap = cap; rep = rep } in
     let here : HasLocated (shape_path paths shape) found = tells in
     let has = has_name-located (shape_path paths shape) found here in
@@ -104,8 +125,15 @@ answers_by paths shape name at cap rep true is tells =
       there = (record { is_shape = is; field = here.field; cap = here.cap }, refl, refl);
       none = (λ not. absurd (cc), λ none. absurd (cc (has, none)));
     }
-answers_by paths shape name at cap rep false is tells =
+answers_by paths shape name at cap rep false site slot is tells =
     record { there = tt; none = (λ not. tells, λ none. refl) }
+
+-- each entry of the cache tells of a path, or of nothing
+entry_at : (paths : List Path) (cache : List LookUp) (entry : ℕ) (look_up : LookUp) → AreLookedUp paths cache
+    → entry < look_up_entries → look_up ≡ get_or cache entry look_up → IsLookedUp paths look_up
+entry_at paths cache entry look_up are within at =
+    let below : entry < length cache = omega (arith, are.counted) in
+    subst (IsLookedUp paths) (sym at) (are.each entry look_up below)
 
 -- so what an entry for a shape and name found answers for them
 pub looked_up_at : (paths : List Path) (cache : List LookUp) (entry shape name : ℕ) (look_up : LookUp)
@@ -113,10 +141,50 @@ pub looked_up_at : (paths : List Path) (cache : List LookUp) (entry shape name :
     → IsPathShape paths shape → look_up.shape ≡ shape → look_up.name ≡ name
     → Answers paths shape name (found_in look_up)
 looked_up_at paths cache entry shape name look_up are within at is same called =
-    let below : entry < length cache = omega (arith, are.counted) in
-    let here : IsLookedUp paths look_up = subst (IsLookedUp paths) (sym at) (are.each entry look_up below) in
-    let tells = here (omega (arith, is.from, same)) in
+    let tells = (entry_at paths cache entry look_up are within at).tells (omega (arith, is.from, same)) in
     let found = answers_by paths look_up.shape look_up.name look_up.at look_up.cap look_up.rep look_up.is_there
-    tells.0 tells.1 in
+    look_up.site look_up.slot tells.0 tells.1 in
     subst (λ s. Answers paths s name (found_in look_up)) same
     (subst (λ n. Answers paths look_up.shape n (found_in look_up)) called found)
+
+-- where an entry has a field's word, a path has the field, and it is no wide one
+has_word : (paths : List Path) (look_up : LookUp) → IsLookedUp paths look_up → HasWord look_up
+    → HasWordField paths look_up.shape look_up.name (record {
+      shape = look_up.shape;
+      name = look_up.name;
+      at = look_up.at;
+      cap = look_up.cap;
+      rep = look_up.rep;
+    })
+has_word paths look_up is word =
+    let tells = is.tells word.of_shape in
+    let here = rw word.there at tells.1 in
+    record {
+      located = record { is_shape = tells.0; field = here.field; cap = here.cap };
+      of_shape = refl;
+      of_name = refl;
+      not_wide = word.not_wide;
+    }
+
+-- an entry's slot has the word of the field of its name, by its site
+placed_by : (paths : List Path) (shape name at cap : ℕ) (rep : Rep) (is_there : Bool) (site : Site) (slot : ℕ)
+    → IsLookedUp paths (entry_of shape name at cap rep is_there site slot)
+    → IsPlaced paths shape name (place_in (entry_of shape name at cap rep is_there site slot))
+placed_by paths shape name at cap rep is_there Own slot is =
+    let word = has_word paths (entry_of shape name at cap rep is_there Own slot) is is.sited.0 in
+    (_, word, sym is.sited.1, omega (arith, is.sited.1, is.sited.2))
+placed_by paths shape name at cap rep is_there Stored slot is =
+    let word = has_word paths (entry_of shape name at cap rep is_there Stored slot) is is.sited.0 in
+    (_, word, is.sited.1)
+placed_by paths shape name at cap rep true Other slot is = tt
+placed_by paths shape name at cap rep false Other slot is = is.tells
+
+-- so the place by an entry for a shape and name is that of the field's word
+pub placed_at : (paths : List Path) (cache : List LookUp) (entry shape name : ℕ) (look_up : LookUp)
+    → AreLookedUp paths cache → entry < look_up_entries → look_up ≡ get_or cache entry look_up
+    → look_up.shape ≡ shape → look_up.name ≡ name → IsPlaced paths shape name (place_in look_up)
+placed_at paths cache entry shape name look_up are within at same called =
+    let placed = placed_by paths look_up.shape look_up.name look_up.at look_up.cap look_up.rep look_up.is_there
+    look_up.site look_up.slot (entry_at paths cache entry look_up are within at) in
+    subst (λ s. IsPlaced paths s name (place_in look_up)) same
+    (subst (λ n. IsPlaced paths look_up.shape n (place_in look_up)) called placed)

@@ -1,9 +1,9 @@
 -- Fields, nodes and transitions: what a tree of shapes holds of a list of paths.
-use Rattle.std.specs.Prelude.{◌≡◌, ℕ, ◌+◌, ◌-◌, ◌<◌, ◌≤◌, Bool, false, List, [], ◌∷◌, map, length}
+use Rattle.std.specs.Prelude.{◌≡◌, ◌≢◌, ℕ, ◌+◌, ◌-◌, ◌<◌, ◌≤◌, Bool, true, false, List, [], ◌∷◌, map, length}
 use Rattle.std.specs.Prelude.{take, drop, set, slice_get, All, Option, Some, None, cond, MatchOption}
 use Rattle.object_graph.specs.declared.path.Path.{Path}
 use Rattle.object_graph.specs.declared.path.PathField.{PathField}
-use Rattle.object_graph.specs.declared.value.Rep.TheVariants.{Small}
+use Rattle.object_graph.specs.declared.value.Rep.TheVariants.{Small, Wide}
 use Rattle.object_graph.specs.Paths.{prefix_of}
 use Rattle.heap_command.specs.Commands.{cap_most}
 use Rattle.object_graph.specs.Invariants.{fields_most}
@@ -16,7 +16,11 @@ use Rattle.shape_tree.specs.declared.alterations.Alteration.{Alteration}
 use Rattle.shape_tree.specs.declared.alterations.Becomes.{Becomes}
 use Rattle.shape_tree.specs.declared.alterations.Becomes.TheVariants.{To, Gone}
 use Rattle.shape_tree.specs.declared.located.Located.{Located}
+use Rattle.shape_tree.specs.declared.located.WordPlace.{WordPlace}
+use Rattle.shape_tree.specs.declared.located.WordPlace.TheVariants.{InObject, InStore, Nowhere, Elsewhere}
 use Rattle.shape_tree.specs.declared.look_ups.LookUp.{LookUp}
+use Rattle.shape_tree.specs.declared.look_ups.Site.{Site}
+use Rattle.shape_tree.specs.declared.look_ups.Site.TheVariants.{Own, Stored, Other}
 use Rattle.shape_tree.specs.Shapes.{IsPathShape, IsShapeOf, shape_path, has_name, changed, without}
 use Rattle.shape_tree.specs.Growth.{extended}
 use Rattle.shape_tree.specs.ShapeLayouts.{layout_of}
@@ -105,7 +109,8 @@ look_up_entries = 2048
 
 -- what stands in an entry where no look-up is cached: no path has this shape
 abbrev pub no_look_up : LookUp
-no_look_up = record { shape = 0; name = 0; at = 0; cap = 0; rep = Small; is_there = false }
+no_look_up =
+    record { shape = 0; name = 0; at = 0; cap = 0; rep = Small; is_there = false; site = Other; slot = 0 }
 
 -- what a look-up found: where a field stands, or none
 abbrev pub found_in : LookUp → Option Located
@@ -120,6 +125,15 @@ found_in look_up =
     }))
     None
 
+-- where an object of the shape has the word of the field, by the entry
+abbrev pub place_in : LookUp → WordPlace
+place_in look_up = by_site look_up.site
+  where
+    by_site : Site → WordPlace
+    by_site Own = InObject look_up.slot
+    by_site Stored = InStore look_up.slot
+    by_site Other = cond look_up.is_there Elsewhere Nowhere
+
 -- the path has this cap, and the field at this place
 pub record HasLocated (path : Path) (found : Located) : Type 0 where
   pub field : slice_get path.fields found.at ≡ Some (record { name = found.name; rep = found.rep })
@@ -130,10 +144,26 @@ abbrev pub TellsOf : Path → LookUp → Type 0
 TellsOf path look_up =
     MatchOption (found_in look_up) (has_name path look_up.name ≡ false) (HasLocated path)
 
--- where the entry has a shape, it is a path's, and the entry tells of that path
-abbrev pub IsLookedUp : List Path → LookUp → Type 0
-IsLookedUp paths look_up =
-    0 < look_up.shape → IsPathShape paths look_up.shape × TellsOf (shape_path paths look_up.shape) look_up
+-- the entry has a shape, and a field that is no wide one
+pub record HasWord (look_up : LookUp) : Type 0 where
+  pub of_shape : 0 < look_up.shape
+  pub there : look_up.is_there ≡ true
+  pub not_wide : look_up.rep ≢ Wide
+
+-- an own slot is that of the field's place, and one in the store comes behind the own ones; each has the field's word
+abbrev pub IsSitedBy : LookUp → Site → Type 0
+IsSitedBy look_up Own = HasWord look_up × (look_up.slot ≡ look_up.at) × (look_up.at < look_up.cap)
+IsSitedBy look_up Stored = HasWord look_up × (look_up.at ≡ look_up.cap + look_up.slot)
+IsSitedBy look_up Other = Unit {0}
+
+-- the entry's slot is that of its field
+abbrev pub IsSited : LookUp → Type 0
+IsSited look_up = IsSitedBy look_up look_up.site
+
+-- where the entry has a shape, it is a path's, and the entry tells of that path; and its slot is that of its field
+pub record IsLookedUp (paths : List Path) (look_up : LookUp) : Type 0 where
+  pub tells : 0 < look_up.shape → IsPathShape paths look_up.shape × TellsOf (shape_path paths look_up.shape) look_up
+  pub sited : IsSited look_up
 
 -- each entry tells of a path, or of nothing
 pub record AreLookedUp (paths : List Path) (cache : List LookUp) : Type 0 where
@@ -147,6 +177,7 @@ pub record Keeps (old new : List LookUp) (entry : ℕ) (path : Path) (shape name
   pub of_shape : look_up.shape ≡ shape
   pub of_name : look_up.name ≡ name
   pub tells : TellsOf path look_up
+  pub sited : 0 < shape → IsSited look_up
 
 -- the look-up finds each transition, and nothing else
 pub record FindsSteps (paths : List Path) (look : Transition → Option ℕ) : Type 0 where

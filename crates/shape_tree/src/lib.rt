@@ -24,7 +24,7 @@ mod tree;
 mod walking;
 
 pub use full::ShapesFull;
-pub use located::{Located, Recalled};
+pub use located::{Located, Recalled, WordPlace};
 pub use object_graph::{PathField, Rep};
 pub use transition::Step;
 pub use tree::ShapeTree;

@@ -16,6 +16,19 @@ pub struct Located {
     pub rep: Rep,
 }
 
+/// Where an object of a shape has the word of the field of a name, as far as it is at hand.
+#[derive(Clone, Copy)]
+pub enum WordPlace {
+    /// In the in-object slot of this number.
+    InObject(u32),
+    /// In the slot of this number of the property store.
+    InStore(u32),
+    /// There is no field of the name.
+    Nowhere,
+    /// It is a wide field, or it is to be sought.
+    Elsewhere,
+}
+
 /// What is at hand of a look-up by shape and name.
 #[derive(Clone, Copy)]
 pub enum Recalled {

@@ -1,32 +1,50 @@
 //! The look-up cache: what look-ups by shape and name found before, a field or none.
-ghost use Rattle.std.specs.Prelude.{◌≡◌, ◌<◌, ◌≤◌, ◌↔◌, ◌==◌, false, length, slice_get};
+ghost use Rattle.std.specs.Prelude.{◌≡◌, ◌≢◌, ◌+◌, ◌<◌, ◌≤◌, ◌↔◌, ◌==◌, false, length, slice_get};
 ghost use Rattle.std.specs.Prelude.{option_map, Some, IsTrue, IfSome, IsNone};
 ghost use Rattle.std.specs.List.{list_any};
 ghost use Rattle.std.specs.Vec.{vec_len};
 ghost use Rattle.heap_command.specs.Commands.{cap_most};
+ghost use Rattle.object_graph.specs.declared.value.Rep.TheVariants.{Wide};
 ghost use Rattle.object_graph.specs.Invariants.{fields_most};
-ghost use Rattle.shape_tree.specs.Nodes.{no_look_up, look_up_entries, found_in, TellsOf, Keeps};
+ghost use Rattle.shape_tree.specs.declared.look_ups.Site.TheVariants.{Own, Stored};
+ghost use Rattle.shape_tree.specs.Nodes.{no_look_up, look_up_entries, found_in, place_in, TellsOf, IsSited, Keeps};
 
-use crate::located::Located;
+use crate::located::{Located, WordPlace};
 use object_graph::{PathField, Rep};
 
 /// How many entries the cache has.
 pub(crate) const LOOK_UP_ENTRIES: usize = 2048;
 
-/// A name was looked up in the path of a shape.
+/// Where the word of a field stands. It is kept since a `get` or a `set` of most fields needs no more than it and the
+/// slot's number.
+#[derive(Clone, Copy)]
+pub(crate) enum Site {
+    /// In an in-object slot.
+    Own,
+    /// In a slot of the property store.
+    Stored,
+    /// In no slot: there is no field, or it is a wide one.
+    Other,
+}
+
+/// A name was looked up in the path of a shape. It takes 16 bytes.
 #[derive(Clone, Copy)]
 pub(crate) struct LookUp {
     /// The shape; 0 where no look-up is cached.
     pub(crate) shape: u32,
     pub(crate) name: u32,
     /// The place of the field, if there is one.
-    pub(crate) at: u32,
+    pub(crate) at: u8,
     /// How many in-object slots an object of the shape has.
     pub(crate) cap: u8,
     /// The field's representation, if there is one.
     pub(crate) rep: Rep,
     /// Whether the path has a field of the name.
     pub(crate) is_there: bool,
+    /// Where the field's word stands.
+    pub(crate) site: Site,
+    /// The number of the slot that has it, counted from 0 there; 0 where none has it.
+    pub(crate) slot: u8,
 }
 
 /// The entry of the cache for a name in the path of a shape. Several may share one: then the last stands there.
@@ -73,6 +91,18 @@ pub(crate) fn keep_look_up(
     look_ups[entry] = LookUp::of(fields, cap, shape, name);
 }
 
+/// Where an object with this cap has the word of the field at a place, and the number of the slot.
+fn site_of(at: u8, cap: u8, rep: Rep) -> (Site, u8)
+    ensures own { result.0 ≡ Own → (rep ≢ Wide) × (result.1 ≡ at) × (at < cap) }
+    ensures stored { result.0 ≡ Stored → (rep ≢ Wide) × (at ≡ cap + result.1) }
+{
+    match rep {
+        Rep::Wide => (Site::Other, 0),
+        Rep::Small | Rep::Tagged if at < cap => (Site::Own, at),
+        Rep::Small | Rep::Tagged => (Site::Stored, at - cap),
+    }
+}
+
 impl LookUp {
     /// What stands where nothing is cached: no path has its shape.
     pub(crate) fn none() -> LookUp
@@ -85,6 +115,8 @@ impl LookUp {
             cap: 0,
             rep: Rep::Small,
             is_there: false,
+            site: Site::Other,
+            slot: 0,
         }
     }
 
@@ -95,25 +127,32 @@ impl LookUp {
         ensures shape { result.shape ≡ shape }
         ensures name { result.name ≡ name }
         ensures tells { TellsOf (record { cap = cap; fields = fields.now }) result }
+        ensures sited { 0 < shape → IsSited result }
     {
         let cap = cap as u8;
-        match place_of(fields, name) {
-            Some(at) => LookUp {
-                shape,
-                name,
-                at,
-                cap,
-                rep: fields[at as usize].rep,
-                is_there: true,
-            },
-            None => LookUp {
+        let Some(place) = place_of(fields, name) else {
+            return LookUp {
                 shape,
                 name,
                 at: 0,
                 cap,
                 rep: Rep::Small,
                 is_there: false,
-            },
+                site: Site::Other,
+                slot: 0,
+            };
+        };
+        let (at, rep) = (place as u8, fields[place as usize].rep);
+        let (site, slot) = site_of(at, cap, rep);
+        LookUp {
+            shape,
+            name,
+            at,
+            cap,
+            rep,
+            is_there: true,
+            site,
+            slot,
         }
     }
 
@@ -134,12 +173,25 @@ impl LookUp {
             Some(Located {
                 shape: self.shape,
                 name: self.name,
-                at: self.at,
+                at: self.at as u32,
                 cap: self.cap,
                 rep: self.rep,
             })
         } else {
             None
+        }
+    }
+
+    /// Where an object of its shape has the word of the field.
+    #[inline(always)]
+    pub(crate) fn place(&self) -> WordPlace
+        ensures { result ≡ place_in self.now }
+    {
+        match self.site {
+            Site::Own => WordPlace::InObject(self.slot as u32),
+            Site::Stored => WordPlace::InStore(self.slot as u32),
+            Site::Other if self.is_there => WordPlace::Elsewhere,
+            Site::Other => WordPlace::Nowhere,
         }
     }
 }

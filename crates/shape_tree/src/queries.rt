@@ -6,11 +6,11 @@ ghost use Rattle.object_graph.specs.Paths.{prefix_of};
 ghost use Rattle.heap_command.specs.Commands.{cap_most};
 ghost use Rattle.object_graph.specs.Invariants.{IsPath, fields_most};
 ghost use Rattle.shape_tree.specs.Shapes.{AreShapes, IsPathShape, IsShapeOf, shape_path, has_name, IsLocated};
-ghost use Rattle.shape_tree.specs.Recalling.{IsRecalled};
+ghost use Rattle.shape_tree.specs.Recalling.{IsRecalled, IsPlaced};
 ghost use Rattle.shape_tree.specs.ShapeLayouts.{IsInUse, layout_of, layout_word};
 ghost use Rattle.shape_tree.specs.Nodes.{IsNodeOf};
 
-use crate::located::{Located, Recalled};
+use crate::located::{Located, Recalled, WordPlace};
 use crate::look_ups::{keep_look_up, look_up_index, place_of};
 use crate::node::Node;
 use crate::tree::{FIRST, ShapeTree};
@@ -163,6 +163,19 @@ impl ShapeTree {
             Some(found) => Recalled::Field(found),
             None => Recalled::NoField,
         }
+    }
+
+    /// Where the word of the field of this name stands in an object of this shape, as far as it is at hand. Nothing is
+    /// sought, and the shape may be any.
+    #[inline(always)]
+    pub fn recall_place(&self, shape: u32, name: u32) -> WordPlace
+        ensures { IsPlaced self.now shape name result }
+    {
+        let kept = &self.look_ups[look_up_index(shape, name)];
+        if !kept.is_for(shape, name) {
+            return WordPlace::Elsewhere;
+        }
+        kept.place()
     }
 
     /// The shape of the path without its last field.

@@ -8,7 +8,7 @@ ghost use Rattle.tagged_word.specs.Readings.{header_at};
 ghost use Rattle.page_space.specs.Sizes.{AreWithin};
 ghost use Rattle.page_space.specs.Extents.{words_count, marks_start};
 ghost use Rattle.shape_tree.specs.Shapes.{AreShapes, IsPathShape, IsLocated, shape_path, has_name};
-ghost use Rattle.shape_tree.specs.Recalling.{IsRecalled};
+ghost use Rattle.shape_tree.specs.Recalling.{IsRecalled, IsPlaced};
 ghost use Rattle.nursery.specs.Young.{IsYoung};
 ghost use Rattle.heap_table.specs.declared.phase.Phase.TheVariants.{Quiet};
 ghost use Rattle.heap_table.specs.Seats.{heap_words};
@@ -21,7 +21,7 @@ use heap_table::MainSeat;
 use nursery::Nursery;
 use page_space::Regions;
 use remembered_set::Remembered;
-use shape_tree::{Located, Recalled, ShapeTree};
+use shape_tree::{Located, Recalled, ShapeTree, WordPlace};
 use std::marker::Model;
 use tagged_word::Header;
 use word_store::Reads;
@@ -168,6 +168,15 @@ impl Main {
         ensures { IsRecalled self.now.paths shape name result }
     {
         self.shapes.recall(shape, name)
+    }
+
+    /// Where the word of the field of this name stands in an object of this shape, as far as it is at hand. Nothing is
+    /// sought, and the shape may be any.
+    #[inline(always)]
+    pub fn recall_place(&self, shape: u32, name: u32) -> WordPlace
+        ensures { IsPlaced self.now.paths shape name result }
+    {
+        self.shapes.recall_place(shape, name)
     }
 
     /// The shapes, and the words before the marks, taken out of the heap. It takes no memory.

@@ -1,16 +1,17 @@
 //! What the variables hold.
-ghost use Rattle.std.specs.Prelude.{◌≡◌, ◌≢◌, ◌↔◌, ◌<◌, ℕ, ℤ, IsTrue, IfSome, IsNone};
+ghost use Rattle.std.specs.Prelude.{◌≡◌, ◌≢◌, ◌↔◌, ◌<◌, ℕ, ℤ, IsTrue, IfSome, IsNone, false};
 ghost use Rattle.tagged_word.specs.Words.{small};
 ghost use Rattle.heap_table.specs.declared.phase.Phase.TheVariants.{Quiet};
 ghost use Rattle.heap_table.specs.Seats.{heap_words};
 ghost use Rattle.handle_roots.specs.declared.held.Held.TheVariants.{Unbound, Int, Ref};
-ghost use Rattle.handle_roots.specs.Givens.{GivesHeld};
+ghost use Rattle.handle_roots.specs.Givens.{Gives, GivesHeld};
 ghost use Rattle.handle_roots.specs.Roots.{Holds, IsRoot, with_root};
 ghost use Rattle.write_barrier.specs.MutatorState.{with_variable};
 
 use crate::main_side::Main;
 use handle_roots::{Given, Held, held_by};
 use heap_table::MainSeat;
+use tagged_word::Word;
 
 /// Both root words of a variable become those of a value.
 #[inline(always)]
@@ -40,6 +41,22 @@ fn replace_small_in(seat: &mut MainSeat, variable: u32, v: i64)
     let regions = seat.regions();
     let mut paused = seat.paused();
     handle_roots::replace_small(&mut paused, &regions, variable, v);
+}
+
+/// The root words of a variable that holds an integer in the second become those of another one.
+#[inline(always)]
+fn replace_wide_in(seat: &mut MainSeat, variable: u32, v: i64)
+    requires quiet { seat.old.phase ≡ Quiet }
+    requires known { variable < seat.old.space.variables }
+    requires was { (was : ℤ) × (small was ≡ false) × Holds seat.old.space seat.old.table variable (Int was) }
+    requires wide { small v ≡ false }
+    ensures held { let words = with_root seat.old.space seat.old.table variable (Int v) in
+        seat.new ≡ record seat.old { table = words } }
+    ensures holds { Holds seat.old.space seat.new.table variable (Int v) }
+{
+    let regions = seat.regions();
+    let mut paused = seat.paused();
+    handle_roots::replace_wide(&mut paused, &regions, variable, v);
 }
 
 /// Both root words of a variable become those of another one.
@@ -119,6 +136,58 @@ impl Main {
     {
         let regions = self.regions();
         handle_roots::small_by(self, &regions, variable)
+    }
+
+    /// The word of the small integer that a variable holds, if it holds one.
+    #[inline(always)]
+    pub fn small_word(&mut self, variable: u32) -> Option<Word>
+        requires quiet { self.old.seat.phase ≡ Quiet }
+        requires known { variable < self.old.seat.space.variables }
+        requires root { IsRoot self.old.seat.space (heap_words self.old.seat) variable }
+        ensures holds { let words = heap_words self.old.seat in
+            IfSome result (λ word. (v : ℤ) × IsTrue (small v) × Gives (Given.Word word) (Int v)
+            × Holds self.old.seat.space words variable (Int v)) }
+        ensures none { let words = heap_words self.old.seat in
+            IsNone result → (v : ℤ) → IsTrue (small v) → ¬ Holds self.old.seat.space words variable (Int v) }
+        ensures same { self.new ≡ self.old }
+    {
+        let regions = self.regions();
+        handle_roots::small_word_by(self, &regions, variable)
+    }
+
+    /// The integer that a variable holds in its second root word, if it holds one there.
+    #[inline(always)]
+    pub fn wide(&mut self, variable: u32) -> Option<i64>
+        requires quiet { self.old.seat.phase ≡ Quiet }
+        requires known { variable < self.old.seat.space.variables }
+        requires root { IsRoot self.old.seat.space (heap_words self.old.seat) variable }
+        ensures holds { let words = heap_words self.old.seat in
+            IfSome result (λ v. (small v ≡ false) × Holds self.old.seat.space words variable (Int v)) }
+        ensures none { let words = heap_words self.old.seat in
+            IsNone result → (v : ℤ) → small v ≡ false → ¬ Holds self.old.seat.space words variable (Int v) }
+        ensures same { self.new ≡ self.old }
+    {
+        let regions = self.regions();
+        handle_roots::wide_by(self, &regions, variable)
+    }
+
+    /// Makes a variable that holds an integer in its second root word hold another one there. Only that word changes.
+    #[inline(always)]
+    pub fn replace_wide(&mut self, variable: u32, v: i64)
+        requires quiet { self.old.seat.phase ≡ Quiet }
+        requires known { variable < self.old.seat.space.variables }
+        requires was { let words = heap_words self.old.seat in
+            (was : ℤ) × (small was ≡ false) × Holds self.old.seat.space words variable (Int was) }
+        requires wide { small v ≡ false }
+        ensures held { self.new ≡ with_variable self.old variable (Int v) }
+        ensures heap { let words = heap_words self.old.seat in
+            heap_words self.new.seat ≡ with_root self.old.seat.space words variable (Int v) }
+        ensures holds { let words = heap_words self.new.seat in
+            Holds self.old.seat.space words variable (Int v) }
+    {
+        // The table has a word for each address.
+        self.addresses_fit();
+        replace_wide_in(&mut self.seat, variable, v);
     }
 
     /// Makes a variable that holds a small integer hold another one. Only its first root word changes.

@@ -7,7 +7,7 @@ use Rattle.script_text.specs.Unrolled.{executed_lines}
 use Rattle.script_text.proofs.Left.{at_most_four}
 use Rattle.write_barrier.specs.MutatorState.{Mutator, heap_of}
 use Rattle.heap_script.specs.Stages.{uncollected, stage_of}
-use Rattle.heap_script.proofs.Ways.{goes_on, past_end}
+use Rattle.heap_script.proofs.Ways.{goes_on, is_inside, past_end}
 use Rattle.heap_script.specs.Runs.{OutputHolds, IsDue}
 use Rattle.heap_script.proofs.Handing.{CutsOff-handed}
 use Rattle.heap_script.proofs.Passing.{as_taken, as_handed}
@@ -31,6 +31,11 @@ loop-at-init g c =
       same = refl;
       steady = refl;
     }
+
+pub execute_line-requires-clause-inside : goal.execute_line-requires-clause-inside
+execute_line-requires-clause-inside g c =
+    is_inside c.lines-lines.result.now c.args.script.now.lines c.loop-at.at c.loop-at.turns _ c.lines-lines.ensures.all
+    c.loop-at-test.true c.loop-at.invariant.running.left
 
 pub execute_line-requires-clause-deep : goal.execute_line-requires-clause-deep
 execute_line-requires-clause-deep g c =

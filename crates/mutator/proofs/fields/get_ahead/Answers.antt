@@ -1,37 +1,31 @@
 -- The variable is bound to the field, where the other one refers to a plain object.
-use Rattle.std.proofs.Common.{refl, sym, subst}
-use Rattle.write_barrier.specs.MutatorState.{Mutator}
-use Rattle.object_cells.specs.PlainObjects.{IsPlainAt}
+use Rattle.std.proofs.Common.{refl}
 use Rattle.mutator.proofs.FieldMeanings.{get_done}
+use Rattle.mutator.proofs.FoundKinds.{headed_plain}
 use Rattle.mutator.proofs.Rebinding.{value_carried}
-use Rattle.mutator.proofs.StillShown.{shows_still}
+use Rattle.mutator.proofs.StillShown.{shows_still, header_still}
 use Rattle.mutator.proofs.fields.get_ahead.Goals as goal
 
-pub hold_get-requires-clause-shown : goal.hold_get-requires-clause-shown
-hold_get-requires-clause-shown c =
+pub get_ahead-requires-clause-plain : goal.get_ahead-requires-clause-plain
+get_ahead-requires-clause-plain c from =
     let (graph, shows) = c.requires.shown in
-    let headed = c.in-Some.ensures.found graph shows in
-    let same = c.plain_ahead.ensures.same in
-    let plain = headed.found.plain in
-    record {
-      graph = graph;
-      plain = plain;
-      shows = shows_still same shows;
-      is = subst (λ (main : Mutator). IsPlainAt main graph c.in-Some.at plain) (sym same) headed.found.stands;
-    }
+    let same = c.headed_ahead.ensures.same in
+    let found = (headed_plain (header_still same (c.in-Some.ensures.found graph shows)) from).found in
+    record { graph = graph; plain = found.plain; shows = shows_still same shows; is = found.stands }
 
-pub returns : goal.returns
-returns c = record {
-  carried = λ well graph names shows.
-      let headed = c.in-Some.ensures.found graph shows in
-      let same = c.plain_ahead.ensures.same in
-      let plain = headed.found.plain in
-      let shown = shows_still same shows in
-      let stands = subst (λ (main : Mutator). IsPlainAt main graph c.in-Some.at plain) (sym same) headed.found.stands in
-      let holds = c.hold_get.ensures graph plain shown stands in
-      value_carried names c.args.y holds.held same shown
-      (get_done names c.args.y c.args.f (record { bound = headed.is; refers = headed.found.refers })) refl tt
-      c.requires.within.0 holds.fits holds.shows
-      (record { held = holds.is; heap = holds.heap }) (λ rooms. (refl, λ number. refl));
-  unchanged = λ ill. absurd (cc);
-}
+pub get_ahead-requires-clause-headed : goal.get_ahead-requires-clause-headed
+get_ahead-requires-clause-headed c =
+    let (graph, shows) = c.requires.shown in
+    (header_still c.headed_ahead.ensures.same (c.in-Some.ensures.found graph shows)).headed
+
+pub returns-clause-carried : goal.returns-clause-carried
+returns-clause-carried c well graph names shows =
+    let same = c.headed_ahead.ensures.same in
+    let headed = headed_plain (header_still same (c.in-Some.ensures.found graph shows))
+    (c.get_ahead.ensures.plain well) in
+    let shown = shows_still same shows in
+    let holds = c.get_ahead.ensures.held well graph headed.found.plain shown headed.found.stands in
+    value_carried names c.args.y holds.held same shown
+    (get_done names c.args.y c.args.f (record { bound = headed.is; refers = headed.found.refers })) refl tt
+    c.requires.within.0 holds.fits holds.shows
+    (record { held = holds.is; heap = holds.heap }) (λ rooms. (refl, λ number. refl))

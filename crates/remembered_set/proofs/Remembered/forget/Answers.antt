@@ -72,10 +72,11 @@ invariant_of-self c =
     let items = with_items_is c.self.inside.bits now (omega arith) in
     let read : get_or counts page 0 ≡ c.index_mut.result.now =
     read_there counts page c.index_mut.result.now 0 inside c.index_mut.ensures.value in
-    let within : length (flags_of now) ≤ page_words * pages_most =
-    omega (arith, long, length-flags_of now, length-flags_of bits, c.self.invariant.recorded.within) in
+    let as_many : length (flags_of now) ≡ length flags =
+    omega (arith, long, length-flags_of now, length-flags_of bits) in
     record {
-      recorded = rw items (is_recorded (flags_of now) within);
+      recorded = rw items (is_recorded (flags_of now) (omega (arith, as_many, c.self.invariant.recorded.within)));
+      bound = rw items (omega (arith, as_many, c.self.invariant.bound));
       pages = rw (items, length-set) (omega (arith, long, c.self.invariant.pages));
       counted = rw (items, cleared, ← read) (counted_clear flags (set flags c.args.slot false) counts page c.args.slot
           (c.args.slot + 1) 1 (omega arith) (omega arith) inside (clears_one flags c.args.slot below)

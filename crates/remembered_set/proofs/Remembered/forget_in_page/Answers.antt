@@ -47,16 +47,11 @@ invariant_of-self c =
     let many : length now ≡ length c.self.inside.bits.items =
     rw c.deref_mut.ensures.value at c.clear-count.ensures.as_many in
     let items = with_items_is c.self.inside.bits now (omega arith) in
-    let within : length (flags_of now) ≤ page_words * pages_most =
-    omega (
-      arith,
-      many,
-      length-flags_of now,
-      length-flags_of c.self.inside.bits.items,
-      c.self.invariant.recorded.within,
-    ) in
+    let as_many : length (flags_of now) ≡ length (flags_of c.self.inside.bits.items) =
+    omega (arith, many, length-flags_of now, length-flags_of c.self.inside.bits.items) in
     record {
-      recorded = rw items (is_recorded (flags_of now) within);
+      recorded = rw items (is_recorded (flags_of now) (omega (arith, as_many, c.self.invariant.recorded.within)));
+      bound = rw items (omega (arith, as_many, c.self.invariant.bound));
       pages = rw (items, length-set) (omega (arith, many, c.self.invariant.pages));
       counted = rw (items, ← read)
           (counted_clear (flags_of c.self.inside.bits.items) (flags_of now) c.self.inside.counts.items c.args.page

@@ -21,6 +21,7 @@ invariant_of-result c =
     record {
       recorded = is_recorded (flags_of c.in_ok-bits.bits.items)
           (omega (arith, c.in_ok-bits.ensures.len, length-flags_of c.in_ok-bits.bits.items));
+      bound = omega (arith, c.in_ok-bits.ensures.len, length-flags_of c.in_ok-bits.bits.items);
       pages = rw (bits, counts, length-replicate {A = ℕ} words 0, length-replicate {A = ℕ} c.args.pages 0);
       counted = rw (flags, counts) (counted_none (64 * words) c.args.pages);
     }

@@ -57,10 +57,12 @@ invariant_of-self c =
     rw c.deref_mut.ensures.value at (c.note.ensures.was_clear.0 c.if-note.true) in
     let read : get_or c.self.inside.counts.items page 0 ≡ c.index_mut.result.now =
     read_there c.self.inside.counts.items page c.index_mut.result.now 0 inside c.index_mut.ensures.value in
-    let within : length (flags_of c.note.new.bits) ≤ page_words * pages_most =
-    omega (arith, long, length-flags_of c.note.new.bits, length-flags_of bits, c.self.invariant.recorded.within) in
+    let as_many : length (flags_of c.note.new.bits) ≡ length flags =
+    omega (arith, long, length-flags_of c.note.new.bits, length-flags_of bits) in
     record {
-      recorded = rw items (is_recorded (flags_of c.note.new.bits) within);
+      recorded = rw items
+          (is_recorded (flags_of c.note.new.bits) (omega (arith, as_many, c.self.invariant.recorded.within)));
+      bound = rw items (omega (arith, as_many, c.self.invariant.bound));
       pages = rw (items, length-set) (omega (arith, long, c.self.invariant.pages));
       counted = rw (items, is, ← read) (counted_note flags c.self.inside.counts.items c.args.slot page
           (omega arith) (omega arith) below inside was c.self.invariant.counted);
@@ -82,10 +84,12 @@ invariant_of-self-else-note c =
     not_false (get_or (flags_of c.deref_mut.result.now) c.args.slot false)
     (λ clear. false≢true (sym c.if-note.false ∙ c.note.ensures.was_clear.1 clear)) in
     let was : get_or flags c.args.slot false ≡ true = rw c.deref_mut.ensures.value at read in
-    let within : length (flags_of c.note.new.bits) ≤ page_words * pages_most =
-    omega (arith, long, length-flags_of c.note.new.bits, length-flags_of bits, c.self.invariant.recorded.within) in
+    let as_many : length (flags_of c.note.new.bits) ≡ length flags =
+    omega (arith, long, length-flags_of c.note.new.bits, length-flags_of bits) in
     record {
-      recorded = rw items (is_recorded (flags_of c.note.new.bits) within);
+      recorded = rw items
+          (is_recorded (flags_of c.note.new.bits) (omega (arith, as_many, c.self.invariant.recorded.within)));
+      bound = rw items (omega (arith, as_many, c.self.invariant.bound));
       pages = rw items (omega (arith, long, c.self.invariant.pages));
       counted = rw (items, is) (counted_again flags c.self.inside.counts.items c.args.slot was below
           c.self.invariant.counted);

@@ -3,7 +3,7 @@ use Rattle.std.proofs.Common.{◌∙◌, ap}
 use Rattle.handle_roots.specs.Roots.{first_word}
 use Rattle.handle_roots.specs.RootDecoding.{decoded, decoded_by}
 use Rattle.handle_roots.proofs.RootWords.{HasClass, class_of_first}
-use Rattle.handle_roots.proofs.roots.held_by_first.Goals as goal
+use Rattle.handle_roots.proofs.first_words.held_by_first.Goals as goal
 
 pub known_class-requires : goal.known_class-requires
 known_class-requires c =
