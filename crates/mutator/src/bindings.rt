@@ -20,6 +20,9 @@ use heap_command::{Command, FaultWord, Operand};
 use tagged_word::is_small;
 use write_barrier::Main;
 
+/// An integer below this, and not below its negative, has a sum of 64 bits with each small one.
+const FAR: i64 = 1 << 62;
+
 /// Binds `x` to the value. What another variable is bound to is copied, whatever it is.
 ///
 /// Stops with `unbound`.
@@ -163,8 +166,8 @@ fn small_sum(main: &mut Main, x: u32, v: &Operand) -> Option<i64>
     if is_small(sum) { Some(sum) } else { None }
 }
 
-/// The sum of the integer that `x` holds and the value, if neither that integer nor the sum is small, and the value is
-/// written in the command or small.
+/// The sum of the integer that `x` holds and the value, if the value is a small integer, neither the other integer nor
+/// the sum is small, and the sum can't wrap.
 #[inline(always)]
 fn wide_sum(main: &mut Main, x: u32, v: &Operand) -> Option<i64>
     requires shown { (graph : Graph) × MainShows main.old graph }
@@ -176,23 +179,27 @@ fn wide_sum(main: &mut Main, x: u32, v: &Operand) -> Option<i64>
     ensures same { main.new ≡ main.old }
 {
     let first = main.wide(x)?;
-    let second = known_integer(main, v)?;
-    let sum = first.checked_add(second)?;
+    let second = small_integer(main, v)?;
+    if first < -FAR || first >= FAR {
+        return None;
+    }
+    // Between these it does not wrap.
+    let sum = first.wrapping_add(second);
     if is_small(sum) { None } else { Some(sum) }
 }
 
-/// The integer that the operand is, or that its variable holds, if that is a small one.
+/// The small integer that the operand is, or that its variable holds, if it is one.
 #[inline(always)]
-fn known_integer(main: &mut Main, v: &Operand) -> Option<i64>
+fn small_integer(main: &mut Main, v: &Operand) -> Option<i64>
     requires shown { (graph : Graph) × MainShows main.old graph }
     requires within { NamesBelow main.old.seat.space.variables v.now }
-    ensures found { IfSome result (λ integer. (graph : Graph) → MainShows main.old graph →
-        option_and_then integer_in (value_of graph v.now) ≡ Some integer) }
+    ensures found { IfSome result (λ integer. IsTrue (small integer) × ((graph : Graph) → MainShows main.old graph →
+        option_and_then integer_in (value_of graph v.now) ≡ Some integer)) }
     ensures same { main.new ≡ main.old }
 {
     match v {
-        Operand::Int(v) => Some(*v),
-        Operand::Undefined => None,
+        Operand::Int(v) if is_small(*v) => Some(*v),
+        Operand::Int(_) | Operand::Undefined => None,
         Operand::Var(x) => main.small(*x),
     }
 }

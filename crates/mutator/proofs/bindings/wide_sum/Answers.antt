@@ -1,7 +1,6 @@
--- The sum of two integers, where neither the first nor the sum is small.
-use Rattle.std.proofs.Common.{◌≡◌, ◌+ℤ◌, w64, SFits, Some, rules, sym, subst, arith}
-use Rattle.std.proofs.lemmas.Int.{ints, to_z-of_z}
-use Rattle.mutator.specs.Reading.{FindsSum}
+-- The sum of two integers, the first of which is not small, and the second is: within 62 bits it does not wrap.
+use Rattle.std.proofs.Common.{◌+ℤ◌, ◌∙◌, w64, SFits, Some, rules}
+use Rattle.std.proofs.lemmas.Int.{int_wrap_fits, wrapping_add_is}
 use Rattle.mutator.proofs.HeldValues.{is_root}
 use Rattle.mutator.proofs.IntegerSums.{finds_sum}
 use Rattle.mutator.proofs.SmallSums.{integer_held}
@@ -11,22 +10,18 @@ use Rattle.mutator.proofs.bindings.wide_sum.Goals as goal
 pub wide-requires-clause-root : goal.wide-requires-clause-root
 wide-requires-clause-root c = is_root c.args.x c.requires.shown.1 c.requires.within.0
 
-pub known_integer-requires-clause-shown : goal.known_integer-requires-clause-shown
-known_integer-requires-clause-shown c = some_still c.in_ok-first.ensures.same c.requires.shown
+pub small_integer-requires-clause-shown : goal.small_integer-requires-clause-shown
+small_integer-requires-clause-shown c = some_still c.in_ok-first.ensures.same c.requires.shown
 
 pub returns-else-is_small-clause-found : goal.returns-else-is_small-clause-found
 returns-else-is_small-clause-found c graph names shows =
     let first = c.in_ok-first.first in
     let second = c.in_ok-second.second in
-    let sum = c.in_ok-sum.sum in
-    let fits : SFits w64 sum = search rules in
-    let same : sum ≡ first +ℤ second = omega (arith, ints, c.in_ok-sum.ensures.1) in
+    let (is_small, is) = c.in_ok-second.ensures.found in
     let after = shows_still c.in_ok-first.ensures.same shows in
-    let found = finds_sum names graph c.args.x c.args.v.now first second (Some sum)
-    (integer_held c.args.x first shows c.requires.within.0 c.in_ok-first.ensures.holds.1)
-    (c.in_ok-second.ensures.found graph after) (subst (SFits w64) same fits, same) in
-    subst (λ n. FindsSum names graph c.args.x c.args.v.now (Some n)) (sym (to_z-of_z w64 sum fits)) found
-
-pub returns-else-is_small-clause-was : goal.returns-else-is_small-clause-was
-returns-else-is_small-clause-was c =
-    let (wide, holds) = c.in_ok-first.ensures.holds in (sym c.if-is_small.ensures, (c.in_ok-first.first, wide, holds))
+    let first_fits : SFits w64 first = search rules in
+    let second_fits : SFits w64 second = search rules in
+    let fits : SFits w64 (first +ℤ second) = search rules in
+    finds_sum names graph c.args.x c.args.v.now first second (Some _)
+    (integer_held c.args.x first shows c.requires.within.0 c.in_ok-first.ensures.holds.1) (is graph after)
+    (fits, wrapping_add_is w64 first second first_fits second_fits ∙ int_wrap_fits w64 (first +ℤ second) fits)
