@@ -2,7 +2,7 @@
 use Rattle.std.proofs.Common.{◌≡◌, ℕ, ◌<◌, ◌≤◌, List, [], ◌++◌, length, take, drop, Option, Some, None}
 use Rattle.std.proofs.Common.{IfSome, refl, sym, ap, subst, ◌∙◌, append_assoc}
 use Rattle.std.proofs.lemmas.List.{take-append-drop, append-nil}
-use Rattle.byte_ends.specs.Source.{Gives}
+use Rattle.byte_ends.specs.Source.{ReadsInto}
 
 -- these bytes were taken from the front of what was left
 abbrev pub Consumes : Option (List ℕ) → Option (List ℕ) → List ℕ → Type 0
@@ -10,7 +10,7 @@ Consumes old new bytes = IfSome old (λ left. (rest : List ℕ) × (left ≡ byt
 
 -- one read more takes its bytes behind those that were taken before
 pub Consumes-gives : (old mid new : Option (List ℕ)) (bytes before after : List ℕ) (n : ℕ)
-    → Consumes old mid bytes → Gives mid new before after n → Consumes old new (bytes ++ take n after)
+    → Consumes old mid bytes → ReadsInto mid new before after n → Consumes old new (bytes ++ take n after)
 Consumes-gives None mid new bytes before after n c g = tt
 Consumes-gives (Some left) mid new bytes before after n (rest, left-is, mid-is) g =
     let Given : Option (List ℕ) → Type 0 =
@@ -24,7 +24,7 @@ Consumes-gives (Some left) mid new bytes before after n (rest, left-is, mid-is) 
 
 -- nothing is left where a read into a buffer that is not empty gives no bytes
 pub Consumes-ended : (old mid new : Option (List ℕ)) (bytes before after : List ℕ)
-    → Consumes old mid bytes → Gives mid new before after 0 → 0 < length before
+    → Consumes old mid bytes → ReadsInto mid new before after 0 → 0 < length before
     → IfSome old (λ left. (bytes ≡ left) × (new ≡ Some []))
 Consumes-ended None mid new bytes before after c g room = tt
 Consumes-ended (Some left) mid new bytes before after (rest, left-is, mid-is) g room =

@@ -2,7 +2,7 @@
 use Rattle.std.specs.Prelude.{◌≡◌, ℕ, ◌<◌, ◌≤◌, List, [], length, take, drop, Option, Some, IfSome}
 
 -- a read gave n bytes into a buffer
-pub record Gives (old new : Option (List ℕ)) (before after : List ℕ) (n : ℕ) : Type 0 where
+pub record ReadsInto (old new : Option (List ℕ)) (before after : List ℕ) (n : ℕ) : Type 0 where
   pub within : n ≤ length before
   -- they are the first of what was left, and the others are left then
   pub given : IfSome old (λ left. (n ≤ length left) × (take n after ≡ take n left) × (new ≡ Some (drop n left)))

@@ -2,7 +2,7 @@
 ghost use Rattle.std.specs.Prelude.{◌≡◌, ◌≤◌, ℕ, List, Option, IfOk, OnOk, OnErr};
 ghost use Rattle.byte_ends.specs.Faults.{Rose, one_more};
 ghost use Rattle.byte_ends.specs.Sink.{TakesNothing, Takes};
-ghost use Rattle.byte_ends.specs.Source.{Gives};
+ghost use Rattle.byte_ends.specs.Source.{ReadsInto};
 
 /// The call could not be carried out.
 #[derive(Clone, Copy, Debug, PartialEq, Eq)]
@@ -18,7 +18,7 @@ pub trait Source {
     /// Gives bytes into the front of the buffer and answers how many. None, for a buffer that is
     /// not empty, is the end of the input. What is left after a failure is not said.
     fn read(&mut self, buffer: &mut [u8]) -> Result<usize, Failed>
-        ensures given { IfOk result (Gives (left self.old) (left self.new) buffer.old buffer.new) }
+        ensures given { IfOk result (ReadsInto (left self.old) (left self.new) buffer.old buffer.new) }
         ensures failed { OnErr result (Rose (faults self.old) (faults self.new)) }
         ensures steady { OnOk result (faults self.new ≡ faults self.old) }
         ensures counted { faults self.old ≤ faults self.new };

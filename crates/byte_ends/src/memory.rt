@@ -3,7 +3,7 @@ ghost use Rattle.std.specs.Prelude.{◌≡◌, ◌≤◌, [], length, Some, IfOk
 ghost use Rattle.byte_ends.specs.Faults.{Rose};
 ghost use Rattle.byte_ends.specs.Memory.{HasBytes, ReadsMemory, WritesMemory};
 ghost use Rattle.byte_ends.specs.Sink.{TakesNothing, Takes};
-ghost use Rattle.byte_ends.specs.Source.{Gives};
+ghost use Rattle.byte_ends.specs.Source.{ReadsInto};
 
 use crate::copying::give_front;
 use crate::ends::{Failed, Sink, Source, fault};
@@ -78,7 +78,7 @@ impl Source for MemSource {
 
     fn read(&mut self, buffer: &mut [u8]) -> Result<usize, Failed>
         ensures given { IfOk result
-            (Gives (Some self.old.left) (Some self.new.left) buffer.old buffer.new) }
+            (ReadsInto (Some self.old.left) (Some self.new.left) buffer.old buffer.new) }
         ensures failed { OnErr result (Rose self.old.faults self.new.faults) }
         ensures steady { OnOk result (self.new.faults ≡ self.old.faults) }
         ensures counted { self.old.faults ≤ self.new.faults }

@@ -3,7 +3,7 @@ ghost use Rattle.std.specs.Prelude.{◌≡◌, ◌≤◌, None, length, take, If
 ghost use Rattle.std.specs.Io.KnownBytes.{Appends, ReadConsumes};
 ghost use Rattle.byte_ends.specs.Faults.{one_more};
 ghost use Rattle.byte_ends.specs.Sink.{AnyBytes, TakesNothing, Takes};
-ghost use Rattle.byte_ends.specs.Source.{Gives};
+ghost use Rattle.byte_ends.specs.Source.{ReadsInto};
 ghost use Rattle.byte_ends.specs.Standard.{read_faults, reader_of, write_faults, writer_of};
 
 use crate::ends::{Failed, Sink, Source};
@@ -37,7 +37,7 @@ impl<R: Read> Source for StdSource<R> {
     ghost faults = { read_faults };
 
     fn read(&mut self, buffer: &mut [u8]) -> Result<usize, Failed>
-        ensures given { IfOk result (Gives None None buffer.old buffer.new) }
+        ensures given { IfOk result (ReadsInto None None buffer.old buffer.new) }
         ensures failed { OnErr result (read_faults self.new ≡ one_more (read_faults self.old)) }
         ensures steady { OnOk result (read_faults self.new ≡ read_faults self.old) }
         ensures counted { read_faults self.old ≤ read_faults self.new }

@@ -1,7 +1,7 @@
 //! A source and a sink that never fail. The sink keeps no bytes.
 ghost use Rattle.std.specs.Prelude.{◌≡◌, ◌+◌, ◌≤◌, ℕ, List, drop, length, min, sum, Ok, Some, IfOk};
 ghost use Rattle.byte_ends.specs.Sink.{Takes};
-ghost use Rattle.byte_ends.specs.Source.{Gives};
+ghost use Rattle.byte_ends.specs.Source.{ReadsInto};
 ghost use Rattle.byte_ends.specs.Sure.{HasSums, Sums, with_piece, wrapped};
 
 use crate::copying::give_front;
@@ -42,7 +42,7 @@ impl Source for SureSource {
     ghost faults = { λ _. 0 };
 
     fn read(&mut self, buffer: &mut [u8]) -> Result<usize, Failed>
-        ensures given { IfOk result (Gives (Some self.old) (Some self.new) buffer.old buffer.new) }
+        ensures given { IfOk result (ReadsInto (Some self.old) (Some self.new) buffer.old buffer.new) }
         ensures sure { result ≡ Ok (min (length buffer.old) (length self.old)) }
     {
         let left = &self.bytes[self.at..];

@@ -39,7 +39,7 @@ impl Model for CellList {
 
     ghost Value = { Listing };
 
-    ghost use Rattle.cell_list.specs.Kept.{listing_of, IsValid};
+    ghost use Rattle.cell_list.specs.Model.{listing_of, IsValid};
 
     ghost view = { listing_of };
 

@@ -21,7 +21,8 @@ use Rattle.write_barrier.specs.MutatorState.{Mutator, heap_of, with_table}
 use Rattle.write_barrier.specs.Values.{with_range}
 use Rattle.write_barrier.proofs.PutRanges.{length-with_range, with_range_before, with_range_filled, with_range_behind}
 use Rattle.collector.specs.Images.{AreWordsOf}
-use Rattle.collector.specs.Filling.{CopiesWithin, BlanksWithin, BlanksBehind, FillsWithin, EndsRowAt}
+use Rattle.collector.specs.Filling.{CopiesWithin, BlanksWithin, BlanksBehind, FillsWithin}
+use Rattle.heap_walk.specs.Limits.{EndsRow}
 use Rattle.collector.proofs.RowAddresses.{of_page}
 use Rattle.collector.proofs.CopiedCells.{Copying, row_stays, has_rows}
 use Rattle.collector.proofs.FilledWords.{fills_more, region_filled, row_lies_between, words_filled}
@@ -107,7 +108,7 @@ heap_words_ahead heap words at to fills = record {
 
 -- a used row ends there in the heap where it does so in words that keep the cells
 row_ended : {heap : Heap} {words : List ℕ} (start end : ℕ) → Copying heap words
-    → EndsRowAt (written heap words) start end → EndsRowAt heap start end
+    → EndsRow (written heap words) start end → EndsRow heap start end
 row_ended start end copying ends row is =
     ends row record { among = is.among; starts = is.starts; used = row_stays row copying is.among is.used }
 
@@ -117,7 +118,7 @@ pub region_blanked : (heap : Heap) (words new : List ℕ) (at end : ℕ) → Cop
     → BlanksBehind (written heap words) new at end → FillsWithin heap heap.words new 0 end
 region_blanked heap words new at end copying stands fills blanks =
     let row_end : ℕ = blanks.row_end in
-    let ends : EndsRowAt heap at row_end = row_ended at row_end copying blanks.ends in
+    let ends : EndsRow heap at row_end = row_ended at row_end copying blanks.ends in
     let lies = row_lies_between heap at row_end end copying.rows stands ends in
     fills_more heap heap.words words new 0 at end (omega arith) (omega (arith, lies.from, lies.within)) fills
     (region_filled heap words words new at row_end end copying.rows stands ends

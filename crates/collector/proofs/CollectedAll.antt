@@ -2,7 +2,7 @@
 use Rattle.std.proofs.Common.{◌≡◌, ◌∙◌, sym, ap}
 use Rattle.object_graph.specs.Graphs.{Graph}
 use Rattle.page_space.specs.Extents.{Space}
-use Rattle.mark_sweep.specs.MarkSwept.{MarkSweeps}
+use Rattle.collector.specs.MarkSwept.{MarkSweeps}
 use Rattle.collector.specs.States.{HeapState, HeapShows}
 use Rattle.collector.proofs.Keeping.{still_shows}
 

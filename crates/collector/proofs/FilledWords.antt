@@ -11,7 +11,8 @@ use Rattle.heap_model.proofs.WordsAlike.{cell_below_roots, extent_below_roots}
 use Rattle.collector.specs.Images.{AreWordsOf}
 use Rattle.heap_model.specs.RegionRows.{StandsBetween}
 use Rattle.heap_model.proofs.RegionRows.{row_between}
-use Rattle.collector.specs.Filling.{CopiesWithin, BlanksWithin, EndsRowAt, FillsWithin}
+use Rattle.collector.specs.Filling.{CopiesWithin, BlanksWithin, FillsWithin}
+use Rattle.heap_walk.specs.Limits.{EndsRow}
 use Rattle.collector.proofs.RowAddresses.{of_row, not_behind}
 
 -- where the used row of a region may end
@@ -22,7 +23,7 @@ pub record LiesBetween (heap : Heap) (start row_end end : ℕ) : Type 0 where
 
 -- it ends in its region, and so before the marks
 pub row_lies_between : (heap : Heap) (start row_end end : ℕ) → HasRows heap → StandsBetween heap.space start end
-    → EndsRowAt heap start row_end → LiesBetween heap start row_end end
+    → EndsRow heap start row_end → LiesBetween heap start row_end end
 row_lies_between heap start row_end end rows stands ends =
     let own = row_between rows.are stands in
     let row = own.row in
@@ -44,7 +45,7 @@ row_lies_between heap start row_end end rows stands ends =
 
 -- a region is filled where its used row is copied and the words behind that are made 0
 pub region_filled : (heap : Heap) (old mid new : List ℕ) (start row_end end : ℕ) → HasRows heap
-    → StandsBetween heap.space start end → EndsRowAt heap start row_end → CopiesWithin heap.words old mid start row_end
+    → StandsBetween heap.space start end → EndsRow heap start row_end → CopiesWithin heap.words old mid start row_end
     → BlanksWithin mid new row_end end → FillsWithin heap old new start end
 region_filled heap old mid new start row_end end rows stands ends copies blanks =
     let own = row_between rows.are stands in

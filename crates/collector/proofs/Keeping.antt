@@ -1,12 +1,10 @@
 -- What stays of a heap whose mutator's side became another one.
-use Rattle.std.proofs.Common.{◌≡◌, ◌∙◌, Bool, inl, length, ap, sym, subst}
+use Rattle.std.proofs.Common.{◌≡◌, ◌∙◌, Bool, length, ap, sym}
 use Rattle.object_graph.specs.Graphs.{Graph}
-use Rattle.page_space.specs.Extents.{Space, marks_start, roots_start}
-use Rattle.heap_model.specs.Images.{image_heap}
-use Rattle.write_barrier.specs.MutatorState.{Mutator, heap_of, MainShows}
+use Rattle.page_space.specs.Extents.{Space, roots_start}
+use Rattle.write_barrier.specs.MutatorState.{Mutator, MainShows}
 use Rattle.scavenger.specs.Laws.{KeepsGraphs}
-use Rattle.collector.specs.Images.{IsImageOf}
-use Rattle.collector.specs.States.{HeapState, HeapShows, Rest, IsReady, with_cycle}
+use Rattle.collector.specs.States.{HeapState, HeapShows, Rest, with_cycle}
 
 -- a heap with the same parts is the same
 pub same_heap : (heap after : HeapState) → after.main ≡ heap.main → after.rest ≡ heap.rest → after ≡ heap
@@ -14,17 +12,14 @@ same_heap heap after main rest =
     ap (λ (m : Mutator). record { main = m; rest = after.rest }) main
     ∙ ap (λ (s : Rest). record { main = heap.main; rest = s }) rest
 
--- where the mutator's side shows a graph, and the regions, the memory for an image and the number of rows of free runs
--- are the same, the heap shows it
+-- where the mutator's side shows a graph, and the regions and the number of rows of free runs are the same, the heap
+-- shows it
 pub still_shows : (heap after : HeapState) (graph : Graph) {before : Graph} → HeapShows heap before
     → after.rest ≡ heap.rest → after.main.seat.space ≡ heap.main.seat.space
     → length after.main.free ≡ length heap.main.free → MainShows after.main graph → HeapShows after graph
 still_shows heap after graph shown rest space rows shows = record {
   main = shows;
   rows = rows ∙ shown.rows ∙ ap (λ (one : Space). one.sizes.pages) (sym space);
-  regions = ap (λ (s : Rest). s.image.regions) rest ∙ shown.regions ∙ sym space;
-  ready = subst (λ (s : Rest). IsReady s (marks_start after.main.seat.space)) (sym rest)
-      (subst (λ (regions : Space). IsReady heap.rest (marks_start regions)) (sym space) shown.ready);
   listed = rw (rest, space) shown.listed;
   marks = ap (λ (s : Rest). s.marks) rest ∙ shown.marks ∙ ap roots_start (sym space);
 }
@@ -35,27 +30,9 @@ pub cycled_shows : (heap : HeapState) (cycle : Bool) (graph : Graph) → HeapSho
 cycled_shows heap cycle graph shown = record {
   main = shown.main;
   rows = shown.rows;
-  regions = shown.regions;
-  ready = shown.ready;
   listed = shown.listed;
   marks = shown.marks;
 }
-
--- where only the image was made, of the heap, each graph that was shown is shown
-pub imaged_shows : (heap after : HeapState) (graph : Graph) → HeapShows heap graph → after.main ≡ heap.main
-    → IsImageOf (heap_of heap.main) (image_heap after.rest.image) → after.rest.places ≡ heap.rest.places
-    → after.rest.marks ≡ heap.rest.marks → HeapShows after graph
-imaged_shows heap after graph shown main image places marks =
-    let space : after.main.seat.space ≡ heap.main.seat.space = ap (λ (one : Mutator). one.seat.space) main in
-    record {
-      main = subst (λ (one : Mutator). MainShows one graph) (sym main) shown.main;
-      rows = ap (λ (one : Mutator). length one.free) main ∙ shown.rows
-          ∙ ap (λ (one : Space). one.sizes.pages) (sym space);
-      regions = image.space ∙ sym space;
-      ready = inl (image.words.count ∙ ap marks_start (sym space));
-      listed = rw (places, space) shown.listed;
-      marks = marks ∙ shown.marks ∙ ap roots_start (sym space);
-    }
 
 -- where nothing changes, each graph that was shown is shown, with the same rooms
 pub keeps_itself : (main : Mutator) → KeepsGraphs main main

@@ -1,7 +1,6 @@
 pub mod RowAddresses
 mod CopiedCells
 pub mod ImagesShow
-mod RowWalks
 mod FilledWords
 mod BlankedWords
 pub mod ImageStores
@@ -12,3 +11,12 @@ pub mod ImagesExact
 pub mod Keeping
 pub mod MadeRoom
 pub mod CollectedAll
+pub mod Ungranted
+pub mod BesideMaps
+pub mod TakenPairs
+pub mod ClearedHeap
+pub mod SweptObjects
+pub mod Collected
+pub mod CollectedHeaps
+pub mod FilledHeaps
+pub mod RowSteps

@@ -1,9 +1,7 @@
 -- How the words of an image are put: stretch by stretch, and region by region.
 use Rattle.std.specs.Prelude.{◌≡◌, ℕ, ◌<◌, ◌≤◌, ◌⊎◌, List, length, Some, slice_get}
-use Rattle.page_space.specs.declared.region.Region.TheVariants.{Segment}
-use Rattle.page_space.specs.Extents.{Space}
-use Rattle.heap_model.specs.Heaps.{Heap, Row}
-use Rattle.heap_model.specs.RegionRows.{StandsBetween, IsRowFrom}
+use Rattle.heap_model.specs.Heaps.{Heap}
+use Rattle.heap_walk.specs.Limits.{EndsRow}
 use Rattle.collector.specs.Images.{IsOfSomeCell}
 
 -- the words from an address to another have become those of a source, and no other has changed
@@ -18,21 +16,10 @@ pub record BlanksWithin (old new : List ℕ) (from to : ℕ) : Type 0 where
   pub there : (at : ℕ) → from ≤ at → at < to → slice_get new at ≡ Some 0
   pub others : (at : ℕ) → (at < from) ⊎ (to ≤ at) → slice_get new at ≡ slice_get old at
 
--- the region that stands there is a segment
-pub record IsSegmentBetween (space : Space) (start end : ℕ) : Type 0 where
-  pub stands : StandsBetween space start end
-  pub half : ℕ
-  pub worker : ℕ
-  pub of_region : stands.extent.region ≡ Segment half worker
-
--- the used row of the region that begins at an address ends there
-abbrev pub EndsRowAt : Heap → ℕ → ℕ → Type 0
-EndsRowAt heap start end = (row : Row) → IsRowFrom heap start row → row.end ≡ end
-
--- the words behind the used row of the region between two addresses have become 0, and no other has changed
+-- the words after the used row of the region between two addresses have become 0, and no other has changed
 pub record BlanksBehind (heap : Heap) (new : List ℕ) (start end : ℕ) : Type 0 where
   pub row_end : ℕ
-  pub ends : EndsRowAt heap start row_end
+  pub ends : EndsRow heap start row_end
   pub blanks : BlanksWithin heap.words new row_end end
 
 -- From an address to another the words are those of an image: the heap's where a cell stands, and else 0.

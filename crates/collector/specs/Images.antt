@@ -1,6 +1,7 @@
 -- Images of a heap: the same cells, roots and layout words, and 0 where no cell stands.
 use Rattle.std.specs.Prelude.{◌≡◌, ℕ, ◌<◌, ◌≤◌, List, length, Some, slice_get}
-use Rattle.page_space.specs.Extents.{roots_start, layouts_start, marks_start}
+use Rattle.page_space.specs.Extents.{Space, roots_start, layouts_start, marks_start}
+use Rattle.heap_model.specs.declared.image.HeapImage.{HeapImage}
 use Rattle.heap_model.specs.Types.{Cell}
 use Rattle.heap_model.specs.Heaps.{Heap, HasCell}
 use Rattle.live_cells.specs.Exact.{IsWordOf}
@@ -31,3 +32,8 @@ pub record IsImageOf (heap image : Heap) : Type 0 where
   pub survivors : image.survivors ≡ heap.survivors
   pub paths : image.paths ≡ heap.paths
   pub words : AreWordsOf heap image.words
+
+-- images of heaps of these regions can be put there: it has the regions, and a word for each address before the marks
+pub record IsRoomFor (space : Space) (image : HeapImage) : Type 0 where
+  pub regions : image.regions ≡ space
+  pub words : length image.words ≡ marks_start space

@@ -1,7 +1,13 @@
 pub mod States
 pub mod Making
-pub mod Kept
+pub mod Model
 pub mod Lending
 pub mod Images
 pub mod ImageLaws
 pub mod Filling
+pub mod MarkSwept
+pub mod Collected
+pub mod CollectionLaws
+pub mod Filled
+pub mod Counted
+pub mod Passing

@@ -8,11 +8,11 @@ ghost use Rattle.write_barrier.specs.MutatorState.{heap_of, with_table};
 ghost use Rattle.collector.specs.Images.{AreWordsOf};
 ghost use Rattle.collector.specs.Filling.{BlanksBehind};
 
-use crate::row_ends::row_end;
+use heap_walk::row_end;
 use page_space::Region;
 use write_barrier::Main;
 
-/// Makes the words behind the used row of a region 0. The region stands between two addresses.
+/// Makes the words after the used row of a region 0. The region stands between two addresses.
 fn blank_region(main: &mut Main, start: u32, end: u32)
     requires quiet { main.old.seat.phase ≡ Quiet }
     requires rows { HasRows (heap_of main.old) }

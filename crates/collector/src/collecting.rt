@@ -4,14 +4,14 @@ ghost use Rattle.object_graph.specs.Graphs.{Graph};
 ghost use Rattle.object_graph.specs.Reach.{reached_objects, reached_entries};
 ghost use Rattle.scavenger.specs.Scavenged.{Scavenges};
 ghost use Rattle.scavenger.specs.Laws.{KeepsGraphs};
-ghost use Rattle.exact_heaps.specs.Collected.{CollectsAll};
+ghost use Rattle.collector.specs.Collected.{CollectsAll};
 ghost use Rattle.collector.specs.States.{HeapShows, with_cycle};
 
+use crate::census::{Census, count_cells};
+use crate::laws::laws_of_collections;
+use crate::mark_sweeping::mark_sweep;
 use crate::script_heap::Heap;
-use exact_heaps::laws_of_collections;
-use heap_census::{Census, count_cells};
 use live_cells::laws_of_counts;
-use mark_sweep::mark_sweep;
 use scavenger::scavenge;
 use std::mem;
 
@@ -25,7 +25,9 @@ impl Heap {
         ensures rooms { KeepsGraphs self.old.main self.new.main }
         ensures rest { self.new.rest ≡ self.old.rest }
     {
-        scavenge(&mut self.main, &mut self.list, promote_all);
+        let none = Vec::new(self.alloc);
+        let list = mem::replace(&mut self.list, none);
+        self.list = scavenge(&mut self.main, list, promote_all);
     }
 
     /// Copies the live cells of the young generation, so that eden is empty. A survivor goes to a page, if

@@ -2,7 +2,7 @@
 //! which a cycle ends.
 ghost use Rattle.std.specs.Prelude.{◌≡◌, true, false};
 ghost use Rattle.object_graph.specs.Graphs.{Graph};
-ghost use Rattle.exact_heaps.specs.Collected.{CollectsAll};
+ghost use Rattle.collector.specs.Collected.{CollectsAll};
 ghost use Rattle.collector.specs.States.{HeapShows, with_cycle};
 
 use crate::script_heap::Heap;

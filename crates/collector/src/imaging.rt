@@ -1,55 +1,45 @@
 //! Images of a heap: a heap as plain data. Its words are copied out of the table, or the heap ends and they are
-//! the table.
-ghost use Rattle.std.specs.Prelude.{◌≡◌, ◌≤◌, ◌⊎◌, length};
-ghost use Rattle.std.specs.Vec.{vec_capacity};
-ghost use Rattle.std.specs.Borrow.{sem};
+//! the table. Memory for copies is the caller's, since only a run that is checked makes one.
+ghost use Rattle.std.specs.Prelude.{◌≡◌, IfOk, length};
 ghost use Rattle.object_graph.specs.Graphs.{Graph};
 ghost use Rattle.page_space.specs.Extents.{marks_start};
-ghost use Rattle.heap_table.specs.declared.phase.Phase.TheVariants.{Quiet};
 ghost use Rattle.heap_model.specs.Images.{image_heap};
 ghost use Rattle.heap_model.specs.Wholeness.{Whole};
 ghost use Rattle.write_barrier.specs.MutatorState.{heap_of};
-ghost use Rattle.collector.specs.Images.{AreWordsOf, IsImageOf};
+ghost use Rattle.collector.specs.Images.{AreWordsOf, IsImageOf, IsRoomFor};
 
 use crate::blanking::blank_cells;
 use crate::filling::fill_words;
 use crate::script_heap::Heap;
 use heap_model::{HeapImage, HeapWords};
+use page_space::Regions;
+use shape_tree::ShapeTree;
+use std::alloc::Global;
 use std::mem;
+use tagged_word::NoMemory;
 use word_store::Reads;
 use write_barrier::Main;
 
-/// So many words, in memory that is reserved for them.
-fn reserved_words(mut memory: Vec<u64>, count: u32) -> Vec<u64>
-    requires room { count ≤ vec_capacity memory }
-    ensures { length result.items ≡ count }
+/// An image without a cell, over words of 0: what images of heaps of these regions are put into. It takes the memory for
+/// all their words and shapes.
+pub fn image_room(alloc: Global, regions: Regions) -> Result<HeapImage, NoMemory>
+    ensures { IfOk result (λ room. IsRoomFor regions room) }
 {
-    if memory.resize(count as usize, 0).is_err() {
-        unreachable!()
-    }
-    memory
-}
-
-/// The words that an image of so many is put into: those of the last image, or the reserved ones.
-fn words_for(last: HeapWords, memory: Vec<u64>, count: u32) -> Vec<u64>
-    requires ready { (length last ≡ count) ⊎ (count ≤ vec_capacity memory) }
-    ensures { length result.items ≡ count }
-{
-    let words = last.into_vec();
-    if words.len() == count as usize {
-        words
-    } else {
-        reserved_words(memory, count)
-    }
+    let words = vec![in alloc; 0u64; regions.mark_of(0) as usize]?;
+    Ok(HeapImage {
+        regions,
+        used: 0,
+        survivors: 0,
+        shapes: ShapeTree::new(alloc)?,
+        words: HeapWords::from_vec(words),
+    })
 }
 
 /// The words of an image of the heap, put into words that are given back.
-fn imaged(main: &mut Main, mut words: Vec<u64>) -> HeapWords
-    requires quiet { main.old.seat.phase ≡ Quiet }
-    requires whole { Whole (heap_of main.old) }
-    requires ready { length words.items ≡ marks_start main.old.seat.space }
-    ensures words { AreWordsOf (heap_of main.old) result }
-    ensures same { main.new ≡ main.old }
+fn imaged(main: &Main, mut words: Vec<u64>) -> HeapWords
+    requires whole { Whole (heap_of main.now) }
+    requires ready { length words.items ≡ marks_start main.now.seat.space }
+    ensures { AreWordsOf (heap_of main.now) result }
 {
     fill_words(main, &mut words);
     HeapWords::from_vec(words)
@@ -74,36 +64,21 @@ fn parts_of(mut main: Main) -> HeapImage
 
 impl Heap {
     ghost use Rattle.collector.specs.States.{HeapShows};
-    ghost use Rattle.collector.specs.Lending.{EndsKept};
 
-    /// Makes the spare image one of the heap.
-    fn make_image(&mut self)
-        requires { (graph : Graph) × HeapShows self.old graph }
-        ensures image { IsImageOf (heap_of self.old.main) (image_heap self.new.rest.image) }
-        ensures main { self.new.main ≡ self.old.main }
-        ensures places { self.new.rest.places ≡ self.old.rest.places }
-        ensures marks { self.new.rest.marks ≡ self.old.rest.marks }
-        ensures cycle { self.new.rest.in_cycle ≡ self.old.rest.in_cycle }
+    /// Puts an image of the heap in the place of an image of the same regions. It takes no memory.
+    pub fn put_image(&mut self, image: &mut HeapImage)
+        requires shown { (graph : Graph) × HeapShows self.old graph }
+        requires room { IsRoomFor self.old.main.seat.space image.old }
+        ensures image { IsImageOf (heap_of self.old.main) (image_heap image.new) }
+        ensures room { IsRoomFor self.old.main.seat.space image.new }
+        ensures same { self.new ≡ self.old }
     {
-        self.spare.used = self.main.used();
-        self.spare.survivors = self.main.nursery_mut().survivors();
-        self.spare.shapes.copy_from(self.main.shapes());
+        image.used = self.main.used();
+        image.survivors = self.main.nursery_mut().survivors();
+        image.shapes.copy_from(self.main.shapes());
         let none = HeapWords::from_vec(Vec::new(self.alloc));
-        let last = mem::replace(&mut self.spare.words, none);
-        let memory = mem::replace(&mut self.memory, Vec::new(self.alloc));
-        let words = words_for(last, memory, self.main.count());
-        self.spare.words = imaged(&mut self.main, words);
-    }
-
-    /// An image of the heap, to be stored. It takes no memory. The heap is the same when the image
-    /// is no longer looked at.
-    pub fn image(&mut self) -> &HeapImage
-        requires { (graph : Graph) × HeapShows self.old graph }
-        ensures* kept { sem 𝓛 (EndsKept self.entry) }
-        ensures image { IsImageOf (heap_of self.old.main) (image_heap result.now) }
-    {
-        self.make_image();
-        &self.spare
+        let last = mem::replace(&mut image.words, none);
+        image.words = imaged(&self.main, last.into_vec());
     }
 
     /// The heap as an image of it. It takes no memory: the image has the table of the heap's words and
@@ -115,8 +90,6 @@ impl Heap {
         blank_cells(&mut self.main);
         let Heap {
             main,
-            spare: _,
-            memory: _,
             list: _,
             marking: _,
             in_cycle: _,

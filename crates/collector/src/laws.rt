@@ -1,4 +1,6 @@
-//! Laws of images.
+//! Laws of full collections, of full heaps, and of images.
+ghost use Rattle.collector.specs.CollectionLaws.{SweptAndScavengedIsCollected};
+ghost use Rattle.collector.specs.Filled.{FullIsFilled};
 ghost use Rattle.collector.specs.ImageLaws.{ImagesShow, ImagesAreBlank, ImagesKeepStores};
 ghost use Rattle.collector.specs.ImageLaws.{ImagesHaveRooms, ImagesAreTight, ImagesKeepFree};
 ghost use Rattle.collector.specs.ImageLaws.{ImagesStayStuck, ImagesAreExact, ImagesKeepDead};
@@ -18,4 +20,19 @@ pub fn laws_of_images()
     ensures stuck { ImagesStayStuck }
     ensures exact { ImagesAreExact }
     ensures dead { ImagesKeepDead }
+{}
+
+/// A heap that was marked, cleared and swept, and then scavenged so that all that lives is promoted,
+/// keeps exactly what can be reached, and each live cell of a page stands where it stood; each other
+/// word of a page is in a free run, and objects need no more room than before. Each page had a row of
+/// free runs.
+pub fn laws_of_collections()
+    ensures { SweptAndScavengedIsCollected }
+{}
+
+/// In a heap that keeps exactly what can be reached, and into which so many words don't fit, survivors,
+/// used words and these are over the young generation; and each page has a cell of an object that can
+/// be reached, if these are not more than a page has.
+pub fn laws_of_full_heaps()
+    ensures { FullIsFilled }
 {}

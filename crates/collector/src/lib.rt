@@ -1,23 +1,26 @@
 //! The collector's side of a heap: the heap that a script runs on, and images of it.
 //!
 //! Model: a `HeapState` of `specs/States.antt`: the mutator's side, which is lent to commands, the
-//! memory that an image of it is copied into, the places of the list of a scavenge, the bound of what
-//! can be marked, and whether a cycle of marking is open.
+//! places of the list of a scavenge, the bound of what can be marked, and whether a cycle of marking
+//! is open.
 //! Invariant: none over the mutator's side, which is lent. `HeapShows` of `specs/States.antt` is
 //! what holds between two commands. `MakesRoom` of `specs/Making.antt` says how room is made, and
-//! `CollectsAll` of `exact_heaps` what a full collection leaves. `IsImageOf` of `specs/Images.antt`
+//! `CollectsAll` of `specs/Collected.antt` what a full collection leaves. `IsImageOf` of `specs/Images.antt`
 //! says what an image is, and `laws_of_images` what it shows.
 #![tactic(auto)]
 
 mod blanking;
+mod census;
 mod collecting;
 mod cycles;
 mod filling;
 mod imaging;
 mod laws;
+mod mark_sweeping;
 mod room;
-mod row_ends;
 mod script_heap;
 
-pub use laws::laws_of_images;
+pub use census::Census;
+pub use imaging::image_room;
+pub use laws::{laws_of_full_heaps, laws_of_images};
 pub use script_heap::Heap;

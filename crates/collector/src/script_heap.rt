@@ -8,25 +8,18 @@ ghost use Rattle.heap_table.specs.Seats.{fresh};
 ghost use Rattle.write_barrier.specs.MutatorState.{IsOpened};
 
 use ephemeron_mark::Marking;
-use heap_model::{HeapImage, HeapWords};
 use heap_table::MainSeat;
 use page_space::Regions;
-use shape_tree::ShapeTree;
 use std::alloc::Global;
 use std::marker::Model;
 use tagged_word::NoMemory;
-use word_store::Reads;
 use write_barrier::Main;
 
-/// The heap that a script runs on: the mutator's side, and memory for an image of it, for the list of a
-/// scavenge and for the marks of a full collection, which is taken when the heap is opened.
+/// The heap that a script runs on: the mutator's side, and memory for the list of a scavenge and for the marks of a full
+/// collection, which is taken when the heap is opened.
 #[derive(Drop)]
 pub struct Heap {
     pub(crate) main: Main,
-    // The image that was made last; it has no words before the first.
-    pub(crate) spare: HeapImage,
-    // The memory for the words of the first image. None of it is touched before.
-    pub(crate) memory: Vec<u64>,
     // The list of a scavenge: which copies are to be looked at.
     pub(crate) list: Vec<u32>,
     // What a full collection marks, and which pairs of weak maps wait for their keys.
@@ -44,27 +37,13 @@ impl Model for Heap {
 
     ghost Value = { HeapState };
 
-    ghost use Rattle.collector.specs.Kept.{state_of};
+    ghost use Rattle.collector.specs.Model.{state_of};
 
     ghost view = { state_of };
 }
 
 /// The words of a root.
 const ROOT_WORDS: u32 = 2;
-
-/// An image of these regions without words, of which nothing is used.
-fn spare_image(alloc: Global, regions: Regions) -> Result<HeapImage, NoMemory>
-    ensures regions { IfOk result (λ image. image.regions ≡ regions) }
-{
-    let shapes = ShapeTree::new(alloc)?;
-    Ok(HeapImage {
-        regions,
-        used: 0,
-        survivors: 0,
-        shapes,
-        words: HeapWords::from_vec(Vec::new(alloc)),
-    })
-}
 
 /// The first address behind all cells.
 fn cells_end(regions: Regions) -> u32
@@ -78,8 +57,8 @@ impl Heap {
     ghost use Rattle.collector.specs.Lending.{LendsMain};
 
     /// Opens a heap over words of 0: no object, each page one gap and one free run, each variable bound
-    /// to nothing. No cycle is open. It takes the memory for the shapes, for an image, for the list of a
-    /// scavenge and for marks; later calls need none.
+    /// to nothing. No cycle is open. It takes the memory for the shapes, for the list of a scavenge and for
+    /// marks; later calls need none.
     ///
     /// # Errors
     /// Memory was refused.
@@ -90,14 +69,10 @@ impl Heap {
         ensures closed { IfOk result (λ heap. heap.rest.in_cycle ≡ false) }
     {
         let main = Main::open(alloc, seat, regions)?;
-        let spare = spare_image(alloc, main.regions())?;
-        let memory = Vec::with_capacity(alloc, main.count() as usize)?;
         let list = Vec::with_capacity(alloc, regions.sizes().young as usize)?;
         let marking = Marking::new(alloc, cells_end(regions))?;
         Ok(Heap {
             main,
-            spare,
-            memory,
             list,
             marking,
             in_cycle: false,
@@ -113,7 +88,7 @@ impl Heap {
         &self.main
     }
 
-    /// The mutator's side, to run commands. The memory for an image stays.
+    /// The mutator's side, to run commands.
     pub fn main_mut(&mut self) -> &mut Main
         ensures* lends { sem 𝓛 (LendsMain self.entry result) }
         ensures main { result.now ≡ self.old.main }

@@ -4,9 +4,9 @@
 use crate::changes::{self, SHAPES, TRIM};
 use crate::conditions::{LENGTHS, LONG, NAMELESS, ODD, ODD_CELLS, OF_MARKING};
 use crate::text::{Step, addresses, compare, padded, step_of};
+use core_parts::{Items, StepStop, empty_board, read_cell};
 use mark_core::replay;
 use mark_world::{Event, HelperView, MainView, Views, World};
-use seat_steps::{Items, StepStop, empty_board, read_cell};
 use std::alloc::Global;
 use std::fmt::Write;
 use std::process::Abort;

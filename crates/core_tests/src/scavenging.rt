@@ -3,9 +3,9 @@
 
 use crate::conditions;
 use crate::text::{Step, addresses, compare, padded, step_of};
+use core_parts::{Items, StepStop, empty_board};
 use scav_copy::Room;
 use scav_core::{Event, Workers, World, replay};
-use seat_steps::{Items, StepStop, empty_board};
 use std::alloc::Global;
 use std::fmt::Write;
 use std::process::Abort;

@@ -1,7 +1,7 @@
 //! Lists, lists of addresses, the board, and the cell at an address of bare words.
 
 use crate::text::{Step, step_of};
-use seat_steps::{Items, empty_board, give, join, leave, read_cell, take};
+use core_parts::{Items, empty_board, give, join, leave, read_cell, take};
 use std::alloc::Global;
 use std::process::Abort;
 use std::test::Fail;

@@ -1,7 +1,13 @@
-//! The points that threads pass, so that a test may hold them there.
+//! Threads: tasks that run next to the caller's own work, and the points that threads pass, so that a test may hold
+//! them there.
 //!
-//! Model: none. No clause says what a gate does.
+//! Model: none. A `Task` says what it needs and what it does, and `beside` says that each was run once. No clause says
+//! that two run at the same time, nor what a gate does.
 #![tactic(auto)]
+
+mod tasks;
+
+pub use tasks::{Task, beside};
 
 /// Where a thread stands when it passes a gate.
 #[derive(Clone, Copy, Debug, PartialEq, Eq)]

@@ -2,7 +2,6 @@
 ghost use Rattle.std.specs.Prelude.{◌≡◌, ℕ, ◌<◌, List, Some, IsTrue, IsFalse, Contains};
 ghost use Rattle.tagged_word.specs.Readings.{reference_in};
 ghost use Rattle.page_space.specs.Extents.{roots_start};
-ghost use Rattle.heap_table.specs.declared.phase.Phase.TheVariants.{Quiet};
 ghost use Rattle.heap_model.specs.Kinds.{Pair};
 ghost use Rattle.write_barrier.specs.MutatorState.{heap_of};
 ghost use Rattle.object_cells.specs.CellsAt.{IsQuietWhole};
@@ -18,7 +17,6 @@ use write_barrier::Main;
 
 /// Whether the key of a pair is a cell that is not marked.
 fn has_unmarked_key(main: &Main, table: Table, place: u32, marked: &CellList) -> bool
-    requires quiet { main.now.seat.phase ≡ Quiet }
     requires within { TableIsWithin (heap_of main.now) table }
     requires place { place < table.capacity }
     requires below { (at : ℕ) → reference_in (key_in (heap_of main.now) table.at place) ≡ Some at

@@ -7,7 +7,7 @@ use Rattle.std.proofs.lemmas.List.{length-append, get_or-set_same, get_or-set_ot
 use Rattle.heap_model.proofs.CellWords.{slice_get-append_left}
 use Rattle.ephemeron_mark.specs.declared.waiting.WaitingPair.{WaitingPair}
 use Rattle.ephemeron_mark.specs.Pairs.{IsLastOf}
-use Rattle.ephemeron_mark.specs.Kept.{keys_of, AreTold}
+use Rattle.ephemeron_mark.specs.Model.{keys_of, AreTold}
 use Rattle.ephemeron_mark.proofs.LastPairs.{last_there, which_of, last_itself, last_stays, last_of_more, last_of_fewer}
 use Rattle.ephemeron_mark.proofs.LastPairs.{last_before, as_many_keys, keys_with}
 

@@ -18,7 +18,7 @@ use Rattle.heap_model.proofs.CellWords.{word_there}
 use Rattle.heap_model.proofs.WordsAlike.{cell_below_roots}
 use Rattle.live_cells.specs.Live.{HasSlotTo}
 use Rattle.live_cells.proofs.Slots.{marking_slots}
-use Rattle.scavenger.proofs.EndSlots.{word_found}
+use Rattle.heap_walk.proofs.SlotTargets.{word_found}
 use Rattle.cell_list.specs.Listing.{Listing}
 use Rattle.write_barrier.specs.MutatorState.{Mutator, heap_of}
 use Rattle.ephemeron_mark.specs.Progress.{HoldsReference, HasGrown}

@@ -39,7 +39,6 @@ by_push : {main : Mutator} (old : Listing) (at : ℕ) (was_new : Bool) → IsMar
 by_push {main} old at true marking live told = (
   record {
     marking = record {
-      quiet = marking.quiet;
       whole = marking.whole;
       bound = marking.bound;
       live = λ one there. elim (Contains-push_cases old.addresses at one there) [

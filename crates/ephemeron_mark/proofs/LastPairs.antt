@@ -7,7 +7,7 @@ use Rattle.std.proofs.lemmas.List.{length-map, length-append, map-append}
 use Rattle.heap_model.proofs.CellWords.{slice_get-append_left, slice_get-append_right}
 use Rattle.ephemeron_mark.specs.declared.waiting.WaitingPair.{WaitingPair}
 use Rattle.ephemeron_mark.specs.Pairs.{IsLastOf}
-use Rattle.ephemeron_mark.specs.Kept.{keys_of}
+use Rattle.ephemeron_mark.specs.Model.{keys_of}
 
 -- the last of a list stands behind the others
 pub last_there : {A : Type 0} (xs : List A) (x : A) → slice_get (xs ++ x ∷ []) (length xs) ≡ Some x

@@ -19,7 +19,7 @@ use Rattle.heap_model.proofs.ObjectSlots.{pair_words}
 use Rattle.heap_model.proofs.WordsAlike.{cell_below_roots}
 use Rattle.live_cells.specs.Live.{HasSlotTo, HasEntry, IsLive, IsRootTarget}
 use Rattle.live_cells.proofs.Slots.{marking_slots}
-use Rattle.scavenger.proofs.StartTargets.{StandsAt, kind_to_cell, held_target}
+use Rattle.heap_walk.proofs.SlotTargets.{IsUsedAt, kind_to_cell, held_target}
 use Rattle.ephemeron_mark.specs.Marked.{IsLiveAt}
 use Rattle.ephemeron_mark.specs.Progress.{HoldsReference}
 
@@ -51,13 +51,13 @@ before_marks space at below = omega (arith, below, (kinds_by_number space).layou
 
 module _ {heap : Heap} (whole : Whole heap) where
   -- what a root word refers to stands there
-  root_stands : (at : ℕ) → IsRootTarget heap at → StandsAt heap at
+  root_stands : (at : ℕ) → IsRootTarget heap at → IsUsedAt heap at
   root_stands at target =
       let root = whole.roots target.variable target.within in
       held_target heap root.held at root.is (same_Some _ _ (sym root.holds.first ∙ target.refers))
 
   -- so does what a slot refers to
-  slot_stands : (from at : ℕ) → HasSlotTo heap from at → StandsAt heap at
+  slot_stands : (from at : ℕ) → HasSlotTo heap from at → IsUsedAt heap at
   slot_stands from at slot =
       let cell = slot.cell in
       kind_to_cell cell.layout.kind slot.offset (reference_word at) at whole.sized slot.has refl
@@ -66,7 +66,7 @@ module _ {heap : Heap} (whole : Whole heap) where
 
   -- so does what a word behind the head of a table refers to
   pair_word_stands : {table key value : ℕ} (entry : HasEntry heap table key value) (k at : ℕ)
-      → HasWord (drop store_head entry.words) k (reference_word at) → StandsAt heap at
+      → HasWord (drop store_head entry.words) k (reference_word at) → IsUsedAt heap at
   pair_word_stands entry k at there =
       let cell = entry.cell in
       let long = words_by_kind kind.Table entry.has entry.of_kind in
@@ -78,26 +78,26 @@ module _ {heap : Heap} (whole : Whole heap) where
       (behind_head entry.words k (reference_word at) there) refl
 
   -- so the key of an entry stands there
-  key_stands : (table key value : ℕ) → HasEntry heap table key value → StandsAt heap key
+  key_stands : (table key value : ℕ) → HasEntry heap table key value → IsUsedAt heap key
   key_stands table key value entry =
       let there = pair_words (drop store_head entry.words) entry.place (2 * entry.place) entry.pair refl entry.among in
       pair_word_stands entry (2 * entry.place) key (there.0 ∙ ap (λ (one : ℕ). Some one) entry.key_is)
 
   -- and its value
-  value_stands : (table key value : ℕ) → HasEntry heap table key value → StandsAt heap value
+  value_stands : (table key value : ℕ) → HasEntry heap table key value → IsUsedAt heap value
   value_stands table key value entry =
       let place : ℕ = 2 * entry.place in
       let there = pair_words (drop store_head entry.words) entry.place place entry.pair refl entry.among in
       pair_word_stands entry (suc place) value (there.1 ∙ ap (λ (one : ℕ). Some one) entry.value_is)
 
   -- so each live cell stands in the heap
-  pub live_stands : (at : ℕ) → IsLiveAt heap at → StandsAt heap at
+  pub live_stands : (at : ℕ) → IsLiveAt heap at → IsUsedAt heap at
   live_stands at (IsLive.start at' target) = root_stands at target
   live_stands at (IsLive.slot from at' live slot) = slot_stands from at slot
   live_stands at (IsLive.entry table key at' live_table live_key entry) = value_stands table key at entry
 
   -- what stands in the heap stands before the roots
-  stands_below : (at : ℕ) → StandsAt heap at → at < roots_start heap.space
+  stands_below : (at : ℕ) → IsUsedAt heap at → at < roots_start heap.space
   stands_below at there =
       omega (
         arith,

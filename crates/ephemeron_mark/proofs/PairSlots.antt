@@ -17,7 +17,7 @@ use Rattle.heap_model.proofs.ObjectSlots.{pair_words}
 use Rattle.heap_model.proofs.WordsAlike.{cell_below_roots}
 use Rattle.heap_model.proofs.PairLists.{length-pairs_in}
 use Rattle.live_cells.specs.Live.{HasEntry}
-use Rattle.scavenger.proofs.EndSlots.{word_found}
+use Rattle.heap_walk.proofs.SlotTargets.{word_found}
 use Rattle.cell_list.specs.Listing.{Listing}
 use Rattle.ephemeron_mark.specs.Progress.{HoldsReference, IsMarkedPair}
 use Rattle.ephemeron_mark.proofs.CellSlots.{word_read}

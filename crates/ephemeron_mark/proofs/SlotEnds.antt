@@ -8,7 +8,7 @@ use Rattle.tagged_word.specs.Cells.{plain_head, store_slot, scavenge_offsets, ta
 use Rattle.tagged_word.proofs.Members.{one_in}
 use Rattle.cell_layout.proofs.NextSlots.{all_below}
 use Rattle.live_cells.proofs.Slots.{marking_slots}
-use Rattle.scavenger.proofs.SlotEnds as scavenged
+use Rattle.heap_walk.proofs.SlotEnds as visited
 
 -- those of a plain cell end behind the in-object ones that are used
 pub plain_ends : (layout : LayoutWord) (long : ℕ) → layout.kind ≡ kind.Plain
@@ -16,7 +16,7 @@ pub plain_ends : (layout : LayoutWord) (long : ℕ) → layout.kind ≡ kind.Pla
 plain_ends layout long plain =
     let end : ℕ = plain_head + layout.used in
     all_below (tagged_offsets layout long) end (λ offset there.
-    All-contains (λ one. one < end) (scavenge_offsets layout long) offset (scavenged.plain_ends layout long plain)
+    All-contains (λ one. one < end) (scavenge_offsets layout long) offset (visited.plain_ends layout long plain)
     (marking_slots layout.kind layout long offset there))
 
 -- a cell that is neither plain nor a store has no slot but that for a store or table

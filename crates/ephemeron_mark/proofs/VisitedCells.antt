@@ -9,7 +9,7 @@ use Rattle.heap_model.proofs.CellsApart.{has_is_cell}
 use Rattle.live_cells.proofs.ObjectTargets.{at_is_in}
 use Rattle.live_cells.proofs.MarkedLinks.{element_at}
 use Rattle.cell_list.specs.Listing.{Listing}
-use Rattle.cell_reading.specs.Standing.{StandsAt}
+use Rattle.heap_walk.specs.Standing.{StandsAt}
 use Rattle.heap_table.specs.Seats.{heap_words}
 use Rattle.write_barrier.specs.MutatorState.{Mutator, heap_of}
 use Rattle.ephemeron_mark.specs.Pairs.{Waits}

@@ -1,4 +1,4 @@
 pub mod Marked
 pub mod Pairs
-pub mod Kept
+pub mod Model
 pub mod Progress

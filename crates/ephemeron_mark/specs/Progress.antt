@@ -5,7 +5,6 @@ use Rattle.std.specs.List.{AllPairs}
 use Rattle.page_space.specs.Extents.{roots_start}
 use Rattle.tagged_word.specs.declared.layout.Kind.TheVariants as kind
 use Rattle.heap_model.specs.Types.{Kind, Cell}
-use Rattle.heap_table.specs.declared.phase.Phase.TheVariants.{Quiet}
 use Rattle.heap_model.specs.Heaps.{Heap, HasCell}
 use Rattle.heap_model.specs.Slots.{reference_word, IsWeakCellAt}
 use Rattle.heap_model.specs.Wholeness.{Whole}
@@ -19,9 +18,8 @@ use Rattle.ephemeron_mark.specs.Pairs.{Waits, WaitsFor}
 abbrev pub HoldsReference : Heap → ℕ → ℕ → Type 0
 HoldsReference heap slot at = slice_get heap.words slot ≡ Some (reference_word at)
 
--- Only the mutator runs, its heap is whole, and only live cells are marked so far.
+-- The heap is whole, and only live cells are marked so far.
 pub record IsMarking (main : Mutator) (cells : Listing) : Type 0 where
-  pub quiet : main.seat.phase ≡ Quiet
   pub whole : Whole (heap_of main)
   pub bound : cells.bound ≡ roots_start main.seat.space
   pub live : (at : ℕ) → Contains cells.addresses at → IsLiveAt (heap_of main) at

@@ -22,7 +22,7 @@ impl Model for Marking {
 
     ghost Value = { Marked };
 
-    ghost use Rattle.ephemeron_mark.specs.Kept.{marked_of, IsOfOneBound};
+    ghost use Rattle.ephemeron_mark.specs.Model.{marked_of, IsOfOneBound};
 
     ghost view = { marked_of };
 

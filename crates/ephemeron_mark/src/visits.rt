@@ -3,7 +3,6 @@ ghost use Rattle.std.specs.Prelude.{◌≡◌, ◌≢◌, ℕ, ◌≤◌, ◌<�
 ghost use Rattle.std.specs.List.{AllPairs};
 ghost use Rattle.std.specs.Vec.{vec_capacity};
 ghost use Rattle.page_space.specs.Extents.{roots_start};
-ghost use Rattle.heap_table.specs.declared.phase.Phase.TheVariants.{Quiet};
 ghost use Rattle.heap_model.specs.Slots.{IsWeakCellAt};
 ghost use Rattle.heap_model.specs.Wholeness.{Whole};
 ghost use Rattle.live_cells.specs.Marked.{HasRootTargets};
@@ -18,7 +17,7 @@ use crate::targets::{mark_roots, mark_slots};
 use crate::waiting::Waiting;
 use cell_layout::Cell;
 use cell_list::CellList;
-use cell_reading::known_cell;
+use heap_walk::known_cell;
 use tagged_word::Kind;
 use write_barrier::Main;
 
@@ -78,7 +77,6 @@ fn visit_all(main: &Main, cells: &mut CellList, maps: &mut Vec<u32>, waiting: &m
 /// Marks exactly the live cells, and lists the weak maps among them. What an earlier marking found is
 /// forgotten.
 pub fn mark_live(main: &Main, marking: &mut Marking)
-    requires quiet { main.now.seat.phase ≡ Quiet }
     requires whole { Whole (heap_of main.now) }
     requires bound { marking.old.bound ≡ roots_start main.now.seat.space }
     ensures marked { (at : ℕ) → Contains marking.new.cells at ↔ IsLiveAt (heap_of main.now) at }

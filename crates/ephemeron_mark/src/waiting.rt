@@ -2,7 +2,7 @@
 ghost use Rattle.std.specs.Prelude.{◌≡◌, ◌≢◌, ℕ, ◌<◌, ◌≤◌, ◌⊎◌, [], IfOk, length, slice_get, slice_index, Some};
 ghost use Rattle.std.specs.Vec.{vec_capacity};
 ghost use Rattle.ephemeron_mark.specs.Pairs.{WaitsFor, IsLastOf, none_waits};
-ghost use Rattle.ephemeron_mark.specs.Kept.{AreTold};
+ghost use Rattle.ephemeron_mark.specs.Model.{AreTold};
 
 use cell_list::CellList;
 use std::alloc::Global;
@@ -41,7 +41,7 @@ impl Model for Waiting {
 
     ghost Value = { Waits };
 
-    ghost use Rattle.ephemeron_mark.specs.Kept.{waits_of, IsWaiting};
+    ghost use Rattle.ephemeron_mark.specs.Model.{waits_of, IsWaiting};
 
     ghost view = { waits_of };
 

@@ -5,11 +5,10 @@ ghost use Rattle.object_graph.specs.declared.value.Value.{Value as GraphValue};
 ghost use Rattle.object_graph.specs.Graphs.{Graph, WeakObject};
 ghost use Rattle.object_graph.specs.Objects.{entry_value};
 ghost use Rattle.object_graph.specs.Meaning.{weak_most};
-ghost use Rattle.heap_table.specs.declared.phase.Phase.TheVariants.{Quiet};
 ghost use Rattle.heap_model.specs.Kinds.{count_offset};
 ghost use Rattle.heap_model.specs.Needs.{count_at};
 ghost use Rattle.heap_model.specs.Slots.{hole_word, reference_word};
-ghost use Rattle.write_barrier.specs.MutatorState.{heap_of, IsTied, MainShows};
+ghost use Rattle.write_barrier.specs.MutatorState.{MayStore, heap_of, IsTied, MainShows};
 ghost use Rattle.object_cells.specs.HeldValues.{IsValueHeld};
 ghost use Rattle.ephemeron_table.specs.WeakObjects.{IsKeyAt, IsShownPutting, IsWeakAt};
 ghost use Rattle.weak_pairs.specs.Probes.{ProbesTo};
@@ -39,7 +38,7 @@ pub(crate) fn put_free(
     key: u32,
     value: Held,
 ) -> Result<(), TableStop>
-    requires quiet { main.old.seat.phase ≡ Quiet }
+    requires may_store { MayStore main.old }
     requires tied { IsTied main.old }
     requires within { TableIsWithin (heap_of main.old) table }
     requires place { place < table.capacity }

@@ -3,9 +3,8 @@ ghost use Rattle.std.specs.Prelude.{◌≡◌, ◌+◌, ◌*◌, ◌<◌, ◌≤
 ghost use Rattle.tagged_word.specs.Cells.{store_head, cell_words_most};
 ghost use Rattle.page_space.specs.Extents.{marks_start};
 ghost use Rattle.heap_table.specs.Seats.{heap_words};
-ghost use Rattle.heap_table.specs.declared.phase.Phase.TheVariants.{Quiet};
 ghost use Rattle.heap_model.specs.Needs as needs;
-ghost use Rattle.write_barrier.specs.MutatorState.{heap_of};
+ghost use Rattle.write_barrier.specs.MutatorState.{MayStore, heap_of};
 ghost use Rattle.write_barrier.specs.Recording.{Touches};
 ghost use Rattle.object_cells.specs.Made.{PutsWords, RefusesRoom};
 ghost use Rattle.weak_pairs.specs.Pairs.{HoldNothing};
@@ -36,7 +35,7 @@ pub(crate) fn grown(capacity: u32) -> u32
 
 /// Makes the words at an address a table of pairs that hold nothing, which is no map's.
 pub(crate) fn begin_table(main: &mut Main, table: Table)
-    requires quiet { main.old.seat.phase ≡ Quiet }
+    requires may_store { MayStore main.old }
     requires within { TableIsWithin (heap_of main.old) table }
     ensures puts { let words = heap_words main.old.seat in
         PutsWords main.old main.new (begun_table words table) }
@@ -54,8 +53,7 @@ pub(crate) fn begin_table(main: &mut Main, table: Table)
 
 /// The first place on the way of a number where a pair is free.
 fn free_place(main: &Main, table: Table, number: u32) -> Option<u32>
-    requires quiet { main.now.seat.phase ≡ Quiet }
-    requires within { TableIsWithin (heap_of main.now) table }
+    requires { TableIsWithin (heap_of main.now) table }
     ensures { FreeBy (heap_of main.now) table number result }
 {
     for steps in 0..table.capacity {
@@ -69,7 +67,7 @@ fn free_place(main: &Main, table: Table, number: u32) -> Option<u32>
 
 /// Puts a pair at the first free place on the way of its key's number.
 pub(crate) fn insert_rehashed(main: &mut Main, table: Table, key: u32, value: Word)
-    requires quiet { main.old.seat.phase ≡ Quiet }
+    requires may_store { MayStore main.old }
     requires within { TableIsWithin (heap_of main.old) table }
     requires key { key < marks_start main.old.seat.space }
     requires free { HasFree (heap_of main.old) table }
@@ -84,7 +82,7 @@ pub(crate) fn insert_rehashed(main: &mut Main, table: Table, key: u32, value: Wo
 
 /// Puts the pairs of a table into another one, which has more places.
 fn rehash(main: &mut Main, from: Table, to: Table)
-    requires quiet { main.old.seat.phase ≡ Quiet }
+    requires may_store { MayStore main.old }
     requires from { TableIsWithin (heap_of main.old) from }
     requires to { TableIsWithin (heap_of main.old) to }
     requires more { from.capacity < to.capacity }

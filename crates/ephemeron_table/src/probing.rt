@@ -1,6 +1,5 @@
 //! How a key is looked up in a table.
 ghost use Rattle.std.specs.Prelude.{◌≡◌, ◌+◌, ◌<◌};
-ghost use Rattle.heap_table.specs.declared.phase.Phase.TheVariants.{Quiet};
 ghost use Rattle.linear_probing.specs.Tables.{place_after};
 ghost use Rattle.write_barrier.specs.MutatorState.{heap_of};
 ghost use Rattle.ephemeron_table.specs.Probes.{ProbingEnds};
@@ -32,7 +31,6 @@ pub(crate) fn place(capacity: u32, from: u32, steps: u32) -> u32
 
 /// The word of the key of a table's pair, by its place.
 pub fn key_of(main: &Main, table: Table, place: u32) -> Word
-    requires quiet { main.now.seat.phase ≡ Quiet }
     requires within { TableIsWithin (heap_of main.now) table }
     requires place { place < table.capacity }
     ensures { result.0 ≡ key_in (heap_of main.now) table.at place }
@@ -43,8 +41,7 @@ pub fn key_of(main: &Main, table: Table, place: u32) -> Word
 
 /// Looks a key up in a table, from the number of its object on.
 pub(crate) fn probe(main: &Main, table: Table, number: u32, key: Word) -> End
-    requires quiet { main.now.seat.phase ≡ Quiet }
-    requires within { TableIsWithin (heap_of main.now) table }
+    requires { TableIsWithin (heap_of main.now) table }
     ensures { ProbingEnds (heap_of main.now) table number key.0 result }
 {
     for steps in 0..table.capacity {

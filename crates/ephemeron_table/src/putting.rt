@@ -2,9 +2,8 @@
 ghost use Rattle.std.specs.Prelude.{◌≡◌, ◌+◌, ◌<◌, OnOk, IfErr};
 ghost use Rattle.page_space.specs.Extents.{marks_start};
 ghost use Rattle.object_graph.specs.Meaning.{weak_most};
-ghost use Rattle.heap_table.specs.declared.phase.Phase.TheVariants.{Quiet};
 ghost use Rattle.heap_model.specs.Kinds.{count_offset};
-ghost use Rattle.write_barrier.specs.MutatorState.{heap_of, IsTied};
+ghost use Rattle.write_barrier.specs.MutatorState.{MayStore, heap_of, IsTied};
 ghost use Rattle.object_cells.specs.CellsAt.{IsQuietWhole};
 ghost use Rattle.object_cells.specs.Contents as contents;
 ghost use Rattle.object_cells.specs.Contents.{FillsOrRefuses, HoldsSlotWord, IsBeforeMarks};
@@ -25,7 +24,7 @@ use write_barrier::{Main, NoRoom};
 
 /// Fills a slot of a table, as `fill` of `object_cells` does one of a store.
 fn fill_weak(main: &mut Main, table: u32, offset: u32, filling: SlotWrite)
-    requires quiet { main.old.seat.phase ≡ Quiet }
+    requires may_store { MayStore main.old }
     requires within { table + offset < marks_start main.old.seat.space }
     requires room { IsBeforeMarks main.old.seat.space filling }
     ensures { main.new ≡ contents.filled main.old (table + offset) filling }
@@ -77,7 +76,7 @@ pub(crate) fn put_in_table(
     key: u32,
     value: Held,
 ) -> Result<(), NoRoom>
-    requires quiet { main.old.seat.phase ≡ Quiet }
+    requires may_store { MayStore main.old }
     requires tied { IsTied main.old }
     requires within { TableIsWithin (heap_of main.old) table }
     requires place { at < table.capacity }

@@ -1,12 +1,11 @@
 //! How a pair is removed from a table.
 ghost use Rattle.std.specs.Prelude.{◌≡◌, ◌+◌, ◌<◌};
 ghost use Rattle.heap_table.specs.Seats.{heap_words};
-ghost use Rattle.heap_table.specs.declared.phase.Phase.TheVariants.{Quiet};
 ghost use Rattle.linear_probing.specs.Tables.{steps_to};
 ghost use Rattle.page_space.specs.Extents.{marks_start};
 ghost use Rattle.heap_model.specs.Kinds.{count_offset};
 ghost use Rattle.heap_model.specs.Needs.{count_at};
-ghost use Rattle.write_barrier.specs.MutatorState.{heap_of};
+ghost use Rattle.write_barrier.specs.MutatorState.{MayStore, heap_of};
 ghost use Rattle.write_barrier.specs.Recording.{Touches};
 ghost use Rattle.object_cells.specs.Made.{PutsWords};
 ghost use Rattle.weak_pairs.specs.Tables.{TableIsWithin, key_in, value_in, KeysOutsidePairs, IsOutsidePairs, made_pair};
@@ -33,7 +32,7 @@ fn steps(capacity: u32, number: u32, at: u32) -> u32
 
 /// Puts both words of a pair.
 pub(crate) fn put_pair(main: &mut Main, table: Table, at: u32, key: Word, value: Word)
-    requires quiet { main.old.seat.phase ≡ Quiet }
+    requires may_store { MayStore main.old }
     requires within { TableIsWithin (heap_of main.old) table }
     requires place { at < table.capacity }
     ensures puts { let words = heap_words main.old.seat in
@@ -47,7 +46,7 @@ pub(crate) fn put_pair(main: &mut Main, table: Table, at: u32, key: Word, value:
 
 /// Copies a pair to another place.
 fn copy_pair(main: &mut Main, table: Table, from: u32, to: u32)
-    requires quiet { main.old.seat.phase ≡ Quiet }
+    requires may_store { MayStore main.old }
     requires within { TableIsWithin (heap_of main.old) table }
     requires from { from < table.capacity }
     requires to { to < table.capacity }
@@ -66,7 +65,7 @@ fn copy_pair(main: &mut Main, table: Table, from: u32, to: u32)
 /// Moves back those pairs behind a place that probing would no longer find if it were free. What is
 /// to be free then is the place that is told.
 pub(crate) fn backward_shift(main: &mut Main, table: Table, at: u32) -> u32
-    requires quiet { main.old.seat.phase ≡ Quiet }
+    requires may_store { MayStore main.old }
     requires within { TableIsWithin (heap_of main.old) table }
     requires place { at < table.capacity }
     requires keys { KeysOutsidePairs (heap_of main.old) table }
@@ -94,7 +93,7 @@ pub(crate) fn backward_shift(main: &mut Main, table: Table, at: u32) -> u32
 
 /// Takes the pair at a place out of the table of a weak map.
 pub(crate) fn remove_pair(main: &mut Main, map: u32, table: Table, at: u32)
-    requires quiet { main.old.seat.phase ≡ Quiet }
+    requires may_store { MayStore main.old }
     requires within { TableIsWithin (heap_of main.old) table }
     requires place { at < table.capacity }
     requires keys { KeysOutsidePairs (heap_of main.old) table }

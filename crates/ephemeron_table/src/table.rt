@@ -1,7 +1,6 @@
 //! What is read of a weak map: its table, and the numbers of objects.
 ghost use Rattle.std.specs.Prelude.{◌≡◌, ◌<◌};
 ghost use Rattle.page_space.specs.Extents.{marks_start};
-ghost use Rattle.heap_table.specs.declared.phase.Phase.TheVariants.{Quiet};
 ghost use Rattle.write_barrier.specs.MutatorState.{heap_of};
 ghost use Rattle.object_cells.specs.CellsAt.{IsQuietWhole};
 ghost use Rattle.weak_pairs.specs.Tables as tables;
@@ -31,8 +30,7 @@ pub fn table_of(main: &Main, map: u32) -> Table
 
 /// The number of the object at an address.
 pub(crate) fn number_at(main: &Main, at: u32) -> u32
-    requires quiet { main.now.seat.phase ≡ Quiet }
-    requires within { at < marks_start main.now.seat.space }
+    requires { at < marks_start main.now.seat.space }
     ensures { result ≡ tables.number_at (heap_of main.now) at }
 {
     match Header::parse(Word(main.word(at))) {

@@ -1,4 +1,4 @@
 pub mod FreeRuns
 pub mod Standing
-pub mod Kept
+pub mod Model
 pub mod Laws

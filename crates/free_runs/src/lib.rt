@@ -39,7 +39,7 @@ impl Model for FreeRuns {
 
     ghost Value = { List (List Run) };
 
-    ghost use Rattle.free_runs.specs.Kept.{rows_in, IsValid};
+    ghost use Rattle.free_runs.specs.Model.{rows_in, IsValid};
 
     ghost view = { rows_in };
 

@@ -27,7 +27,7 @@ impl Model for Row {
 
     ghost Value = { List Run };
 
-    ghost use Rattle.free_runs.specs.Kept.{runs_in, IsRoomy};
+    ghost use Rattle.free_runs.specs.Model.{runs_in, IsRoomy};
 
     ghost view = { runs_in };
 

@@ -16,7 +16,7 @@ use Rattle.object_graph.specs.declared.path.Path.{Path}
 use Rattle.object_graph.specs.Paths.{path_of, with_path, missing}
 use Rattle.object_graph.specs.Objects.{field_value, without_field}
 use Rattle.object_graph.specs.Graphs.{Graph, PlainObject, ListObject, WeakObject, make, plain_at, list_at, weak_at}
-use Rattle.object_graph.specs.Meaning.{Limits, refill, relist, reweave, does}
+use Rattle.object_graph.specs.Meaning.{Limits, refill, relist, reweave, meaning}
 use Rattle.object_graph.proofs.Leads.{Leads, each, if_not, if_there}
 use Rattle.graph_laws.specs.Laws.{changes, MayChange, SameKind}
 use Rattle.object_graph.proofs.AddedPaths.{with_path-is}
@@ -93,7 +93,7 @@ stays graph command = binds graph.bindings
 
 -- each command, if it is carried out, changes only so much
 pub changed : (limits : Limits) (names : List (List ℕ)) (graph : Graph) (command : Command)
-    → Leads (Changes graph command) (does limits names graph command)
+    → Leads (Changes graph command) (meaning limits names graph command)
 changed limits names graph (command.New x cap) = makes x (Plain cap [])
 changed limits names graph (command.List x) = makes x (ListOf [])
 changed limits names graph (command.Weak x) = makes x (Weak [])

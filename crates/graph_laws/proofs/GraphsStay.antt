@@ -5,7 +5,7 @@ use Rattle.heap_command.specs.declared.command.Command.{Command}
 use Rattle.heap_command.specs.declared.command.Command.TheVariants as command
 use Rattle.object_graph.specs.declared.object.Object.TheVariants.{Plain, List as ListOf, Weak}
 use Rattle.object_graph.specs.Graphs.{Graph}
-use Rattle.object_graph.specs.Meaning.{Limits, does}
+use Rattle.object_graph.specs.Meaning.{Limits, meaning}
 use Rattle.object_graph.specs.Invariants.{IsGraph}
 use Rattle.object_graph.proofs.Leads.{Leads, each, if_fails, if_not, if_there}
 use Rattle.graph_laws.specs.GraphLaws.{HasFieldLimit, FitsCommand, GraphsStay}
@@ -21,7 +21,7 @@ use Rattle.graph_laws.proofs.ShortPaths.{fields_few, with_field_few, without_fie
 
 -- each command, if it is carried out, makes a graph of a graph
 pub leads : (limits : Limits) (names : List (List ℕ)) (graph : Graph) (command : Command)
-    → HasFieldLimit limits → FitsCommand command → IsGraph graph → Leads IsGraph (does limits names graph command)
+    → HasFieldLimit limits → FitsCommand command → IsGraph graph → Leads IsGraph (meaning limits names graph command)
 leads limits names graph (command.New x cap) limited fits is =
     makes graph x (Plain cap []) is (fits, record { values = All-nil _; distinct = nil-distinct })
     (has_empty graph.paths cap is.paths.begins fits)

@@ -17,7 +17,7 @@ use Rattle.object_graph.specs.declared.path.Path.{Path}
 use Rattle.object_graph.specs.Objects.{without_field, without_entry}
 use Rattle.object_graph.specs.Paths.{path_of, with_path}
 use Rattle.object_graph.specs.Graphs.{Graph, PlainObject, ListObject, WeakObject, bind, make}
-use Rattle.object_graph.specs.Meaning.{Limits, relist, reweave, reshape, does}
+use Rattle.object_graph.specs.Meaning.{Limits, relist, reweave, reshape, meaning}
 use Rattle.object_graph.proofs.Leads.{Leads, each, if_not, if_there}
 use Rattle.graph_laws.specs.ReachAfter.{made_for}
 use Rattle.graph_laws.proofs.Held.{insert_all, remove_all}
@@ -114,7 +114,7 @@ fewer_entries inside entries key all = without_entry_all (EntryInside inside) en
 -- each command, if it is carried out, leaves a graph that stays inside, where what it makes is inside
 pub leads : (inside : ℕ → Bool) (limits : Limits) (names : List (List ℕ)) (graph : Graph) (command : Command)
     → (IsTrue (is_some (made_for command)) → inside (length graph.objects) ≡ true) → StaysInside inside graph
-    → Leads (StaysInside inside) (does limits names graph command)
+    → Leads (StaysInside inside) (meaning limits names graph command)
 leads inside limits names graph (command.New x cap) known is =
     makes inside graph x (Plain cap []) (known refl) is (All-nil _)
 leads inside limits names graph (command.List x) known is = makes inside graph x (ListOf []) (known refl) is (All-nil _)

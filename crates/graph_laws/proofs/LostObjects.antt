@@ -7,9 +7,9 @@ use Rattle.std.proofs.lemmas.List.Elements.{All-head, All-tail}
 use Rattle.heap_command.specs.declared.command.Command.{Command}
 use Rattle.heap_command.specs.Executed.{Executed}
 use Rattle.object_graph.specs.Graphs.{Graph}
-use Rattle.object_graph.specs.Meaning.{Limits, Outcome, done, fault, does}
+use Rattle.object_graph.specs.Meaning.{Limits, Outcome, done, fault, meaning}
 use Rattle.object_graph.specs.Reach.{is_marked, reach}
-use Rattle.object_graph.specs.Run.{Told, tell, told_with, told_from}
+use Rattle.object_graph.specs.Run.{Told, tell, told_with, run_from}
 use Rattle.object_graph.specs.Invariants.{IsGraph}
 use Rattle.graph_laws.specs.GraphLaws.{HasFieldLimit, FitsLine}
 use Rattle.graph_laws.specs.ReachAfter.{LostStaysLost}
@@ -39,7 +39,7 @@ keeps_twice before middle after first second = record {
 -- and after a command
 command_keeps : (limits : Limits) (names : List (List ℕ)) (graph : Graph) (command : Command)
     (after : Graph) (text : List ℕ)
-    → IsGraph graph → does limits names graph command ≡ done after text → KeepsLost graph after
+    → IsGraph graph → meaning limits names graph command ≡ done after text → KeepsLost graph after
 command_keeps limits names graph command after text is carried = record {
   none_gone = (objects_stay limits names graph command after text carried).none_lost;
   lost = λ number within marked.
@@ -63,13 +63,13 @@ line_keeps : (limits : Limits) (names : List (List ℕ)) (before after : Told) (
 line_keeps limits names before after None holds is =
     subst (λ (told : Told). KeepsLost before.graph told.graph) (same_Some before after is) (keeps_itself before.graph)
 line_keeps limits names before after (Some command) holds is =
-    outcome_keeps before after (does limits names before.graph command)
+    outcome_keeps before after (meaning limits names before.graph command)
     (λ later text. command_keeps limits names before.graph command later text holds) is
 
 -- and after some lines
 lines_keep : (limits : Limits) (names : List (List ℕ)) (before after : Told) (lines : List Executed)
     → HasFieldLimit limits → All (λ line. FitsLine line.command) lines → IsGraph before.graph
-    → told_from limits names before lines ≡ Some after → KeepsLost before.graph after.graph
+    → run_from limits names before lines ≡ Some after → KeepsLost before.graph after.graph
 lines_keep limits names before after [] limited fits holds is =
     subst (λ (told : Told). KeepsLost before.graph told.graph) (same_Some before after is) (keeps_itself before.graph)
 lines_keep limits names before after (line ∷ lines) limited fits holds is =

@@ -16,7 +16,7 @@ use Rattle.object_graph.specs.declared.object.Field.{Field}
 use Rattle.object_graph.specs.declared.object.Object.{Object}
 use Rattle.object_graph.specs.declared.object.Object.TheVariants.{Plain, List as ListOf, Weak}
 use Rattle.object_graph.specs.Graphs.{Graph, make}
-use Rattle.object_graph.specs.Meaning.{Limits, Outcome, done, fault, does}
+use Rattle.object_graph.specs.Meaning.{Limits, Outcome, done, fault, meaning}
 use Rattle.object_graph.specs.Reach.{is_marked, reach}
 use Rattle.object_graph.specs.Invariants.{IsValue, IsEntry, IsObject, IsGraph}
 use Rattle.object_graph.proofs.Leads.{Leads}
@@ -48,7 +48,7 @@ makes graph x y object bare same =
 
 -- a command that makes an object makes it for its variable, and does no more
 made : (limits : Limits) (names : List (List ℕ)) (graph : Graph) (command : Command)
-    → Leads (λ after. (x : ℕ) → made_for command ≡ Some x → Makes graph x after) (does limits names graph command)
+    → Leads (λ after. (x : ℕ) → made_for command ≡ Some x → Makes graph x after) (meaning limits names graph command)
 made limits names graph (command.New x cap) =
     λ y same. makes graph x y (Plain cap []) (λ number at. none_among at.0 at.1) same
 made limits names graph (command.List x) =
@@ -56,14 +56,14 @@ made limits names graph (command.List x) =
 made limits names graph (command.Weak x) =
     λ y same. makes graph x y (Weak []) (λ number at. none_among at.0 at.1) same
 made limits names graph other =
-    leads_always (λ after. (x : ℕ) → made_for other ≡ Some x → Makes graph x after) (does limits names graph other)
+    leads_always (λ after. (x : ℕ) → made_for other ≡ Some x → Makes graph x after) (meaning limits names graph other)
     (λ after x none. absurd (none-some x none))
 
 -- so it is where the command is carried out
 carried_out : (limits : Limits) (names : List (List ℕ)) (graph : Graph) (command : Command)
     (after : Graph) (text : List ℕ)
     (x : ℕ)
-    → does limits names graph command ≡ done after text → made_for command ≡ Some x → Makes graph x after
+    → meaning limits names graph command ≡ done after text → made_for command ≡ Some x → Makes graph x after
 carried_out limits names graph command after text x carried =
     let Holds = λ (later : Graph). (y : ℕ) → made_for command ≡ Some y → Makes graph y later in
     let holds = subst (Leads Holds) carried (made limits names graph command) in

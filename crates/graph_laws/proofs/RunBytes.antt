@@ -5,9 +5,9 @@ use Rattle.std.specs.Option.{option_and_then}
 use Rattle.std.proofs.lemmas.Option.{none-some, same_Some}
 use Rattle.heap_command.specs.declared.command.Command.{Command}
 use Rattle.heap_command.specs.Executed.{Executed}
-use Rattle.object_graph.specs.Meaning.{Limits, Outcome, done, fault, does}
-use Rattle.object_graph.specs.Run.{Told, tell, told_from, told_with}
-use Rattle.object_graph.proofs.Runs.{told-append}
+use Rattle.object_graph.specs.Meaning.{Limits, Outcome, done, fault, meaning}
+use Rattle.object_graph.specs.Run.{Told, tell, run_from, told_with}
+use Rattle.object_graph.proofs.Runs.{run_of-append}
 use Rattle.graph_laws.specs.Laws.{BytesStay}
 use Rattle.graph_laws.proofs.NextLines.{next_told}
 
@@ -35,11 +35,11 @@ grew_with before after (fault word) is = absurd (none-some after is)
 grew_by : (limits : Limits) (names : List (List ℕ)) (before after : Told) (command : Option Command)
     → tell limits names before command ≡ Some after → Grew before after
 grew_by limits names before after None is = grew_by_none before after is
-grew_by limits names before after (Some command) is = grew_with before after (does limits names before.graph command) is
+grew_by limits names before after (Some command) is = grew_with before after (meaning limits names before.graph command) is
 
 -- lines only add bytes
 grew_from : (limits : Limits) (names : List (List ℕ)) (before after : Told) (lines : List Executed)
-    → told_from limits names before lines ≡ Some after → Grew before after
+    → run_from limits names before lines ≡ Some after → Grew before after
 grew_from limits names before after [] is = grew_by_none before after is
 grew_from limits names before after (first ∷ lines) is =
     next_told limits names lines after (tell limits names before first.command)
@@ -50,5 +50,5 @@ grew_from limits names before after (first ∷ lines) is =
 -- what was written stays
 pub bytes_stay : BytesStay
 bytes_stay limits names same more before after first both =
-    let on = λ (so_far : Option Told). option_and_then (λ middle. told_from limits names middle more) so_far in
-    grew_from limits names before after more (ap on (sym first) ∙ sym (told-append limits names same more) ∙ both)
+    let on = λ (so_far : Option Told). option_and_then (λ middle. run_from limits names middle more) so_far in
+    grew_from limits names before after more (ap on (sym first) ∙ sym (run_of-append limits names same more) ∙ both)

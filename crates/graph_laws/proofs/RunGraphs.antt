@@ -5,8 +5,8 @@ use Rattle.std.proofs.lemmas.Option.{none-some, same_Some}
 use Rattle.std.proofs.lemmas.List.Elements.{All-head, All-tail}
 use Rattle.heap_command.specs.declared.command.Command.{Command}
 use Rattle.heap_command.specs.Executed.{Executed}
-use Rattle.object_graph.specs.Meaning.{Limits, Outcome, done, fault, does}
-use Rattle.object_graph.specs.Run.{Told, untold, tell, told_with, told_from}
+use Rattle.object_graph.specs.Meaning.{Limits, Outcome, done, fault, meaning}
+use Rattle.object_graph.specs.Run.{Told, untold, tell, told_with, run_from}
 use Rattle.object_graph.specs.Invariants.{IsGraph}
 use Rattle.object_graph.proofs.Leads.{Leads}
 use Rattle.graph_laws.specs.GraphLaws.{HasFieldLimit, FitsLine, RunsMakeGraphs}
@@ -27,13 +27,13 @@ pub line_graph : (limits : Limits) (names : List (List ℕ)) (so_far after : Tol
 line_graph limits names so_far after None limited fits holds is =
     subst (λ told. IsGraph told.graph) (same_Some so_far after is) holds
 line_graph limits names so_far after (Some command) limited fits holds is =
-    let outcome = does limits names so_far.graph command in
+    let outcome = meaning limits names so_far.graph command in
     told_graph so_far after outcome (leads limits names so_far.graph command limited fits holds) is
 
 -- what lines tell from a graph on is a graph
 lines_graph : (limits : Limits) (names : List (List ℕ)) (so_far after : Told) (lines : List Executed)
     → HasFieldLimit limits → All (λ line. FitsLine line.command) lines → IsGraph so_far.graph
-    → told_from limits names so_far lines ≡ Some after → IsGraph after.graph
+    → run_from limits names so_far lines ≡ Some after → IsGraph after.graph
 lines_graph limits names so_far after [] limited fits holds is =
     subst (λ told. IsGraph told.graph) (same_Some so_far after is) holds
 lines_graph limits names so_far after (line ∷ lines) limited fits holds is =

@@ -7,8 +7,8 @@ use Rattle.std.proofs.lemmas.Bool.{cases_eq, ne_eqb, eq-eqb}
 use Rattle.std.proofs.lemmas.Bool.Decides.{nat_tests}
 use Rattle.heap_command.specs.declared.command.Command.{Command}
 use Rattle.heap_command.specs.Executed.{Executed}
-use Rattle.object_graph.specs.Meaning.{Limits, Outcome, done, fault, does}
-use Rattle.object_graph.specs.Run.{Told, untold, tell, told_from, told_with, lines_most, Ending, end, fault_at}
+use Rattle.object_graph.specs.Meaning.{Limits, Outcome, done, fault, meaning}
+use Rattle.object_graph.specs.Run.{Told, untold, tell, run_from, told_with, lines_most, Ending, end, fault_at}
 use Rattle.object_graph.specs.Run.{limit_at, fault_in, fault_of, ending_here, ending}
 use Rattle.graph_laws.specs.Laws.{RunsEnd}
 
@@ -19,7 +19,7 @@ record EndsOn (limits : Limits) (names : List (List ℕ)) (so_far : Told) (execu
   later : Told
   how : Ending
   within : more ≤ length lines
-  said : told_from limits names so_far (take more lines) ≡ Some later
+  said : run_from limits names so_far (take more lines) ≡ Some later
   ends : ending limits names later.graph (executed + more) (drop more lines) ≡ Some how
 
 -- an outcome is a fault, which ends a run, or tells more
@@ -35,7 +35,7 @@ faults_or_tells : (limits : Limits) (names : List (List ℕ)) (so_far : Told) (n
     ⊎ ((later : Told) × (tell limits names so_far command ≡ Some later))
 faults_or_tells limits names so_far number None = inr (so_far, refl)
 faults_or_tells limits names so_far number (Some command) =
-    fault_or_told so_far number (does limits names so_far.graph command)
+    fault_or_told so_far number (meaning limits names so_far.graph command)
 
 -- where no more lines were executed than may be, a run ends as it does here
 not_past : (most executed : ℕ) (here : Option Ending) → executed ≤ most → cond (nat_lt most executed) None here ≡ here
@@ -73,7 +73,7 @@ ends_after limits names so_far next executed line lines told on =
       later = on.later;
       how = on.how;
       within = omega (arith, on.within);
-      said = ap (λ so. option_and_then (λ later. told_from limits names later rest) so) told ∙ on.said;
+      said = ap (λ so. option_and_then (λ later. run_from limits names later rest) so) told ∙ on.said;
       ends = ap (λ n. ending limits names on.later.graph n (drop on.more lines)) sum ∙ on.ends;
     }
 

@@ -8,10 +8,10 @@ use Rattle.std.proofs.lemmas.Bool.{ltb-false, ne_eqb, cases_lt}
 use Rattle.std.proofs.lemmas.Option.{none-some}
 use Rattle.heap_command.specs.declared.command.Command.{Command}
 use Rattle.heap_command.specs.Executed.{Executed}
-use Rattle.object_graph.specs.Meaning.{Limits, Outcome, done, fault, does}
-use Rattle.object_graph.specs.Run.{Told, tell, told, told_from, told_with, lines_most, Ending, limit_at, fault_in}
+use Rattle.object_graph.specs.Meaning.{Limits, Outcome, done, fault, meaning}
+use Rattle.object_graph.specs.Run.{Told, tell, run_of, run_from, told_with, lines_most, Ending, limit_at, fault_in}
 use Rattle.object_graph.specs.Run.{fault_of, ending_here, ending, EndsAfter}
-use Rattle.object_graph.proofs.Runs.{told-append}
+use Rattle.object_graph.proofs.Runs.{run_of-append}
 use Rattle.graph_laws.specs.Laws.{RunsEndOnce}
 
 -- an outcome that ends a run leaves no graph
@@ -26,7 +26,7 @@ fault_of-tells : (limits : Limits) (names : List (List ℕ)) (so_far : Told) (nu
     → fault_of limits names so_far.graph number command ≡ Some how → tell limits names so_far command ≡ None
 fault_of-tells limits names so_far number None how is = absurd (none-some how is)
 fault_of-tells limits names so_far number (Some command) how is =
-    fault_in-tells so_far number (does limits names so_far.graph command) how is
+    fault_in-tells so_far number (meaning limits names so_far.graph command) how is
 
 -- what is there though a test may take it away
 not_taken : (test : Bool) (here : Option Ending) (how : Ending) → cond test None here ≡ Some how
@@ -90,12 +90,12 @@ next_of (first ∷ lines) (suc n) (suc m) below within =
 
 -- a run with a line that leaves no graph leaves none
 stopped : (limits : Limits) (names : List (List ℕ)) (first between : List Executed) (next : Executed) (so_far : Told)
-    → told limits names first ≡ Some so_far → tell limits names so_far next.command ≡ None
-    → told limits names (first ++ next ∷ between) ≡ None
+    → run_of limits names first ≡ Some so_far → tell limits names so_far next.command ≡ None
+    → run_of limits names (first ++ next ∷ between) ≡ None
 stopped limits names first between next so_far said none =
-    told-append limits names first (next ∷ between)
-    ∙ ap (λ so. option_and_then (λ later. told_from limits names later (next ∷ between)) so) said
-    ∙ ap (λ so. option_and_then (λ later. told_from limits names later between) so) none
+    run_of-append limits names first (next ∷ between)
+    ∙ ap (λ so. option_and_then (λ later. run_from limits names later (next ∷ between)) so) said
+    ∙ ap (λ so. option_and_then (λ later. run_from limits names later between) so) none
 
 -- a run that ends after n lines doesn't end after more
 ends_no_later : (limits : Limits) (names : List (List ℕ)) (lines : List Executed) (n m : ℕ) (a b : Told) (e f : Ending)
@@ -108,7 +108,7 @@ ends_no_later limits names lines n m a b e f first second below =
     ap (λ rest. ending limits names a.graph n rest) (sym found.after) ∙ first.ends in
     let none = ends_by_fault limits names a n found.next found.more e (omega (arith, below, most)) ends in
     let stops = stopped limits names (take n lines) found.between found.next a first.said none in
-    none-some b (sym stops ∙ ap (told limits names) (sym found.before) ∙ second.said)
+    none-some b (sym stops ∙ ap (run_of limits names) (sym found.before) ∙ second.said)
 
 -- ends after the same number of lines are one
 same_end : (limits : Limits) (names : List (List ℕ)) (lines : List Executed) (n : ℕ) (a b : Told) (e f : Ending)

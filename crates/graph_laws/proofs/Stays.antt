@@ -12,7 +12,7 @@ use Rattle.object_graph.specs.declared.object.Object.{Object}
 use Rattle.object_graph.specs.declared.object.Object.TheVariants.{Plain, List as ListOf, Weak}
 use Rattle.object_graph.specs.declared.path.Path.{Path}
 use Rattle.object_graph.specs.Graphs.{Graph}
-use Rattle.object_graph.specs.Meaning.{Limits, done, does}
+use Rattle.object_graph.specs.Meaning.{Limits, done, meaning}
 use Rattle.object_graph.proofs.Lists.{slice_get-push, slice_get-set_same, slice_get-set_other}
 use Rattle.object_graph.proofs.Leads.{Leads}
 use Rattle.graph_laws.specs.Laws.{MayChange, SameKind, ObjectsKept, ObjectsStay, PathsStay, CollectionsChangeNothing}
@@ -21,7 +21,7 @@ use Rattle.graph_laws.proofs.Changes.{Changes, binds, makes, puts, changed}
 -- a command that is carried out changes what its meaning changes
 carried_out : (limits : Limits) (names : List (List ℕ)) (graph : Graph) (command : Command)
     (after : Graph) (text : List ℕ)
-    → does limits names graph command ≡ done after text → Changes graph command after
+    → meaning limits names graph command ≡ done after text → Changes graph command after
 carried_out limits names graph command after text is =
     subst (Leads (Changes graph command)) is (changed limits names graph command)
 

@@ -9,8 +9,8 @@ use Rattle.heap_command.specs.declared.command.Operand.TheVariants as operand
 use Rattle.object_graph.specs.declared.object.Field.{Field}
 use Rattle.object_graph.specs.declared.object.Object.TheVariants.{Plain}
 use Rattle.object_graph.specs.Graphs.{Graph}
-use Rattle.object_graph.specs.Meaning.{Limits, done, does}
-use Rattle.object_graph.specs.Run.{Told, told}
+use Rattle.object_graph.specs.Meaning.{Limits, done, meaning}
+use Rattle.object_graph.specs.Run.{Told, run_of}
 use Rattle.heap_command.specs.Commands.{cap_most}
 use Rattle.object_graph.specs.Invariants.{fields_most, IsGraph}
 
@@ -48,12 +48,12 @@ FieldsAreFew =
 abbrev pub GraphsStay : Type 0
 GraphsStay =
     (limits : Limits) (names : List (List ℕ)) (graph : Graph) (command : Command) (after : Graph) (text : List ℕ)
-    → HasFieldLimit limits → FitsCommand command → does limits names graph command ≡ done after text
+    → HasFieldLimit limits → FitsCommand command → meaning limits names graph command ≡ done after text
     → IsGraph graph → IsGraph after
 
 -- what a run tells is always a graph
 abbrev pub RunsMakeGraphs : Type 0
 RunsMakeGraphs =
     (limits : Limits) (names : List (List ℕ)) (lines : List Executed) (so_far : Told)
-    → HasFieldLimit limits → All (λ line. FitsLine line.command) lines → told limits names lines ≡ Some so_far
+    → HasFieldLimit limits → All (λ line. FitsLine line.command) lines → run_of limits names lines ≡ Some so_far
     → IsGraph so_far.graph

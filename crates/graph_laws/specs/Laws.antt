@@ -9,30 +9,30 @@ use Rattle.object_graph.specs.declared.value.Value.TheVariants.{Ref}
 use Rattle.object_graph.specs.declared.object.Object.{Object}
 use Rattle.object_graph.specs.declared.object.Object.TheVariants.{Plain, List as ListOf, Weak}
 use Rattle.object_graph.specs.Graphs.{Graph}
-use Rattle.object_graph.specs.Meaning.{Limits, done, does}
+use Rattle.object_graph.specs.Meaning.{Limits, done, meaning}
 use Rattle.heap_command.specs.Executed.{Executed}
-use Rattle.object_graph.specs.Run.{Told, tell, told, told_from, Ending, EndsAfter}
+use Rattle.object_graph.specs.Run.{Told, tell, run_of, run_from, Ending, EndsAfter}
 
 -- the run after one line more is the run after the lines before it, and then that line
 abbrev pub RunsAgree : Type 0
 RunsAgree =
     (limits : Limits) (names : List (List ℕ)) (lines : List Executed) (line : Executed)
-    → told limits names (lines ++ line ∷ [])
-    ≡ option_and_then (λ so_far. tell limits names so_far line.command) (told limits names lines)
+    → run_of limits names (lines ++ line ∷ [])
+    ≡ option_and_then (λ so_far. tell limits names so_far line.command) (run_of limits names lines)
 
 -- runs with the same first lines go on from the same point: after those lines and more, the run is what the later lines
 -- make of the run of the first ones
 abbrev pub RunsGoOn : Type 0
 RunsGoOn =
     (limits : Limits) (names : List (List ℕ)) (same more : List Executed)
-    → told limits names (same ++ more)
-    ≡ option_and_then (λ so_far. told_from limits names so_far more) (told limits names same)
+    → run_of limits names (same ++ more)
+    ≡ option_and_then (λ so_far. run_from limits names so_far more) (run_of limits names same)
 
 -- what was written stays: more lines only add bytes after it
 abbrev pub BytesStay : Type 0
 BytesStay =
     (limits : Limits) (names : List (List ℕ)) (same more : List Executed) (before after : Told)
-    → told limits names same ≡ Some before → told limits names (same ++ more) ≡ Some after
+    → run_of limits names same ≡ Some before → run_of limits names (same ++ more) ≡ Some after
     → (later : List ℕ) × (after.bytes ≡ before.bytes ++ later)
 
 -- a run ends once: two ways in which the run of these lines ends are one, after the same number of them with the same
@@ -53,7 +53,7 @@ RunsEnd =
 abbrev pub FaultsStay : Type 0
 FaultsStay =
     (limits : Limits) (names : List (List ℕ)) (lines more : List Executed)
-    → told limits names lines ≡ None → told limits names (lines ++ more) ≡ None
+    → run_of limits names lines ≡ None → run_of limits names (lines ++ more) ≡ None
 
 -- the variable whose object the command changes, if it changes one
 abbrev pub changes : Command → Option ℕ
@@ -93,13 +93,13 @@ pub record ObjectsKept (graph : Graph) (command : Command) (after : Graph) : Typ
 abbrev pub ObjectsStay : Type 0
 ObjectsStay =
     (limits : Limits) (names : List (List ℕ)) (graph : Graph) (command : Command) (after : Graph) (text : List ℕ)
-    → does limits names graph command ≡ done after text → ObjectsKept graph command after
+    → meaning limits names graph command ≡ done after text → ObjectsKept graph command after
 
 -- the paths of the graph are the first paths of the graph after a command that is carried out
 abbrev pub PathsStay : Type 0
 PathsStay =
     (limits : Limits) (names : List (List ℕ)) (graph : Graph) (command : Command) (after : Graph) (text : List ℕ)
-    → does limits names graph command ≡ done after text → take (length graph.paths) after.paths ≡ graph.paths
+    → meaning limits names graph command ≡ done after text → take (length graph.paths) after.paths ≡ graph.paths
 
 -- the command collects, or begins or ends a cycle of marking
 abbrev pub IsCollection : Command → Type 0
@@ -113,4 +113,4 @@ IsCollection _ = ⊥
 abbrev pub CollectionsChangeNothing : Type 0
 CollectionsChangeNothing =
     (limits : Limits) (names : List (List ℕ)) (graph : Graph) (command : Command)
-    → IsCollection command → does limits names graph command ≡ done graph []
+    → IsCollection command → meaning limits names graph command ≡ done graph []

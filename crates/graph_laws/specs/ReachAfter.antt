@@ -11,9 +11,9 @@ use Rattle.object_graph.specs.declared.object.Object.TheVariants as kind
 use Rattle.object_graph.specs.declared.object.Field.{Field}
 use Rattle.object_graph.specs.declared.object.Entry.{Entry}
 use Rattle.object_graph.specs.Graphs.{Graph}
-use Rattle.object_graph.specs.Meaning.{Limits, done, does}
+use Rattle.object_graph.specs.Meaning.{Limits, done, meaning}
 use Rattle.object_graph.specs.Reach.{is_marked, reach}
-use Rattle.object_graph.specs.Run.{Told, told_from}
+use Rattle.object_graph.specs.Run.{Told, run_from}
 use Rattle.object_graph.specs.Invariants.{IsGraph}
 use Rattle.graph_laws.specs.GraphLaws.{HasFieldLimit, FitsLine}
 
@@ -33,7 +33,7 @@ abbrev pub OnlyMadeIsNew : Type 0
 OnlyMadeIsNew =
     (limits : Limits) (names : List (List ℕ)) (graph : Graph) (command : Command) (after : Graph) (text : List ℕ)
     (number : ℕ)
-    → IsGraph graph → does limits names graph command ≡ done after text → IsTrue (is_marked (reach after) number)
+    → IsGraph graph → meaning limits names graph command ≡ done after text → IsTrue (is_marked (reach after) number)
     → IsTrue (is_marked (reach graph) number) ⊎ IsMadeBy graph command number
 
 -- the command's variable is bound to the object that a command made, so the object can be reached
@@ -41,7 +41,7 @@ abbrev pub MadeIsReached : Type 0
 MadeIsReached =
     (limits : Limits) (names : List (List ℕ)) (graph : Graph) (command : Command) (after : Graph) (text : List ℕ)
     (x : ℕ)
-    → does limits names graph command ≡ done after text → made_for command ≡ Some x
+    → meaning limits names graph command ≡ done after text → made_for command ≡ Some x
     → (get after.bindings x ≡ Some (Ref (length graph.objects)))
     × IsTrue (is_marked (reach after) (length graph.objects))
 
@@ -64,7 +64,7 @@ abbrev pub MadeIsUnshared : Type 0
 MadeIsUnshared =
     (limits : Limits) (names : List (List ℕ)) (graph : Graph) (command : Command) (after : Graph) (text : List ℕ)
     (x : ℕ)
-    → IsGraph graph → does limits names graph command ≡ done after text → made_for command ≡ Some x
+    → IsGraph graph → meaning limits names graph command ≡ done after text → made_for command ≡ Some x
     → IsOnlyBoundTo after x (length graph.objects)
 
 -- what is lost stays lost: an object that is there, and can be reached after more lines, could be reached before them
@@ -72,5 +72,5 @@ abbrev pub LostStaysLost : Type 0
 LostStaysLost =
     (limits : Limits) (names : List (List ℕ)) (lines : List Executed) (before after : Told) (number : ℕ)
     → HasFieldLimit limits → All (λ line. FitsLine line.command) lines → IsGraph before.graph
-    → told_from limits names before lines ≡ Some after → number < length before.graph.objects
+    → run_from limits names before lines ≡ Some after → number < length before.graph.objects
     → IsTrue (is_marked (reach after.graph) number) → IsTrue (is_marked (reach before.graph) number)

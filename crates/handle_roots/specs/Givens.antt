@@ -21,11 +21,11 @@ IsGivenBy held (given.Word word) = (word.0 ≡ first_word held) × (has_slot_wor
 IsGivenBy held (given.Int v) = held ≡ Int v
 
 -- what is given stands for this
-pub record Gives (given : Given) (held : Held) : Type 0 where
+pub record IsGivenFor (given : Given) (held : Held) : Type 0 where
   pub fits : FitsHeld held
   pub is : IsGivenBy held given
 
 -- what the variable holds is given; or nothing is, and it is bound to nothing
 abbrev pub GivesHeld : Space → List ℕ → ℕ → Option Given → Type 0
 GivesHeld space words variable None = Holds space words variable Unbound
-GivesHeld space words variable (Some given) = (held : Held) × Holds space words variable held × Gives given held
+GivesHeld space words variable (Some given) = (held : Held) × Holds space words variable held × IsGivenFor given held

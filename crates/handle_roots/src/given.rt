@@ -4,7 +4,7 @@ ghost use Rattle.tagged_word.specs.Words.{small};
 ghost use Rattle.handle_roots.specs.declared.held.Held.{Held as What};
 ghost use Rattle.handle_roots.specs.declared.held.Held.TheVariants as held;
 ghost use Rattle.handle_roots.specs.Roots.{FitsHeld, first_word};
-ghost use Rattle.handle_roots.specs.Givens.{Gives, has_slot_word};
+ghost use Rattle.handle_roots.specs.Givens.{IsGivenFor, has_slot_word};
 
 use crate::first_words::held_by_first;
 use crate::held::Held;
@@ -23,7 +23,7 @@ impl Given {
     /// An integer, by its word where it is small.
     #[inline(always)]
     pub fn integer(v: i64) -> Given
-        ensures gives { Gives result (held.Int v) }
+        ensures gives { IsGivenFor result (held.Int v) }
         ensures by_word { small v ≡ true → (word : Word) × (result ≡ Given.Word word) }
     {
         match Word::small(v) {
@@ -35,7 +35,7 @@ impl Given {
     /// `undefined`, by its word.
     #[inline(always)]
     pub fn undefined() -> Given
-        ensures { Gives result held.Undefined }
+        ensures { IsGivenFor result held.Undefined }
     {
         Given::Word(Word::odd(odd::UNDEFINED))
     }
@@ -43,8 +43,8 @@ impl Given {
     /// The value.
     #[inline(always)]
     pub fn held(self) -> Held
-        requires { (held : What) × Gives self held }
-        ensures { (held : What) → Gives self held → result ≡ held }
+        requires { (held : What) × IsGivenFor self held }
+        ensures { (held : What) → IsGivenFor self held → result ≡ held }
     {
         match self {
             Given::Word(word) => held_by_slot_word(word),
@@ -56,8 +56,8 @@ impl Given {
 /// What the word of a slot stands for that is a first root word too.
 #[inline(always)]
 fn held_by_slot_word(word: Word) -> Held
-    requires { (held : What) × Gives (Given.Word word) held }
-    ensures { (held : What) → Gives (Given.Word word) held → result ≡ held }
+    requires { (held : What) × IsGivenFor (Given.Word word) held }
+    ensures { (held : What) → IsGivenFor (Given.Word word) held → result ≡ held }
 {
     match held_by_first(word.0) {
         Some(held) => held,

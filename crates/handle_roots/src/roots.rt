@@ -6,7 +6,7 @@ ghost use Rattle.handle_roots.specs.declared.held.Held.{Held};
 ghost use Rattle.handle_roots.specs.declared.held.Held.TheVariants.{Unbound, Int, Ref};
 ghost use Rattle.handle_roots.specs.Roots.{root_at, Holds, IsRoot, with_root};
 ghost use Rattle.tagged_word.specs.Words.{small};
-ghost use Rattle.handle_roots.specs.Givens.{Gives, GivesHeld};
+ghost use Rattle.handle_roots.specs.Givens.{IsGivenFor, GivesHeld};
 
 use crate::first_words::{held_by_first, referred_by_first, small_by_first};
 use crate::given::{Given, is_slot_word};
@@ -137,7 +137,7 @@ pub fn small_word_by<W: Reads>(words: &mut W, regions: &Regions, variable: u32) 
     requires known { variable < regions.now.variables }
     requires steady { W.IsSteady words.old }
     requires root { IsRoot regions.now (W.words words.old) variable }
-    ensures holds { IfSome result (λ word. (v : ℤ) × IsTrue (small v) × Gives (Given.Word word) (Int v)
+    ensures holds { IfSome result (λ word. (v : ℤ) × IsTrue (small v) × IsGivenFor (Given.Word word) (Int v)
         × Holds regions.now (W.words words.old) variable (Int v)) }
     ensures none { IsNone result → (v : ℤ) → IsTrue (small v) →
         ¬ Holds regions.now (W.words words.old) variable (Int v) }

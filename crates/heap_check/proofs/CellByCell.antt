@@ -6,7 +6,7 @@ use Rattle.heap_model.specs.Heaps.{Heap, HasCell, words_of_cell}
 use Rattle.heap_model.specs.Kinds.{IsSoundCell}
 use Rattle.heap_model.specs.Wholeness.{HasRows}
 use Rattle.heap_model.proofs.CellsApart.{cells_apart, first_of_cell}
-use Rattle.heap_check.specs.Finding.{IsFirstCell}
+use Rattle.image_walk.specs.Finding.{IsFirstCell}
 
 -- each cell that begins before the address holds what its kind has
 abbrev pub SoundBefore : Heap → ℕ → Type 0

@@ -1,18 +1,16 @@
 -- What the slots of a list's store hold, slot by slot.
-use Rattle.std.proofs.Common.{◌≡◌, ℕ, ◌≤◌, true, false, List, nat_lt, sym, ◌∙◌, subst, arith}
+use Rattle.std.proofs.Common.{◌≡◌, ℕ, ◌≤◌, true, false, List, nat_lt, sym, subst, arith}
 use Rattle.std.proofs.Common.{length, inl, inr}
 use Rattle.std.proofs.lemmas.Bool.{cases_lt}
 use Rattle.std.proofs.lemmas.Bool.Decides.{nat_tests}
-use Rattle.std.proofs.lemmas.Option.{same_Some}
 use Rattle.tagged_word.specs.declared.layout.Kind.TheVariants as kind
 use Rattle.tagged_word.specs.Cells.{store_slot}
 use Rattle.object_graph.specs.Meaning.{list_most}
 use Rattle.heap_model.specs.Heaps.{Heap}
 use Rattle.heap_model.specs.Kinds.{HasWord, HoldValues, IsListCell, count_offset}
-use Rattle.heap_check.specs.declared.spans.Span.{Span}
-use Rattle.heap_check.specs.Spans.{EachWord, span_words, SpansStore}
+use Rattle.image_walk.specs.declared.spans.Span.{Span}
+use Rattle.image_walk.specs.Spans.{EachWord, span_words, SpansStore}
 use Rattle.heap_check.specs.Elements.{IsElement}
-use Rattle.heap_check.proofs.StoreSlots.{beside_is_span}
 
 -- the slots hold elements, as many as they are, each in its place
 abbrev pub AreElements : Heap → ℕ → List ℕ → Type 0
@@ -57,12 +55,3 @@ list_from heap words store count span slot counted few beside hold = record {
   few = few;
   hold = hold;
 }
-
--- and then these slots hold its elements
-pub list_to : (heap : Heap) (words : List ℕ) (store count : ℕ) (span : Span) → HasWord words store_slot store
-    → HasWord words count_offset count → SpansStore heap kind.Store store span → IsListCell heap words
-    → HoldValues heap count (span_words heap span)
-list_to heap words store count span slot counted beside list =
-    let same_count : list.count ≡ count = same_Some _ _ (sym list.counted ∙ counted) in
-    let same = beside_is_span words store_slot store list.store span slot list.slot beside list.stands in
-    subst (HoldValues heap count) same (subst (λ n. HoldValues heap n list.beside) same_count list.hold)

@@ -1,15 +1,14 @@
 -- What the slots of a plain object hold, slot by slot.
-use Rattle.std.proofs.Common.{◌≡◌, ℕ, ◌≤◌, List, ◌++◌, length, drop, sym, ◌∙◌, ap, subst}
+use Rattle.std.proofs.Common.{◌≡◌, ℕ, ◌≤◌, List, ◌++◌, length, drop, ap}
 use Rattle.tagged_word.specs.declared.layout.Kind.TheVariants as kind
 use Rattle.tagged_word.specs.Cells.{store_slot, plain_head}
 use Rattle.heap_model.specs.Types.{Path, Cell}
 use Rattle.shape_tree.specs.Shapes.{IsPathShape, shape_path}
 use Rattle.heap_model.specs.Heaps.{Heap}
-use Rattle.heap_model.specs.Kinds.{HasWord, HasSlots, HoldFields, IsPlainCell}
-use Rattle.heap_check.specs.declared.spans.Span.{Span}
-use Rattle.heap_check.specs.Spans.{EachWord, span_words, SpansStore}
+use Rattle.heap_model.specs.Kinds.{HasWord, HoldFields, IsPlainCell}
+use Rattle.image_walk.specs.declared.spans.Span.{Span}
+use Rattle.image_walk.specs.Spans.{EachWord, span_words, SpansStore}
 use Rattle.heap_check.specs.PathSlots.{FitsSlot}
-use Rattle.heap_check.proofs.StoreSlots.{beside_is_span}
 
 -- where each slot holds what it may, the slots hold the fields
 pub hold_fields_from : (heap : Heap) (path : Path) (slots : List ℕ) → length path.fields ≤ length slots
@@ -44,21 +43,3 @@ plain_from heap cell words store own beside shape slot own_are stands hold = rec
   };
   hold = hold;
 }
-
--- the slots of an object are its own and those beside them
-pub slots_are : {heap : Heap} {words slots : List ℕ} (store : ℕ) (own beside : Span) → HasWord words store_slot store
-    → span_words heap own ≡ drop plain_head words → SpansStore heap kind.Store store beside → HasSlots heap words slots
-    → slots ≡ span_words heap own ++ span_words heap beside
-slots_are {heap} {words} store own beside slot own_are stands has =
-    let same = beside_is_span words store_slot store has.store beside slot has.slot stands has.stands in
-    has.are ∙ ap (λ all. drop plain_head words ++ all) same
-    ∙ ap (λ all. all ++ span_words heap beside) (sym own_are)
-
--- and then these slots hold its fields
-pub plain_to : (heap : Heap) (cell : Cell) (words : List ℕ) (store : ℕ) (own beside : Span)
-    → HasWord words store_slot store → span_words heap own ≡ drop plain_head words
-    → SpansStore heap kind.Store store beside → IsPlainCell heap cell words
-    → HoldFields heap (shape_path heap.paths cell.header.shape) (span_words heap own ++ span_words heap beside)
-plain_to heap cell words store own beside slot own_are stands plain =
-    subst (HoldFields heap (shape_path heap.paths cell.header.shape))
-    (slots_are store own beside slot own_are stands plain.has) plain.hold

@@ -1,9 +1,8 @@
 -- The used row of a region as a walk within a bound.
-use Rattle.std.proofs.Common.{◌≡◌, ℕ, ◌+◌, ◌-◌, ◌≤◌, inl, inr, List, Contains, false}
-use Rattle.std.proofs.Common.{Option, Some, None, MatchOption}
+use Rattle.std.proofs.Common.{◌≡◌, ℕ, ◌+◌, ◌-◌, ◌≤◌, inl, inr, Contains, false}
 use Rattle.std.proofs.Common.{refl, sym, ◌∙◌, ap, subst, arith, IsTrue}
 use Rattle.std.proofs.lemmas.Bool.{false≢true}
-use Rattle.heap_model.specs.Types.{Region, Cell}
+use Rattle.heap_model.specs.Types.{Region}
 use Rattle.page_space.specs.declared.region.Region.TheVariants.{Page, Eden, Segment}
 use Rattle.page_space.specs.Extents.{Space, Extent, IsIn, is_cell_region}
 use Rattle.page_space.specs.RegionLaws.{IsSpace}
@@ -19,9 +18,9 @@ use Rattle.heap_model.proofs.WordsAlike.{extent_below_roots}
 use Rattle.heap_model.proofs.RegionStarts.{region_at_start, holds_first}
 use Rattle.heap_model.proofs.RegionRows.{LiesBetween, of_region, region_is, lies_between}
 use Rattle.heap_model.specs.RegionRows.{StandsBetween, IsRowFrom}
-use Rattle.heap_check.specs.declared.row.Bound.{Bound}
-use Rattle.heap_check.specs.Walks.{Stops, IsWalk, HasNoWalk, EndsWalk}
-use Rattle.heap_check.specs.RegionRows.{IsFew, BoundsFrom, IsBoundOf, HasNoRowAt, EndsRowAt, CountsRowAt}
+use Rattle.heap_check.specs.declared.region_rows.Bound.{Bound}
+use Rattle.heap_check.specs.Walks.{Stops, IsWalk}
+use Rattle.heap_check.specs.RegionRows.{IsFew, BoundsFrom, IsBoundOf, UsedRowEndsAt, CountsRowAt}
 use Rattle.heap_check.specs.RegionRows.{bound_in, survivors_by}
 
 -- a walk within a limit that may end nowhere else ends there
@@ -140,30 +139,6 @@ row_walks heap start end bound row bounds is =
       stops = ends.1;
     }
 
--- a walk within the bound is the used row of the region
-walk_is_row : (heap : Heap) (start end at : ℕ) (bound : Bound) (cells : List Cell) → BoundsFrom heap start end bound
-    → IsWalk heap bound start at cells → EndsRowAt heap start at
-walk_is_row heap start end at bound cells bounds walk =
-    let stands = bounds.stands in
-    let from = subst (λ (from : ℕ). IsRow heap.space heap.words from at cells) (sym stands.starts) walk.row in
-    record {
-      row = record { extent = stands.extent; end = at; cells = cells };
-      is = record {
-        among = stands.among;
-        starts = stands.starts;
-        used = record { ends = (bounds.bounds.ends at).1 (walk.within, walk.stops); stands = from };
-      };
-      ends = refl;
-    }
-
--- so the used row of the region ends where the walk does
-pub row_by_walk : (heap : Heap) (start end : ℕ) (bound : Bound) (found : Option ℕ) → BoundsFrom heap start end bound
-    → MatchOption found (HasNoWalk heap bound start) (λ at. EndsWalk heap bound start at)
-    → MatchOption found (HasNoRowAt heap start) (λ at. EndsRowAt heap start at)
-row_by_walk heap start end bound None bounds none =
-    λ row is. none row.end row.cells (row_walks heap start end bound row bounds is)
-row_by_walk heap start end bound (Some at) bounds ends = walk_is_row heap start end at bound ends.cells bounds ends.walk
-
 -- the words of survivors of a row, by its region
 pub counts_by : (row : Row) (region : Region)
     → survivors_in row region ≡ survivors_by region (row.end - row.extent.start)
@@ -177,7 +152,7 @@ few_survivors _ words = omega arith
 
 -- a row's survivors, by the region that its first address is in
 pub counts_row : (heap : Heap) (start end : ℕ) (region : Region) → IsSpace heap.space
-    → EndsRowAt heap start end → IsIn heap.space start region
+    → UsedRowEndsAt heap start end → IsIn heap.space start region
     → CountsRowAt heap start (survivors_by region (end - start))
 counts_row heap start end region within ends inside =
     let row = ends.row in
@@ -194,6 +169,6 @@ counts_row heap start end region within ends inside =
 
 -- it lies in its region
 pub row_within : {heap : Heap} {start end at : ℕ} → IsSpace heap.space → IsFew heap → StandsBetween heap.space start end
-    → EndsRowAt heap start at → LiesBetween start at end
+    → UsedRowEndsAt heap start at → LiesBetween start at end
 row_within {start = start} {end} limits few stands ends =
     subst (λ at. LiesBetween start at end) ends.ends (lies_between limits few stands ends.is)

@@ -10,3 +10,9 @@ pub record HasFrame (heap : Heap) : Type 0 where
   pub rows : HasRows heap
   pub blank : Blank heap
   pub roots : HasRoots heap
+
+-- the words, the layout words and the rows of a whole heap, and no word that no cell uses but 0
+pub record HasBlankRows (heap : Heap) : Type 0 where
+  pub sized : HasSizes heap
+  pub rows : HasRows heap
+  pub blank : Blank heap

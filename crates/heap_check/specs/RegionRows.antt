@@ -8,7 +8,7 @@ use Rattle.page_space.specs.Extents.{Extent}
 use Rattle.heap_model.specs.Heaps.{Heap, Row, EndsUsed, survivors_in}
 use Rattle.heap_model.specs.Heaps.{AreRows, survivors_of}
 use Rattle.heap_model.specs.RegionRows.{StandsBetween, IsRowFrom}
-use Rattle.heap_check.specs.declared.row.Bound.{Bound}
+use Rattle.heap_check.specs.declared.region_rows.Bound.{Bound}
 use Rattle.heap_check.specs.Walks.{Stops}
 
 -- eden has as many words as are used of it
@@ -34,12 +34,8 @@ pub record BoundsFrom (heap : Heap) (start end : ℕ) (bound : Bound) : Type 0 w
   pub by_kind : bound ≡ bound_in stands.extent.region start end heap.used
   pub bounds : IsBoundOf heap stands.extent bound
 
--- the region that begins at the address has no used row
-abbrev pub HasNoRowAt : Heap → ℕ → Type 0
-HasNoRowAt heap start = (row : Row) → IsRowFrom heap start row → ⊥
-
 -- the used row of the region that begins at the address ends there
-pub record EndsRowAt (heap : Heap) (start end : ℕ) : Type 0 where
+pub record UsedRowEndsAt (heap : Heap) (start end : ℕ) : Type 0 where
   pub row : Row
   pub is : IsRowFrom heap start row
   pub ends : row.end ≡ end
@@ -61,14 +57,6 @@ pub record CountsRows (heap : Heap) (count : ℕ) : Type 0 where
   pub are : AreRows heap rows
   pub counted : survivors_of rows ≡ count
 
--- some region has no used row
-abbrev pub HasNoRows : Heap → Type 0
-HasNoRows heap = (rows : List Row) → AreRows heap rows → ⊥
-
 -- the words from an address to another are 0
-abbrev pub AreZero : Heap → ℕ → ℕ → Type 0
-AreZero heap from end = (at : ℕ) → from ≤ at → at < end → slice_get heap.words at ≡ Some 0
-
--- the words behind the used row of the region between two addresses are 0
-abbrev pub IsBlankFrom : Heap → ℕ → ℕ → Type 0
-IsBlankFrom heap start end = (row : Row) → IsRowFrom heap start row → AreZero heap row.end end
+abbrev pub IsZeroBetween : Heap → ℕ → ℕ → Type 0
+IsZeroBetween heap from end = (at : ℕ) → from ≤ at → at < end → slice_get heap.words at ≡ Some 0

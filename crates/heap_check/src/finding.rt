@@ -1,62 +1,55 @@
-//! The cells of a heap by their addresses. All here stands on rows that were found whole.
-ghost use Rattle.std.specs.Prelude.{◌≡◌, ◌≤◌, MatchOption};
-ghost use Rattle.page_space.specs.Extents.{words_count, CellsEndAt};
+//! The cells of a heap by their addresses, and what words stand for, by the flags of where cells start.
+ghost use Rattle.std.specs.Prelude.{◌≡◌, ◌↔◌, true, Some, slice_get, IsTrue, MatchOption};
 ghost use Rattle.heap_model.specs.Images.{image_heap};
 ghost use Rattle.heap_model.specs.Heaps.{HasCell, words_of_cell};
 ghost use Rattle.heap_model.specs.Wholeness.{HasRows};
-ghost use Rattle.heap_model.specs.RegionRows.{StandsBetween};
-ghost use Rattle.heap_check.specs.Walks.{HasWords};
-ghost use Rattle.heap_check.specs.Finding.{HasNoCellFrom, IsFirstCell, HasNoCellAt};
-ghost use Rattle.heap_check.specs.NextCell.{IsBoundary};
+ghost use Rattle.image_walk.specs.Finding.{HasNoCellAt};
+ghost use Rattle.image_walk.specs.Sorts.{IsSort};
+ghost use Rattle.image_walk.specs.Words.{HasWords};
+ghost use Rattle.heap_check.specs.Marks.{MarksStarts};
 
-use crate::next_cell::next_from;
 use cell_layout::Cell;
 use heap_model::HeapImage;
+use image_walk::{Referent, cell_there, sort_of, sort_of_cell};
+use tagged_word::Word;
 
-/// The cell of a heap at an address. It walks from the first address of its page, of eden or of its
-/// segment on, so it takes as long as there are cells before it there.
-pub fn find_cell(image: &HeapImage, address: u32) -> Option<Cell>
+/// The cell of a heap at an address.
+pub(crate) fn find(image: &HeapImage, starts: &[bool], address: u32) -> Option<Cell>
     requires sized { HasWords (image_heap image.now) }
     requires rows { HasRows (image_heap image.now) }
+    requires marks { MarksStarts (image_heap image.now) starts.now }
     ensures { let heap = image_heap image.now in MatchOption result (HasNoCellAt heap address)
         (λ cell. (cell.at ≡ address) × HasCell heap cell (words_of_cell heap cell)) }
 {
-    let Some(end) = image.regions.cells_end(address) else {
-        return None;
-    };
-    match first_from(image, start_before(image, address, end), address) {
-        Some(cell) => { if cell.at == address { Some(cell) } else { None } }
-        None => None,
+    if is_start(starts, address) {
+        cell_there(image, address)
+    } else {
+        None
     }
 }
 
-/// The first address of the page, of eden or of the segment that an address is in and that ends at
-/// another.
-fn start_before(image: &HeapImage, address: u32, end: u32) -> u32
-    requires within { CellsEndAt image.now.regions address end }
-    requires inside { end ≤ words_count image.now.regions }
-    ensures stands { StandsBetween image.now.regions result end }
-    ensures before { result ≤ address }
+/// Whether the flag of an address is there and is set.
+fn is_start(starts: &[bool], address: u32) -> bool
+    ensures { IsTrue result ↔ (slice_get starts.now address ≡ Some true) }
 {
-    image.regions.start(image.regions.region(address))
+    match starts.get(address as usize).copied() {
+        Some(flag) => flag,
+        None => false,
+    }
 }
 
-/// The first cell of a heap that stands at an address or behind it, come to from one before it that
-/// no cell reaches over.
-fn first_from(image: &HeapImage, from: u32, least: u32) -> Option<Cell>
+/// What a word stands for.
+pub(crate) fn referent(image: &HeapImage, starts: &[bool], word: u64) -> Referent
     requires sized { HasWords (image_heap image.now) }
     requires rows { HasRows (image_heap image.now) }
-    requires boundary { IsBoundary (image_heap image.now) from }
-    requires before { from ≤ least }
-    ensures { MatchOption result (HasNoCellFrom (image_heap image.now) least)
-        (λ cell. IsFirstCell (image_heap image.now) least cell) }
+    requires marks { MarksStarts (image_heap image.now) starts.now }
+    ensures { IsSort (image_heap image.now) word result }
 {
-    let mut at = from;
-    while let Some(cell) = next_from(image, at) {
-        if cell.at >= least {
-            return Some(cell);
-        }
-        at = cell.at + cell.size;
+    match Word(word).address() {
+        Some(at) => match find(image, starts, at) {
+            Some(cell) => sort_of_cell(image, cell),
+            None => Referent::Nothing,
+        },
+        None => sort_of(image, word),
     }
-    None
 }

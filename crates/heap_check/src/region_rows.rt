@@ -1,17 +1,22 @@
-//! The used row of a region: where it ends.
-ghost use Rattle.std.specs.Prelude.{◌≡◌, ◌+◌, ◌≤◌, MatchOption};
+//! How far the used row of a region may go, and how many words of survivors it has.
+ghost use Rattle.std.specs.Prelude.{◌≡◌, ◌+◌, ◌≤◌};
 ghost use Rattle.heap_model.specs.Images.{image_heap};
 ghost use Rattle.heap_model.specs.RegionRows.{StandsBetween};
-ghost use Rattle.heap_check.specs.Walks.{HasWords};
-ghost use Rattle.heap_check.specs.RegionRows.{BoundsFrom, bound_in, survivors_by};
-ghost use Rattle.heap_check.specs.RegionRows.{HasNoRowAt, EndsRowAt, CountsRowAt, IsFew};
+ghost use Rattle.heap_check.specs.RegionRows.{BoundsFrom, bound_in, survivors_by, IsFew};
+ghost use Rattle.heap_check.specs.RegionRows.{UsedRowEndsAt, CountsRowAt};
 
-use crate::row::{Bound, end_of_row};
 use heap_model::HeapImage;
 use page_space::Region;
 
+/// How far a row may go: to a limit, or, in a region that may be blank, to a word that is 0.
+#[derive(Clone, Copy)]
+pub(crate) struct Bound {
+    pub(crate) limit: u32,
+    pub(crate) blank: bool,
+}
+
 /// How far the row of a region may go that stands between two addresses.
-pub fn bound_of(image: &HeapImage, start: u32, end: u32) -> Bound
+pub(crate) fn bound_of(image: &HeapImage, start: u32, end: u32) -> Bound
     requires few { IsFew (image_heap image.now) }
     requires stands { StandsBetween image.now.regions start end }
     ensures { BoundsFrom (image_heap image.now) start end result }
@@ -42,23 +47,11 @@ fn bound_by(region: Region, start: u32, end: u32, used: u32) -> Bound
     }
 }
 
-/// Where the used row of a region ends that stands between two addresses; none where no cells
-/// stand in it from its first address to its end.
-pub(crate) fn row_end(image: &HeapImage, start: u32, end: u32) -> Option<u32>
-    requires sized { HasWords (image_heap image.now) }
-    requires few { IsFew (image_heap image.now) }
-    requires stands { StandsBetween image.now.regions start end }
-    ensures { MatchOption result (HasNoRowAt (image_heap image.now) start)
-        (λ row_end. EndsRowAt (image_heap image.now) start row_end) }
-{
-    end_of_row(image, start, bound_of(image, start, end))
-}
-
 /// How many words of survivors a row has.
-pub fn survivors_at(image: &HeapImage, start: u32, end: u32, row_end: u32) -> u32
+pub(crate) fn survivors_at(image: &HeapImage, start: u32, end: u32, row_end: u32) -> u32
     requires few { IsFew (image_heap image.now) }
     requires stands { StandsBetween image.now.regions start end }
-    requires ends { EndsRowAt (image_heap image.now) start row_end }
+    requires ends { UsedRowEndsAt (image_heap image.now) start row_end }
     ensures counted { CountsRowAt (image_heap image.now) start result }
     ensures within { start + result ≤ end }
 {

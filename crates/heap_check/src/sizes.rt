@@ -1,67 +1,80 @@
-//! Whether an image has the words and the layouts of its sizes and shapes.
-ghost use Rattle.std.specs.Prelude.{◌≡◌, ◌+◌, ◌<◌, ◌↔◌, IsTrue, Some, slice_get};
+//! Flaws of how many words there are, and of layout words.
+ghost use Rattle.std.specs.Prelude.{◌≡◌, ◌+◌, ◌<◌, Some, slice_get};
 ghost use Rattle.tagged_word.specs.Shapes.{shapes_most};
 ghost use Rattle.page_space.specs.Extents.{layouts_start};
 ghost use Rattle.shape_tree.specs.ShapeLayouts.{layout_word};
 ghost use Rattle.heap_model.specs.Images.{image_heap};
-ghost use Rattle.heap_model.specs.Wholeness.{HasSizes};
-ghost use Rattle.heap_check.specs.Walks.{HasWords, HasLayouts};
+ghost use Rattle.heap_check.specs.RegionRows.{IsFew};
+ghost use Rattle.image_walk.specs.Words.{HasWords};
+ghost use Rattle.heap_check.specs.Walks.{HasLayoutWords};
+ghost use Rattle.heap_check.specs.Firsts.{IsVerdict};
+ghost use Rattle.heap_check.specs.Frames.{BreaksUsed, BreaksLength, BreaksLayout, BreaksLayouts};
 
-use crate::reads::word_at;
+use crate::flaw::Flaw;
 use heap_model::HeapImage;
 use shape_tree::ShapeTree;
 use tagged_word::shape;
 
-/// Whether there are as many words as the sizes ask for, and the layout words are those of the
-/// shapes in use and else 0.
-pub fn has_sizes(image: &HeapImage) -> bool
-    ensures { IsTrue result ↔ HasSizes (image_heap image.now) }
+/// The flaw of how many words of eden are used.
+pub(crate) fn flaw_of_used(image: &HeapImage) -> Option<Flaw>
+    ensures { let heap = image_heap image.now in IsVerdict (IsFew heap) (BreaksUsed heap) result }
 {
-    // Opens the tree: its paths are those of a graph.
-    let _paths = image.shapes.paths();
-    if !has_words(image) {
-        return false;
+    let young = image.regions.sizes().young;
+    if image.used <= young {
+        return None;
     }
-    has_layouts(image)
+    Some(Flaw {
+        at: image.regions.count(),
+        found: image.used as u64,
+        wanted: young as u64,
+    })
 }
 
-/// Whether there are as many words as the sizes ask for.
-fn has_words(image: &HeapImage) -> bool
-    ensures { IsTrue result ↔ HasWords (image_heap image.now) }
+/// The flaw of how many words there are.
+pub(crate) fn flaw_of_length(image: &HeapImage) -> Option<Flaw>
+    ensures { let heap = image_heap image.now in IsVerdict (HasWords heap) (BreaksLength heap) result }
 {
-    // Its pages have words: there is at least one.
-    let _words_count = image.regions.count();
-    image.words.as_slice().len() == image.regions.mark_of(0) as usize
+    let at = image.regions.count();
+    let found = image.words.as_slice().len() as u64;
+    let wanted = image.regions.mark_of(0) as u64;
+    if found == wanted {
+        return None;
+    }
+    Some(Flaw { at, found, wanted })
 }
 
-/// Whether the layout words are those of the shapes in use and else 0.
-fn has_layouts(image: &HeapImage) -> bool
-    ensures { IsTrue result ↔ HasLayouts (image_heap image.now) }
+/// The first flaw of the layout words.
+pub(crate) fn flaw_of_layouts(image: &HeapImage) -> Option<Flaw>
+    requires { HasWords (image_heap image.now) }
+    ensures { let heap = image_heap image.now in IsVerdict (HasLayoutWords heap) (BreaksLayouts heap) result }
 {
     for shape in 0..shape::COUNT {
-        if !has_layout(image, shape) {
-            return false;
+        if let Some(flaw) = flaw_of_layout(image, shape) {
+            return Some(flaw);
         }
     }
-    true
+    None
 }
 
-/// Whether the layout word of a shape is its own.
-fn has_layout(image: &HeapImage, shape: u32) -> bool
-    requires { shape < shapes_most }
-    ensures { let heap = image_heap image.now in IsTrue result
-        ↔ (slice_get heap.words (layouts_start heap.space + shape)
-        ≡ Some (layout_word heap.paths shape)) }
+/// The flaw of the layout word of a shape.
+fn flaw_of_layout(image: &HeapImage, shape: u32) -> Option<Flaw>
+    requires sized { HasWords (image_heap image.now) }
+    requires known { shape < shapes_most }
+    ensures { let heap = image_heap image.now in
+        IsVerdict (slice_get heap.words (layouts_start heap.space + shape) ≡ Some (layout_word heap.paths shape))
+        (BreaksLayout heap shape) result }
 {
-    let expected = layout_word_of(&image.shapes, shape);
-    match word_at(image, image.regions.layout_at(shape)) {
-        Some(word) => word == expected,
-        None => false,
+    let at = image.regions.layout_at(shape);
+    let wanted = layout_word_of(&image.shapes, shape);
+    let found = image.words.as_slice()[at as usize];
+    if found == wanted {
+        return None;
     }
+    Some(Flaw { at, found, wanted })
 }
 
 /// The layout word of a shape; 0 where it is not in use.
-pub fn layout_word_of(shapes: &ShapeTree, shape: u32) -> u64
+fn layout_word_of(shapes: &ShapeTree, shape: u32) -> u64
     ensures { result ≡ layout_word shapes.now shape }
 {
     if shape == 0 || shape >= shape::PATHS + shapes.paths() {

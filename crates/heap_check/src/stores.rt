@@ -1,101 +1,98 @@
-//! Stores, weak tables and boxes: what they hold, and which of them an object has beside it.
-ghost use Rattle.std.specs.Prelude.{◌≡◌, ◌↔◌, IsTrue, MatchOption};
+//! Flaws of stores, tables and boxes.
+ghost use Rattle.std.specs.Prelude.{◌≡◌, ◌<◌};
 ghost use Rattle.heap_model.specs.Images.{image_heap};
 ghost use Rattle.heap_model.specs.Heaps.{words_of_cell};
+ghost use Rattle.heap_model.specs.Kinds.{HasNoNumber, IsStoreCell, IsBoxCell};
 ghost use Rattle.heap_model.specs.Slots.{IsSlotWord};
-ghost use Rattle.heap_model.specs.Kinds.{IsStoreCell, IsBoxCell, HasNoNumber};
 ghost use Rattle.heap_model.specs.Wholeness.{HasRows};
-ghost use Rattle.heap_check.specs.Walks.{HasWords};
-ghost use Rattle.heap_check.specs.Spans.{StandsIn, EachWord, WordAt, span_words, IsStoreKind};
-ghost use Rattle.heap_check.specs.Spans.{SpansStore, HoldsNoStore};
+ghost use Rattle.image_walk.specs.Spans.{StandsIn, EachWord, span_words, IsSpan, IsStoreKind};
+ghost use Rattle.image_walk.specs.Words.{HasWords};
+ghost use Rattle.heap_check.specs.Cells.{BreaksNumber, BreaksStoreCell, IsUnnumbered};
+ghost use Rattle.heap_check.specs.Firsts.{IsVerdict, asked_of};
+ghost use Rattle.heap_check.specs.Marks.{MarksStarts};
+ghost use Rattle.heap_check.specs.SpanFlaws.{BreaksSpan};
 
-use crate::reads::word_at;
-use crate::slots::{Referent, integer_of, is_slot_word, sort_of};
-use crate::spans::{Span, behind_head};
+use crate::finding::referent;
+use crate::flaw::{Flaw, asked_of};
 use cell_layout::Cell;
 use heap_model::HeapImage;
-use tagged_word::Kind;
+use image_walk::{Referent, Span, behind_head, integer_of};
+use tagged_word::{Header, Kind};
 
-/// The slots of the store or weak table of the kind to which a word refers, and no slots where the
-/// word says that there is none.
-pub fn slots_beside(image: &HeapImage, word: u64, kind: Kind) -> Option<Span>
-    requires sized { HasWords (image_heap image.now) }
-    requires rows { HasRows (image_heap image.now) }
-    requires of_stores { IsStoreKind kind }
-    ensures { let heap = image_heap image.now in MatchOption result (HoldsNoStore heap kind word)
-        (λ span. SpansStore heap kind word span) }
+/// The flaw of a slot that may hold several words.
+pub(crate) fn slot_flaw(at: u32, found: u64) -> Flaw
+    ensures { result ≡ record { at = at; found = found; wanted = asked_of found } }
 {
-    match sort_of(image, word) {
-        Referent::Undefined => Some(Span { from: 0, end: 0 }),
-        Referent::Other(cell) => {
-            if cell.layout.kind == kind {
-                Some(behind_head(image, cell))
-            } else {
-                None
-            }
-        }
-        _ => None,
+    Flaw {
+        at,
+        found,
+        wanted: asked_of(found),
     }
 }
 
-/// Whether a store or a weak table has no number, and its slots hold what slots may.
-pub(crate) fn is_store(image: &HeapImage, cell: Cell) -> bool
-    requires sized { HasWords (image_heap image.now) }
-    requires rows { HasRows (image_heap image.now) }
-    requires stands { StandsIn (image_heap image.now) cell }
-    requires of_stores { IsStoreKind cell.layout.kind }
-    ensures { let heap = image_heap image.now in IsTrue result
-        ↔ IsStoreCell heap cell (words_of_cell heap cell) }
+/// The flaw of the number of a cell that is no object's.
+pub(crate) fn flaw_of_number(cell: Cell) -> Option<Flaw>
+    requires unnumbered { IsUnnumbered cell.layout.kind }
+    requires shaped { cell.header.shape < 65536 }
+    ensures { IsVerdict (HasNoNumber cell) (BreaksNumber cell) result }
 {
-    if has_no_number(cell) {
-        are_slot_words(image, behind_head(image, cell))
-    } else {
-        false
+    if cell.header.object == 0 {
+        return None;
     }
+    let bare = Header {
+        shape: cell.header.shape,
+        object: 0,
+    };
+    Some(Flaw {
+        at: cell.at,
+        found: cell.header.word().0,
+        wanted: bare.word().0,
+    })
 }
 
-/// Whether each word of a span is one that a slot of a store or table may hold.
-fn are_slot_words(image: &HeapImage, span: Span) -> bool
-    requires sized { HasWords (image_heap image.now) }
-    requires rows { HasRows (image_heap image.now) }
-    ensures { let heap = image_heap image.now in IsTrue result
-        ↔ EachWord (span_words heap span) (λ at word. IsSlotWord heap word) }
-{
-    for at in span.from..span.end {
-        if !is_slot_at(image, at) {
-            return false;
-        }
-    }
-    true
-}
-
-/// Whether the word at an address is one that a slot of a store or table may hold.
-fn is_slot_at(image: &HeapImage, at: u32) -> bool
-    requires sized { HasWords (image_heap image.now) }
-    requires rows { HasRows (image_heap image.now) }
-    ensures { let heap = image_heap image.now in IsTrue result
-        ↔ WordAt heap at (IsSlotWord heap) }
-{
-    match word_at(image, at) {
-        Some(word) => is_slot_word(image, word),
-        None => true,
-    }
-}
-
-/// Whether a box has no number. Whatever its word is, it is that of an integer.
-pub(crate) fn is_boxed(image: &HeapImage, cell: Cell) -> bool
+/// The flaw of a box. Whatever its word is, it is that of an integer.
+pub(crate) fn flaw_of_box(image: &HeapImage, cell: Cell) -> Option<Flaw>
     requires stands { StandsIn (image_heap image.now) cell }
     requires boxed { cell.layout.kind ≡ Kind.Boxed }
-    ensures { IsTrue result ↔ IsBoxCell cell (words_of_cell (image_heap image.now) cell) }
+    ensures { let heap = image_heap image.now in
+        IsVerdict (IsBoxCell cell (words_of_cell heap cell)) (BreaksNumber cell) result }
 {
     // Tells that the word is that of an integer.
     let _integer = integer_of(image, cell);
-    has_no_number(cell)
+    flaw_of_number(cell)
 }
 
-/// Whether a cell has no number.
-pub(crate) fn has_no_number(cell: Cell) -> bool
-    ensures { IsTrue result ↔ HasNoNumber cell }
+/// The first flaw of a store or a table.
+pub(crate) fn flaw_of_store(image: &HeapImage, starts: &[bool], cell: Cell) -> Option<Flaw>
+    requires sized { HasWords (image_heap image.now) }
+    requires rows { HasRows (image_heap image.now) }
+    requires marks { MarksStarts (image_heap image.now) starts.now }
+    requires stands { StandsIn (image_heap image.now) cell }
+    requires of_stores { IsStoreKind cell.layout.kind }
+    ensures { let heap = image_heap image.now in IsVerdict (IsStoreCell heap cell (words_of_cell heap cell))
+        (BreaksStoreCell heap cell (words_of_cell heap cell)) result }
 {
-    cell.header.object == 0
+    match flaw_of_number(cell) {
+        Some(flaw) => Some(flaw),
+        None => flaw_of_slots(image, starts, behind_head(image, cell)),
+    }
+}
+
+/// The first word of a span that no slot may hold.
+fn flaw_of_slots(image: &HeapImage, starts: &[bool], span: Span) -> Option<Flaw>
+    requires sized { HasWords (image_heap image.now) }
+    requires rows { HasRows (image_heap image.now) }
+    requires marks { MarksStarts (image_heap image.now) starts.now }
+    requires is { IsSpan (image_heap image.now) span }
+    ensures { let heap = image_heap image.now in
+        IsVerdict (EachWord (span_words heap span) (λ at word. IsSlotWord heap word))
+        (BreaksSpan heap span (λ at word. IsSlotWord heap word) (λ at word. asked_of word)) result }
+{
+    for at in span.from..span.end {
+        let found = image.words.as_slice()[at as usize];
+        if !referent(image, starts, found).is_slot() {
+            return Some(slot_flaw(at, found));
+        }
+    }
+    None
 }

@@ -1,6 +1,15 @@
 //! What a run leaves.
+ghost use Rattle.std.specs.Prelude.{◌≡◌};
+ghost use Rattle.object_graph.specs.Graphs.{Graph};
+ghost use Rattle.heap_model.specs.Images.{image_heap};
+ghost use Rattle.write_barrier.specs.MutatorState.{heap_of};
+ghost use Rattle.collector.specs.Images.{IsImageOf};
+ghost use Rattle.collector.specs.States.{HeapShows};
+ghost use Rattle.heap_script.specs.Runs.{need_at};
 
+use collector::Heap;
 use heap_model::HeapImage;
+use heap_script::Finished;
 
 /// The heap at the end of a run.
 #[derive(Drop)]
@@ -22,4 +31,20 @@ pub struct Ended {
     pub status: u8,
     /// The heap, from its opening on.
     pub kept: Option<Kept>,
+}
+
+/// What a run that finished so leaves of its heap.
+pub(crate) fn keep(heap: Heap, finished: &Finished) -> Kept
+    requires { (graph : Graph) × HeapShows heap graph }
+    ensures image { IsImageOf (heap_of heap.main) (image_heap result.image) }
+    ensures need { result.need ≡ need_at finished.now.how }
+    ensures line { result.line ≡ finished.now.line }
+    ensures executed { result.executed ≡ finished.now.executed }
+{
+    Kept {
+        image: heap.into_image(),
+        need: finished.how.need(),
+        line: finished.line,
+        executed: finished.executed,
+    }
 }

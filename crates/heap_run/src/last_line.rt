@@ -8,7 +8,7 @@ ghost use Rattle.heap_run.specs.Answers.{last_line_of, soak_line_of};
 ghost use Rattle.byte_ends.specs.Sure.{HasSums};
 
 use byte_ends::{Failed, Sink, Tally, write_all};
-use heap_checker::{Counts, Flaw};
+use heap_check::{Counts, Flaw};
 use heap_command::FaultWord;
 use heap_script::{Finished, How};
 use itoa::Buffer;

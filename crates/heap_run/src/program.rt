@@ -14,7 +14,7 @@ ghost use Rattle.heap_run.specs.Texts.{last_bytes, status_of, sink_fault_status}
 ghost use Rattle.heap_run.specs.Answers.{Answers, Runs, KeepsGraph, AsksToRun, IsScriptFor, IsKeptFor, Taken};
 ghost use Rattle.heap_run.specs.Answers.{input_of, last_line_of, unopened};
 
-use crate::ended::{Ended, Kept};
+use crate::ended::{Ended, keep};
 use crate::generated::write_generated;
 use crate::last_line::{LastLine, SINK_FAULT};
 use crate::soaking::soak;
@@ -23,8 +23,7 @@ use byte_ends::{Sink, Source};
 use collector::Heap;
 use command_line::{Invocation, WordsStop, read_words};
 use crew::Gate;
-use heap_checker::Checker;
-use heap_script::{Finished, How, Inspection, Output, run_script};
+use heap_script::{Finished, How, Inspection, Inspector, Output, run_script};
 use heap_table::HeapTable;
 use page_space::{Regions, Sizes};
 use script_text::{BadScript, Script, parse};
@@ -186,7 +185,7 @@ fn open_inspection(alloc: Global, checks: bool, regions: Regions) -> Result<Insp
     if !checks {
         return Ok(Inspection::Nothing);
     }
-    Ok(Inspection::Checks(Checker::new(alloc, regions)?))
+    Ok(Inspection::Checks(Inspector::new(alloc, regions)?))
 }
 
 /// Runs a script on a heap that was just opened, which is inspected so, and keeps an image of the heap.
@@ -213,15 +212,9 @@ fn run_on_heap<K: Sink, G: Gate, R: Threads + Sync>(
     let _lines = script.lines();
     let finished = run_script(rt, &mut heap, script, &mut out, sink, &mut inspection, gate);
     let status = conclude(&finished, sink);
-    let kept = Kept {
-        image: heap.into_image(),
-        need: finished.how.need(),
-        line: finished.line,
-        executed: finished.executed,
-    };
     Ended {
         status,
-        kept: Some(kept),
+        kept: Some(keep(heap, &finished)),
     }
 }
 

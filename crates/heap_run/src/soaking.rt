@@ -8,7 +8,7 @@ ghost use Rattle.write_barrier.specs.MutatorState.{IsOpened};
 ghost use Rattle.collector.specs.States.{HeapShows};
 ghost use Rattle.heap_run.specs.Answers.{Soaks};
 
-use crate::ended::{Ended, Kept};
+use crate::ended::{Ended, keep};
 use crate::last_line::LastLine;
 use crate::program::{give_up, open_heap};
 use byte_ends::{Sink, Tally};
@@ -88,14 +88,8 @@ fn soak_on_heap<K: Sink, G: Gate, R: Threads + Sync>(
         gate,
     );
     let status = LastLine::of_soak(&finished, &tally).conclude(sink);
-    let kept = Kept {
-        image: heap.into_image(),
-        need: finished.how.need(),
-        line: finished.line,
-        executed: finished.executed,
-    };
     Ended {
         status,
-        kept: Some(kept),
+        kept: Some(keep(heap, &finished)),
     }
 }

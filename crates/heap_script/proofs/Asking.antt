@@ -13,7 +13,7 @@ use Rattle.script_text.specs.Unrolled.{executed_lines}
 use Rattle.write_barrier.specs.MutatorState.{Mutator, MainShows}
 use Rattle.scavenger.specs.Scavenged.{Scavenges}
 use Rattle.scavenger.specs.Laws.{KeepsGraphs}
-use Rattle.exact_heaps.specs.Collected.{CollectsAll}
+use Rattle.collector.specs.Collected.{CollectsAll}
 use Rattle.collector.specs.States.{Rest, with_cycle}
 use Rattle.mutator.proofs.Writings.{writing_carried}
 use Rattle.heap_script.specs.Cycles.{asks_collector, cycle_after_command, cycle_after_line, cycle_after_lines, is_in_cycle}

@@ -11,7 +11,7 @@ use Rattle.heap_command.specs.declared.command.FaultWord.TheVariants.{WeakFull}
 use Rattle.heap_command.specs.Commands.{IsWithin}
 use Rattle.object_graph.specs.Graphs.{Graph, value_of, object_in, weak_at}
 use Rattle.object_graph.specs.Limits.{ideal_limits}
-use Rattle.object_graph.specs.Meaning.{done, fault, unless, no_entry_for, reweave, does}
+use Rattle.object_graph.specs.Meaning.{done, fault, unless, no_entry_for, reweave, meaning}
 use Rattle.object_graph.specs.Objects.{with_entry}
 use Rattle.object_graph.specs.Reach.{reach}
 use Rattle.nursery.specs.Young.{HasRoom}
@@ -54,7 +54,7 @@ unfull_behind {graph = graph} keeps shows unfull =
 
 -- a command that is no fault does not fault
 pub never_faults : {A : Type 0} {names : List (List ℕ)} {graph : Graph} {command : Command} {word : FaultWord}
-    → IsSound names graph command → does ideal_limits names graph command ≡ fault word → A
+    → IsSound names graph command → meaning ideal_limits names graph command ≡ fault word → A
 never_faults {names = names} {graph} {command} {word} sound faults =
     let both : done sound.after sound.written ≡ fault word = sym sound.is ∙ faults in
     absurd (cc)
@@ -74,7 +74,7 @@ unless_faults false after word is = absurd (cc)
 -- a command that finds its map full of pairs has no other fault than `weakfull`
 full_faults : (names : List (List ℕ)) (graph : Graph) (rooms : ℕ → Room) (command : Command) (entries : ℕ)
     (word : FaultWord) → FindsMapFull graph rooms command entries
-    → does ideal_limits names graph command ≡ fault word → word ≡ WeakFull
+    → meaning ideal_limits names graph command ≡ fault word → word ≡ WeakFull
 full_faults names graph rooms command entries word finds faults =
     let target = found_in (get graph.bindings finds.m) (weak_at graph.objects) finds.weak finds.map in
     let key = found_in (value_of graph finds.k) object_in finds.key finds.named in
@@ -85,14 +85,14 @@ full_faults names graph rooms command entries word finds faults =
     let given : value_of graph finds.v ≡ Some finds.value = finds.given in
     let test = no_entry_for (reach graph) finds.weak.entries finds.key in
     let after = reweave graph finds.weak (with_entry finds.weak.entries finds.key finds.value) in
-    let known : does ideal_limits names graph (WPut finds.m finds.k finds.v)
+    let known : meaning ideal_limits names graph (WPut finds.m finds.k finds.v)
     ≡ unless WeakFull test (done after []) = rw (bound, keyed, given, found, named) in
-    unless_faults test after word (sym known ∙ sym (ap (does ideal_limits names graph) finds.is) ∙ faults)
+    unless_faults test after word (sym known ∙ sym (ap (meaning ideal_limits names graph) finds.is) ∙ faults)
 
 -- so it is where a heap that shows the graph tells it
 pub pairs_fault : (names : List (List ℕ)) {heap : Heap} {graph : Graph} {command : Command} {entries : ℕ}
     {word : FaultWord} → FindsPairs heap graph command entries → Shows heap graph
-    → does ideal_limits names graph command ≡ fault word → word ≡ WeakFull
+    → meaning ideal_limits names graph command ≡ fault word → word ≡ WeakFull
 pairs_fault names {heap} {graph} {command} {entries} {word} finds shows faults =
     let (rooms, has) = shown_objects_have_rooms heap graph shows in
     full_faults names graph rooms command entries word (finds rooms has) faults

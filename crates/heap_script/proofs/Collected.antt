@@ -18,7 +18,7 @@ use Rattle.scavenger.specs.Scavenged.{Scavenges}
 use Rattle.scavenger.specs.Laws.{KeepsGraphs}
 use Rattle.scavenger.proofs.Tight.{scavenges_are_tight, scavenges_fill_pages}
 use Rattle.scavenger.proofs.TakenWords.{scavenges_take_words}
-use Rattle.exact_heaps.specs.Collected.{CollectsAll}
+use Rattle.collector.specs.Collected.{CollectsAll}
 use Rattle.collector.specs.Making.{IsOutOfRoom}
 use Rattle.collector.specs.States.{HeapState}
 use Rattle.collector.proofs.Keeping.{still_shows}

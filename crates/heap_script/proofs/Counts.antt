@@ -10,7 +10,7 @@ use Rattle.heap_model.specs.Types.{Command, Value, Object, Path}
 use Rattle.heap_command.specs.declared.command.Command.TheVariants as command
 use Rattle.object_graph.specs.declared.object.Object.TheVariants.{Plain, List as ListOf, Weak}
 use Rattle.object_graph.specs.Graphs.{Graph}
-use Rattle.object_graph.specs.Meaning.{Limits, done, does}
+use Rattle.object_graph.specs.Meaning.{Limits, done, meaning}
 use Rattle.object_graph.proofs.Leads.{Leads, each, if_not, if_there}
 use Rattle.heap_script.specs.Progress.{objects_made}
 
@@ -34,7 +34,7 @@ puts graph number object paths = length-set graph.objects number object ∙ sym 
 
 -- a command makes the objects that it is said to make
 leads-objects : (limits : Limits) (names : List (List ℕ)) (graph : Graph) (command : Command)
-    → Leads (HasMore (objects_made command) graph) (does limits names graph command)
+    → Leads (HasMore (objects_made command) graph) (meaning limits names graph command)
 leads-objects limits names graph (command.New x cap) = length_push graph.objects (Plain cap [])
 leads-objects limits names graph (command.List x) = length_push graph.objects (ListOf [])
 leads-objects limits names graph (command.Weak x) = length_push graph.objects (Weak [])
@@ -92,8 +92,8 @@ makes_one command.Gc = omega arith
 makes_one command.Census = omega arith
 
 -- so many objects more are there behind it
-pub length-does : (limits : Limits) (names : List (List ℕ)) (graph after : Graph) (command : Command) (text : List ℕ)
-    → does limits names graph command ≡ done after text
+pub length-meaning : (limits : Limits) (names : List (List ℕ)) (graph after : Graph) (command : Command) (text : List ℕ)
+    → meaning limits names graph command ≡ done after text
     → length after.objects ≡ length graph.objects + objects_made command
-length-does limits names graph after command text e =
+length-meaning limits names graph after command text e =
     subst (Leads (HasMore (objects_made command) graph)) e (leads-objects limits names graph command)

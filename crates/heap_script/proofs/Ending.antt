@@ -6,7 +6,7 @@ use Rattle.heap_model.specs.Types.{Command, FaultWord}
 use Rattle.heap_command.specs.Executed.{Executed}
 use Rattle.heap_command.specs.declared.command.FaultWord.TheVariants.{WeakFull}
 use Rattle.object_graph.specs.Graphs.{Graph}
-use Rattle.object_graph.specs.Meaning.{does, fault}
+use Rattle.object_graph.specs.Meaning.{meaning, fault}
 use Rattle.object_graph.specs.Run.{lines_most, Ending, end, fault_at, limit_at, fault_in, ending}
 use Rattle.script_text.specs.Scripts.{ScriptText}
 use Rattle.script_text.specs.Unrolled.{executed}
@@ -17,7 +17,7 @@ use Rattle.mutator.specs.declared.stop.Stop.TheVariants.{Fault, NoRoom, NoClear}
 use Rattle.object_graph.specs.Limits.{ideal_limits}
 use Rattle.heap_model.specs.Heaps.{Heap}
 use Rattle.write_barrier.specs.MutatorState.{Mutator, heap_of}
-use Rattle.exact_heaps.specs.Collected.{CollectsAll}
+use Rattle.collector.specs.Collected.{CollectsAll}
 use Rattle.collector.specs.States.{HeapState, with_cycle}
 use Rattle.collector.proofs.Keeping.{same_heap}
 use Rattle.heap_script.specs.declared.finished.How.{How}
@@ -73,7 +73,7 @@ EndsRun-faulted : (script : ScriptText) (stage : Stage) (at' n number : ℕ) (ts
     (command : Command) (word : FaultWord) (collections : Collections) → FaultsBehind word collections
     → (r : RanTo script stage.heap n) → n < lines_most
     → Goes script.lines at' ts' (left_after script n) (executed number (Some command))
-    → does ideal_limits script.fields r.so_far.graph command ≡ fault word
+    → meaning ideal_limits script.fields r.so_far.graph command ≡ fault word
     → EndsRun false script stage.heap stage.rows collections n r.so_far (how.Fault word) number
 EndsRun-faulted script stage at' n number ts' command word collections behind r below goes does-is =
     let graph = r.so_far.graph in
@@ -150,7 +150,7 @@ module _ {script : ScriptText} {heap : HeapState} {objects : ℕ} {waiting : Lis
     (goes : Goes script.lines at' ts' (left_after script n) (executed number (Some command))) where
   -- a command that faults behind a full collection
   Stopped-full_map : (word : FaultWord) → word ≡ WeakFull
-      → does ideal_limits script.fields r.reached.so_far.graph command ≡ fault word
+      → meaning ideal_limits script.fields r.reached.so_far.graph command ≡ fault word
       → CollectsFully script.fields heap.main main r.reached.so_far.graph command
       → Stopped script (heap_with heap main) objects waiting old new at ts n (how.Fault word) number
   Stopped-full_map word full faults fully =
@@ -163,7 +163,7 @@ module _ {script : ScriptText} {heap : HeapState} {objects : ℕ} {waiting : Lis
       }
 
   -- one that faults
-  Stopped-faulted : (word : FaultWord) → does ideal_limits script.fields r.reached.so_far.graph command ≡ fault word
+  Stopped-faulted : (word : FaultWord) → meaning ideal_limits script.fields r.reached.so_far.graph command ≡ fault word
       → FaultsOn script.fields heap.main main r.reached.so_far.graph command word
       → Stopped script (heap_with heap main) objects waiting old new at ts n (how.Fault word) number
   Stopped-faulted word faults (FaultsOn.unchanged same) =

@@ -6,7 +6,7 @@ use Rattle.heap_model.specs.Types.{Command}
 use Rattle.heap_command.specs.Executed.{Executed}
 use Rattle.object_graph.specs.Graphs.{Graph}
 use Rattle.object_graph.specs.Limits.{ideal_limits}
-use Rattle.object_graph.specs.Meaning.{does, done}
+use Rattle.object_graph.specs.Meaning.{meaning, done}
 use Rattle.object_graph.specs.Run.{lines_most, limit_at, fault_in, fault_of, ending_here, ending}
 use Rattle.script_text.specs.Scripts.{ScriptText}
 use Rattle.script_text.specs.Unrolled.{executed}
@@ -35,7 +35,7 @@ ending-below names graph n next more below =
 pub goes-on : (script : ScriptText) (graph after : Graph) (written : List ℕ) (at' n number : ℕ) (ts' : List ℕ)
     (command : Command) → n < lines_most
     → Goes script.lines at' ts' (left_after script n) (executed number (Some command))
-    → does ideal_limits script.fields graph command ≡ done after written
+    → meaning ideal_limits script.fields graph command ≡ done after written
     → ending ideal_limits script.fields graph n (left_after script n) ≡ None
 goes-on script graph after written at' n number ts' command below goes does-is =
     ap (ending ideal_limits script.fields graph n) goes.is

@@ -7,10 +7,10 @@ use Rattle.heap_model.specs.Heaps.{Heap}
 use Rattle.heap_model.specs.Wholeness.{Whole, Blank}
 use Rattle.live_cells.specs.Census.{KeepsTheCensus}
 use Rattle.live_cells.specs.Exact.{Exact}
-use Rattle.heap_checker.specs.declared.counts.Counts.{Counts}
-use Rattle.heap_checker.specs.declared.flaw.Flaw.{Flaw}
-use Rattle.heap_checker.specs.FirstFlaws.{WholeHasNoFlaw}
-use Rattle.heap_checker.specs.Judging.{Judges}
+use Rattle.heap_check.specs.declared.counts.Counts.{Counts}
+use Rattle.heap_check.specs.declared.flaw.Flaw.{Flaw}
+use Rattle.heap_check.specs.FirstFlaws.{WholeHasNoFlaw}
+use Rattle.heap_check.specs.Judging.{Judges}
 use Rattle.heap_script.specs.Runs.{HasCounts}
 
 -- no flaw is found

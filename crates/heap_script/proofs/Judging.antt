@@ -1,7 +1,7 @@
 -- A run whose heap was judged: it stands where it stood.
 use Rattle.std.proofs.Common.{◌≡◌, ◌≢◌, ◌∙◌, ℕ, Bool, true, false, List, refl, sym, ap, subst}
 use Rattle.object_graph.specs.Graphs.{Graph}
-use Rattle.page_space.specs.Extents.{Space, marks_start}
+use Rattle.page_space.specs.Extents.{Space}
 use Rattle.std.proofs.lemmas.Bool.{false≢true}
 use Rattle.object_graph.specs.Run.{Told}
 use Rattle.script_text.specs.Scripts.{ScriptText}
@@ -26,7 +26,7 @@ pub is_for : (heap after : HeapState) {inspection later : Inspection} → later 
     → after.main.seat.space ≡ heap.main.seat.space → IsFor heap inspection → IsFor after later
 is_for heap after {inspection = Nothing} same space fits = rw same tt
 is_for heap after {inspection = ByCensus} same space fits = rw same tt
-is_for heap after {inspection = Checks words} same space fits = rw same (fits ∙ ap marks_start (sym space))
+is_for heap after {inspection = Checks regions} same space fits = rw same (fits ∙ sym space)
 
 -- the same mutator's side beside another image
 abbrev beside : HeapState → Rest → HeapState

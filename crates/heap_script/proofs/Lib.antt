@@ -13,10 +13,12 @@ mod Running
 mod GoingOn
 mod Collected
 mod LineCarried
+mod LineSpaces
 mod Passing
-mod Ahead
-mod CommandAhead
-mod JumpAhead
+mod Executed
+mod LinesRun
+mod CommandRun
+mod JumpRun
 mod Ending
 mod Finishing
 mod Judging

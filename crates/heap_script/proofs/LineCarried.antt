@@ -4,7 +4,7 @@ use Rattle.std.proofs.Common.{Ok, refl, sym, ap, subst, add-zero, append-nil}
 use Rattle.heap_model.specs.Types.{Command}
 use Rattle.object_graph.specs.Graphs.{Graph}
 use Rattle.object_graph.specs.Limits.{ideal_limits}
-use Rattle.object_graph.specs.Meaning.{does, done}
+use Rattle.object_graph.specs.Meaning.{meaning, done}
 use Rattle.object_graph.specs.Run.{Told, told_with, lines_most}
 use Rattle.script_text.specs.Scripts.{ScriptText}
 use Rattle.script_text.specs.Unrolled.{executed, executed_lines}
@@ -185,7 +185,7 @@ Running-line script heap after objects waiting old new at at' ts ts' n number (S
 -- a command that was carried out is no fault
 carried_means : {names : List (List ℕ)} {in_cycle : Bool} {old new : Mutator} {graph : Graph} {command : Command}
     {text : List ℕ} → CarriesCommand names in_cycle old new graph command text (Ok tt)
-    → (after : Graph) × (does ideal_limits names graph command ≡ done after text)
+    → (after : Graph) × (meaning ideal_limits names graph command ≡ done after text)
 carried_means (CarriesCommand.asked is (CarriesAsked.scavenges same scavenges keeps (after, does-is, shown, takes))) =
     (after, does-is)
 carried_means (CarriesCommand.asked is (CarriesAsked.collects_all asks collects (after, does-is, shown, takes))) =

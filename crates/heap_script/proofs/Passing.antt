@@ -1,4 +1,4 @@
--- A line that comes through without a look at why another would not: what its command did, and the run behind it.
+-- A run between two lines that are executed one after another: what was handed on, and what the output holds.
 use Rattle.std.proofs.Common.{◌≡◌, ◌∙◌, ℕ, ◌+◌, ◌≤◌, Bool, true, false, List, [], ◌++◌, length, Result, Ok, Err}
 use Rattle.std.proofs.Common.{is_ok, refl, sym, ap, subst, cond, arith}
 use Rattle.std.specs.Prelude.{nat_lt}
@@ -18,29 +18,6 @@ use Rattle.byte_ends.specs.Sink.{Appends}
 use Rattle.heap_script.specs.Progress.{Handed}
 use Rattle.heap_script.specs.Between.{Running, only}
 use Rattle.heap_script.specs.Stages.{uncollected}
-
--- a command that was tried and did not stop was carried out
-pub tried_well : {names : List (List ℕ)} {old new : Mutator} {graph : Graph} {command : Command} {text : List ℕ}
-    (result : Result (Unit {0}) Stop) → is_ok result ≡ true → Tries names old new graph command text result
-    → Tries names old new graph command text (Ok tt)
-tried_well (Ok done) well tries = tries
-tried_well (Err stop) well tries = absurd (cc)
-
--- a heap with another mutator's side
-abbrev pub with_main : Mutator → HeapState → HeapState
-with_main main heap = record { main = main; rest = heap.rest }
-
--- one that stopped left the heap as it was
-pub tried_ill : (names : List (List ℕ)) (heap : HeapState) {new : Mutator} (graph : Graph) (command : Command)
-    (text : List ℕ) (result : Result (Unit {0}) Stop) → is_ok result ≡ false
-    → Tries names heap.main new graph command text result → with_main new heap ≡ heap
-tried_ill names heap graph command text (Ok done) ill tries = absurd (cc)
-tried_ill names heap {new} graph command text (Err stop) ill tries =
-    same_heap heap (with_main new heap) (same_stopped names heap.main new graph command text stop tries.carries) refl
-
--- nor did one that left the mutator's side, which it was lent, as it was
-pub lent_still : (heap : HeapState) {lent new : Mutator} → lent ≡ heap.main → new ≡ lent → with_main new heap ≡ heap
-lent_still heap {new = new} lent same = same_heap heap (with_main new heap) (same ∙ lent) refl
 
 -- what a run told was handed on or waits: the first was taken
 pub as_taken : {script : ScriptText} {heap : HeapState} {objects at n : ℕ} {waiting : List ℕ}

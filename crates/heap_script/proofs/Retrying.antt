@@ -1,11 +1,11 @@
--- A heap on which a command is tried: it is as it was, or way was made for the command.
+-- A heap on which a command is tried: it is as it was, or room was made for the command.
 use Rattle.std.proofs.Common.{◌≡◌, ◌∙◌, ℕ, ◌≤◌, Bool, List, false, length, Ok}
 use Rattle.std.proofs.Common.{ap, sym, subst, refl}
 use Rattle.heap_model.specs.Types.{Command, FaultWord}
 use Rattle.heap_command.specs.declared.command.FaultWord.TheVariants.{WeakFull}
 use Rattle.object_graph.specs.Graphs.{Graph}
 use Rattle.object_graph.specs.Limits.{ideal_limits}
-use Rattle.object_graph.specs.Meaning.{does, fault}
+use Rattle.object_graph.specs.Meaning.{meaning, fault}
 use Rattle.heap_model.proofs.ShownRooms.{shown_objects_have_rooms}
 use Rattle.nursery.specs.Young.{HasRoom}
 use Rattle.live_cells.specs.Counts.{ExactMapsAreFull}
@@ -13,18 +13,19 @@ use Rattle.live_cells.specs.Exact.{Fits}
 use Rattle.live_cells.specs.Fitting.{NoRunFitsNone}
 use Rattle.write_barrier.specs.MutatorState.{Mutator, heap_of, MainShows}
 use Rattle.scavenger.specs.Laws.{KeepsGraphs}
-use Rattle.exact_heaps.specs.Collected.{CollectsAll}
+use Rattle.collector.specs.Collected.{CollectsAll}
 use Rattle.collector.specs.Making.{IsOutOfRoom, Serves, MakesRoom}
-use Rattle.collector.specs.States.{HeapState, HeapShows, Rest, with_cycle}
-use Rattle.heap_script.specs.declared.making_way.Tried.{Tried}
-use Rattle.heap_script.specs.declared.making_way.Tried.TheVariants.{Once, Scavenged, Collected, Granted}
+use Rattle.collector.specs.States.{HeapState, HeapShows}
+use Rattle.heap_script.specs.declared.making_room.Attempt.{Attempt}
+use Rattle.heap_script.specs.declared.making_room.Attempt.TheVariants.{Once, Scavenged, Collected, Granted}
 use Rattle.heap_script.specs.Collecting.{IsApart, IsSound, LacksWords, FindsPairs, CollectsFully, Collects, Tries}
 use Rattle.heap_script.specs.Collecting.{IsCarriedOut}
+use Rattle.mutator.specs.CarriesOut.{Carries}
 use Rattle.heap_script.proofs.Carrying.{never_faults, pairs_fault}
 use Rattle.heap_script.proofs.Lacking.{full_for}
 
 -- What became of the heap, by what was done for the command.
-pub data Stands (names : List (List ℕ)) (old now : Mutator) (graph : Graph) (command : Command) : Tried → Type 0 where
+pub data Stands (names : List (List ℕ)) (old now : Mutator) (graph : Graph) (command : Command) : Attempt → Type 0 where
   once : now ≡ old → Stands names old now graph command Once
   scavenged : (need : ℕ) → IsApart command → IsSound names graph command → LacksWords old graph command need
       → MakesRoom old now false need → HasRoom now.young need → KeepsGraphs old now
@@ -35,8 +36,8 @@ pub data Stands (names : List (List ℕ)) (old now : Mutator) (graph : Graph) (c
       → CollectsFully names old last graph command → LacksWords last graph command need → Serves last now need
       → HasRoom now.young need → KeepsGraphs last now → Stands names old now graph command Granted
 
--- The heap at a try, which had so many objects: it shows what was shown, with the same memory for an image.
-pub record IsReady (names : List (List ℕ)) (old now : HeapState) (objects : ℕ) (command : Command) (tried : Tried)
+-- The heap at a try, which had so many objects: it shows what was shown, and has the same rest.
+pub record IsReady (names : List (List ℕ)) (old now : HeapState) (objects : ℕ) (command : Command) (tried : Attempt)
     : Type 0 where
   pub shows : (graph : Graph) → HeapShows old graph → HeapShows now graph
   pub rest : now.rest ≡ old.rest
@@ -44,7 +45,7 @@ pub record IsReady (names : List (List ℕ)) (old now : HeapState) (objects : �
       → Stands names old.main now.main graph command tried
 
 -- how many more tries there may be
-abbrev pub tries_left : Tried → ℕ
+abbrev pub tries_left : Attempt → ℕ
 tries_left Once = 3
 tries_left Scavenged = 2
 tries_left Collected = 1
@@ -59,21 +60,41 @@ ready_first names heap objects command = record {
   stands = λ graph shown made. Stands.once refl;
 }
 
--- a heap that shows a graph has the regions of one that shows one, with the same memory for an image, whether a cycle
--- was opened or ended or not
-pub same_regions : (heap after : HeapState) {graph other : Graph} {cycle : Bool} → HeapShows heap graph
-    → HeapShows after other → after.rest ≡ with_cycle heap.rest cycle
-    → after.main.seat.space ≡ heap.main.seat.space
-same_regions heap after shown shows rest =
-    sym shows.regions ∙ ap (λ (s : Rest). s.image.regions) rest ∙ shown.regions
+-- a command that was carried out leaves the regions as they were
+pub carried_space : (names : List (List ℕ)) {old new : Mutator} {graph : Graph} {command : Command} {text : List ℕ}
+    → MainShows old graph → Carries names old new graph command text (Ok tt) → new.seat.space ≡ old.seat.space
+carried_space names {old} {new} {graph} shows (after, means, shown, takes) =
+    let (rooms, has) = shown_objects_have_rooms (heap_of old) graph shows.shows in
+    (takes rooms has).uses.beside.space
+
+-- so does a free run that serves words
+pub served_space : {old new : Mutator} {need : ℕ} → Serves old new need → new.seat.space ≡ old.seat.space
+served_space (Serves.eden room same) = ap (λ (main : Mutator). main.seat.space) same
+served_space (Serves.granted lacks grants keeps) = grants.beside.space
+
+-- and a full collection that comes for a command
+pub fully_space : {names : List (List ℕ)} {old new : Mutator} {graph : Graph} {command : Command}
+    → CollectsFully names old new graph command → new.seat.space ≡ old.seat.space
+fully_space (CollectsFully.for_room mid need sound lacks scavenges keeps out collects) =
+    collects.seat.space ∙ scavenges.seat.space
+fully_space (CollectsFully.for_pairs entries finds collects) = collects.seat.space
+
+-- and whatever was done for a command
+stands_space : {names : List (List ℕ)} {old now : Mutator} {graph : Graph} {command : Command} {tried : Attempt}
+    → Stands names old now graph command tried → now.seat.space ≡ old.seat.space
+stands_space (Stands.once same) = ap (λ (main : Mutator). main.seat.space) same
+stands_space (Stands.scavenged need apart sound lacks makes room keeps) =
+    served_space makes.serves ∙ makes.scavenges.seat.space
+stands_space (Stands.collected apart fully) = fully_space fully
+stands_space (Stands.granted last need apart sound fully lacks serves room keeps) =
+    served_space serves ∙ fully_space fully
 
 -- a heap at a try has the regions that there were
-pub ready_space : {names : List (List ℕ)} {old now : HeapState} {objects : ℕ} {command : Command} {tried : Tried}
+pub ready_space : {names : List (List ℕ)} {old now : HeapState} {objects : ℕ} {command : Command} {tried : Attempt}
     → IsReady names old now objects command tried
     → (graph : Graph) × HeapShows old graph × (objects ≡ length graph.objects)
     → now.main.seat.space ≡ old.main.seat.space
-ready_space {old = old} {now} ready (graph, shown, made) =
-    same_regions old now {cycle = old.rest.in_cycle} shown (ready.shows graph shown) ready.rest
+ready_space ready (graph, shown, made) = stands_space (ready.stands graph shown made)
 
 -- a full collection came last
 pub fully_collects : {names : List (List ℕ)} {old new : Mutator} {graph : Graph} {command : Command}
@@ -84,7 +105,7 @@ fully_collects {old = old} (CollectsFully.for_pairs entries finds collects) = (o
 -- behind it a command has no other fault than `weakfull`
 pub fully_faults : (names : List (List ℕ)) {old new : Mutator} {graph : Graph} {command : Command} (word : FaultWord)
     → MainShows old graph → CollectsFully names old new graph command
-    → does ideal_limits names graph command ≡ fault word → word ≡ WeakFull
+    → meaning ideal_limits names graph command ≡ fault word → word ≡ WeakFull
 fully_faults names word shows (CollectsFully.for_room mid need sound lacks scavenges keeps out collects) faults =
     never_faults sound faults
 fully_faults names word shows (CollectsFully.for_pairs entries finds collects) faults =
@@ -105,7 +126,7 @@ no_more {main = main} {now} {graph} {command} {need} {other} shows lacks keeps r
 -- that keeps the same
 pub pairs_are_full : (names : List (List ℕ)) {main now : Mutator} {graph : Graph} {command : Command} {entries : ℕ}
     {mid : Mutator} → ExactMapsAreFull → CollectsAll mid main graph → KeepsGraphs main now
-    → FindsPairs (heap_of now) graph command entries → does ideal_limits names graph command ≡ fault WeakFull
+    → FindsPairs (heap_of now) graph command entries → meaning ideal_limits names graph command ≡ fault WeakFull
 pairs_are_full names {main} {now} {graph} {command} {entries} maps collects keeps finds =
     let shows = collects.shows in
     let (rooms, has) = shown_objects_have_rooms (heap_of main) graph shows.shows in
@@ -121,7 +142,7 @@ nowhere {main = main} {need = need} runs some collects out =
     (full_for main need collects.shows.tied out.ungranted out.lacks)
 
 -- what a command finds of the heap, by what was done for it
-found_at : {names : List (List ℕ)} {old now : Mutator} {graph : Graph} {command : Command} {tried : Tried}
+found_at : {names : List (List ℕ)} {old now : Mutator} {graph : Graph} {command : Command} {tried : Attempt}
     → Stands names old now graph command tried → Collects names old now graph command
 found_at (Stands.once same) = Collects.unchanged same
 found_at (Stands.scavenged need apart sound lacks makes room keeps) = Collects.scavenged need sound lacks makes
@@ -131,7 +152,7 @@ found_at (Stands.granted last need apart sound fully lacks serves room keeps) =
 
 -- a command that was carried out at whichever try was carried out on what it found
 pub carried_at : {names : List (List ℕ)} {old new : Mutator} {now : HeapState} {graph : Graph} {command : Command}
-    {text : List ℕ} {tried : Tried} → Stands names old now.main graph command tried → HeapShows now graph
+    {text : List ℕ} {tried : Attempt} → Stands names old now.main graph command tried → HeapShows now graph
     → Tries names now.main new graph command text (Ok tt) → IsCarriedOut names old new graph command text
 carried_at {now = now} stands shows tries = record {
   found = now.main;

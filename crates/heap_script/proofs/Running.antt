@@ -6,12 +6,12 @@ use Rattle.std.specs.Prelude.{option_and_then, slice_get}
 use Rattle.heap_model.specs.Types.{Command}
 use Rattle.heap_command.specs.Executed.{Executed}
 use Rattle.object_graph.specs.Graphs.{Graph, start}
-use Rattle.object_graph.specs.Meaning.{does, done}
-use Rattle.object_graph.specs.Run.{Told, untold, told_with, tell, told, lines_most}
-use Rattle.object_graph.proofs.Runs.{told-push}
+use Rattle.object_graph.specs.Meaning.{meaning, done}
+use Rattle.object_graph.specs.Run.{Told, untold, told_with, tell, run_of, lines_most}
+use Rattle.object_graph.proofs.Runs.{run_of-push}
 use Rattle.script_text.specs.Scripts.{ScriptText}
 use Rattle.script_text.specs.Unrolled.{executed, executed_lines}
-use Rattle.script_text.specs.Whole.{IsPlaced}
+use Rattle.script_text.specs.Whole.{IsPaired}
 use Rattle.script_text.specs.Left.{IsLeft, Goes}
 use Rattle.script_text.proofs.Left.{begins}
 use Rattle.object_graph.specs.Limits.{ideal_limits}
@@ -27,7 +27,7 @@ use Rattle.heap_script.specs.Spending.{Spends, LineAllocates}
 use Rattle.heap_script.specs.Progress.{objects_made, Handed}
 use Rattle.heap_script.specs.Between.{Running}
 use Rattle.heap_script.proofs.Asking.{cycle_next}
-use Rattle.heap_script.proofs.Counts.{length-does, makes_one}
+use Rattle.heap_script.proofs.Counts.{length-meaning, makes_one}
 use Rattle.heap_script.proofs.Handing.{Handed-none, Handed-more, Handed-told}
 
 -- a list whose rest after the first n begins with an element
@@ -67,7 +67,7 @@ next_at (first ∷ xs) zero x rest e = cc
 next_at (first ∷ xs) (suc n) x rest e = next_at xs n x rest e
 
 -- a script begins
-pub Running-start : (script : ScriptText) (heap : HeapState) (old : List ℕ → Type 0) → IsPlaced 0 script.lines
+pub Running-start : (script : ScriptText) (heap : HeapState) (old : List ℕ → Type 0) → IsPaired 0 script.lines
     → HeapShows heap start → IsOpened heap.main → heap.rest.in_cycle ≡ false
     → heap.main.seat.space.variables ≡ length script.variables
     → Running script heap 0 [] old old 0 [] 0 uncollected
@@ -113,14 +113,14 @@ Running-handed script heap objects waiting rest old mid new at ts n collections 
 -- one line more is told: what the run tells after it
 pub said-next : (script : ScriptText) (n : ℕ) (so_far later : Told) (line : Executed) (rest : List Executed)
     → Next (executed_lines script.lines) n line rest
-    → told ideal_limits script.fields (take n (executed_lines script.lines)) ≡ Some so_far
+    → run_of ideal_limits script.fields (take n (executed_lines script.lines)) ≡ Some so_far
     → tell ideal_limits script.fields so_far line.command ≡ Some later
-    → told ideal_limits script.fields (take (n + 1) (executed_lines script.lines)) ≡ Some later
+    → run_of ideal_limits script.fields (take (n + 1) (executed_lines script.lines)) ≡ Some later
 said-next script n so_far later line rest next said tells =
     let lines = executed_lines script.lines in
-    ap (λ m. told ideal_limits script.fields (take m lines)) (add-one n)
-    ∙ ap (told ideal_limits script.fields) next.taken
-    ∙ told-push ideal_limits script.fields (take n lines) line
+    ap (λ m. run_of ideal_limits script.fields (take m lines)) (add-one n)
+    ∙ ap (run_of ideal_limits script.fields) next.taken
+    ∙ run_of-push ideal_limits script.fields (take n lines) line
     ∙ ap (option_and_then (λ so_far. tell ideal_limits script.fields so_far line.command)) said
     ∙ tells
 
@@ -173,7 +173,7 @@ pub Running-carried : (script : ScriptText) (heap after : HeapState) (objects : 
     → Goes script.lines at' ts' (left_after script n) (executed number (Some command))
     → after.rest ≡ with_cycle heap.rest (cycle_after_command heap.rest.in_cycle command)
     → after.main.seat.space ≡ heap.main.seat.space
-    → does ideal_limits script.fields r.reached.so_far.graph command ≡ done graph text → MainShows after.main graph
+    → meaning ideal_limits script.fields r.reached.so_far.graph command ≡ done graph text → MainShows after.main graph
     → LineAllocates heap.rest.in_cycle (stage_of heap.main) (stage_of after.main) r.reached.so_far.graph graph collections
     (Some command)
     → in_eden after.main.young ≡ true → length after.main.free ≡ length heap.main.free
@@ -205,7 +205,7 @@ Running-carried script heap after objects waiting old new at at' ts ts' n number
       left = subst (IsLeft script.lines at' ts') (sym (dropped-next script n next)) goes.left;
       handed = Handed-told text r.handed;
       made = ap (λ m. m + objects_made command) r.made
-          ∙ sym (length-does ideal_limits script.fields so_far.graph graph command text does-is);
+          ∙ sym (length-meaning ideal_limits script.fields so_far.graph graph command text does-is);
       few = omega (arith, r.few, makes_one command);
       cycle = ap (λ (one : Rest). one.in_cycle) rest ∙ ap (λ in_cycle. cycle_after_command in_cycle command) r.cycle
           ∙ sym (cycle_next script n line next.taken);

@@ -1,4 +1,4 @@
--- A command that stopped: what becomes of the heap where way is made for it, and how it stops for good.
+-- A command that stopped: what becomes of the heap where room is made for it, and how it stops for good.
 use Rattle.std.proofs.Common.{◌≡◌, ◌∙◌, ℕ, List, length, Some, None, Err, ap, sym, subst}
 use Rattle.heap_model.specs.Types.{Command, FaultWord}
 use Rattle.heap_command.specs.Commands.{IsWithin}
@@ -13,11 +13,11 @@ use Rattle.mutator.specs.declared.stop.Stop.{Stop}
 use Rattle.mutator.proofs.StoppedBy.{same_stopped}
 use Rattle.mutator.specs.declared.stop.Stop.TheVariants.{Fault, NoRoom, NoClear}
 use Rattle.mutator.specs.CarriesOut.{Carries, AsksWhereFull, field_numbers}
-use Rattle.heap_script.specs.declared.making_way.Tried.{Tried}
-use Rattle.heap_script.specs.declared.making_way.Tried.TheVariants.{Once, Scavenged, Collected, Granted}
+use Rattle.heap_script.specs.declared.making_room.Attempt.{Attempt}
+use Rattle.heap_script.specs.declared.making_room.Attempt.TheVariants.{Once, Scavenged, Collected, Granted}
 use Rattle.heap_script.specs.Collecting.{IsApart, IsSound, LacksWords, FindsPairs, CollectsFully, Tries, FaultsOn}
 use Rattle.heap_script.specs.Collecting.{StopsAt}
-use Rattle.heap_script.specs.MakingWay.{IsServable, IsClearable, DoesNothing, FindsFirst, FindsLast, MakesWay}
+use Rattle.heap_script.specs.MakingRoom.{IsServable, IsClearable, DoesNothing, FindsFirst, FindsLast, MakesRoomFor}
 use Rattle.heap_script.proofs.Carrying.{wants_some, refused, never_faults, unfull_behind}
 use Rattle.heap_script.proofs.Retrying.{Stands, IsReady, fully_collects, fully_faults, no_more}
 use Rattle.heap_script.proofs.Retrying.{pairs_are_full, nowhere}
@@ -40,13 +40,13 @@ unfull_once {entries = entries} shows (Stands.scavenged need none sound lacks ma
     absurd (unfull_behind keeps shows lacks.unfull entries finds)
 
 -- where something was done, something was
-nothing_done : {A : Type 0} {old new : HeapState} {next : Tried} → DoesNothing old new (Some next) → A
+nothing_done : {A : Type 0} {old new : HeapState} {next : Attempt} → DoesNothing old new (Some next) → A
 nothing_done (none, same) = absurd (cc)
 
 module _ (names : List (List ℕ)) (old now made : HeapState) (after : Mutator) (graph : Graph) (command : Command)
     (text : List ℕ) (shown : HeapShows old graph) (shows : HeapShows now graph) (apart : IsApart command) where
   -- at first a scavenge makes room for the words that a command lacks, or a full collection comes
-  first_room : (need : ℕ) (next : Tried) → Carries names now.main after graph command text (Err (NoRoom need))
+  first_room : (need : ℕ) (next : Attempt) → Carries names now.main after graph command text (Err (NoRoom need))
       → AsksWhereFull now.main graph command (Err (NoRoom need))
       → FindsFirst now made need next → Stands names now.main made.main graph command next
   first_room need next carries asks (FindsFirst.scavenges is makes room keeps) =
@@ -60,7 +60,7 @@ module _ (names : List (List ℕ)) (old now made : HeapState) (after : Mutator) 
       (CollectsFully.for_room mid.main need sound lacks scavenges keeps out (collects graph (still graph shows))))
 
   -- behind a full collection there is room for the words that it lacks still
-  last_room : (need : ℕ) (next : Tried) → CollectsFully names old.main now.main graph command
+  last_room : (need : ℕ) (next : Attempt) → CollectsFully names old.main now.main graph command
       → Carries names now.main after graph command text (Err (NoRoom need))
       → AsksWhereFull now.main graph command (Err (NoRoom need)) → FindsLast now made need (Some next)
       → Stands names old.main made.main graph command next
@@ -72,9 +72,9 @@ module _ (names : List (List ℕ)) (old now made : HeapState) (after : Mutator) 
   last_room need next fully carries asks (FindsLast.lacks nothing lacked none) = nothing_done nothing
 
   -- so it is with what stands, by what was done before
-  stands_next : (tried : Tried) (stop : Stop) (next : Tried) → Stands names old.main now.main graph command tried
+  stands_next : (tried : Attempt) (stop : Stop) (next : Attempt) → Stands names old.main now.main graph command tried
       → Carries names now.main after graph command text (Err stop)
-      → AsksWhereFull now.main graph command (Err stop) → MakesWay now made tried stop (Some next)
+      → AsksWhereFull now.main graph command (Err stop) → MakesRoomFor now made tried stop (Some next)
       → Stands names old.main made.main graph command next
   stands_next tried (Fault word) next stands carries asks way = nothing_done way
   stands_next Once (NoRoom need) next (Stands.once same) carries asks (one, is, first) =
@@ -96,7 +96,7 @@ module _ (names : List (List ℕ)) (old now made : HeapState) (after : Mutator) 
   stands_next Granted (NoClear entries) next stands carries asks way = nothing_done way
 
   -- a command that faults does so on the heap as it was, or behind a full collection
-  faults_at : (tried : Tried) (word : FaultWord) → Stands names old.main now.main graph command tried
+  faults_at : (tried : Attempt) (word : FaultWord) → Stands names old.main now.main graph command tried
       → Carries names now.main after graph command text (Err (Fault word))
       → FaultsOn names old.main now.main graph command word
   faults_at Once word (Stands.once same) carries = FaultsOn.unchanged same
@@ -125,10 +125,10 @@ module _ (names : List (List ℕ)) (old now made : HeapState) (after : Mutator) 
       )
 
   -- how it stops for good, where nothing more is done
-  stops_at : (tried : Tried) (stop : Stop) → ExactMapsAreFull → NoRunFitsNone
+  stops_at : (tried : Attempt) (stop : Stop) → ExactMapsAreFull → NoRunFitsNone
       → Stands names old.main now.main graph command tried
       → Carries names now.main after graph command text (Err stop)
-      → AsksWhereFull now.main graph command (Err stop) → MakesWay now made tried stop None
+      → AsksWhereFull now.main graph command (Err stop) → MakesRoomFor now made tried stop None
       → StopsAt names old.main now.main graph command stop
   stops_at tried (Fault word) maps runs stands carries asks way = (carries.0, faults_at tried word stands carries)
   stops_at Once (NoRoom need) maps runs stands carries asks (one, is, first) = absurd (cc)
@@ -157,8 +157,8 @@ no_room : {now made : HeapState} {need : ℕ} → FindsLast now made need None �
 no_room (FindsLast.serves is serves room keeps) = absurd (cc)
 no_room (FindsLast.lacks nothing lacked none) = nothing.1
 
--- so it is where no way is made
-no_way : (now made : HeapState) (tried : Tried) (stop : Stop) → MakesWay now made tried stop None → made ≡ now
+-- so it is where no room is made
+no_way : (now made : HeapState) (tried : Attempt) (stop : Stop) → MakesRoomFor now made tried stop None → made ≡ now
 no_way now made tried (Fault word) way = way.1
 no_way now made Once (NoRoom need) (one, is, first) = absurd (cc)
 no_way now made Scavenged (NoRoom need) way = way.1
@@ -172,7 +172,7 @@ no_way now made Granted (NoClear entries) way = way.1
 -- What is known of a command that was tried on a heap at a try, and stopped: which heap there was at first, how many
 -- objects it had, and what was told of the try on whichever graph.
 module _ (names : List (List ℕ)) {old now : HeapState} (after : HeapState) {objects counted : ℕ} {command : Command}
-    {stop : Stop} {tried : Tried} {Rest : Type 0} (ready : IsReady names old now objects command tried)
+    {stop : Stop} {tried : Attempt} {Rest : Type 0} (ready : IsReady names old now objects command tried)
     (same : counted ≡ objects) (rest : after.rest ≡ now.rest)
     (some : (graph : Graph) × HeapShows old graph × (objects ≡ length graph.objects))
     (carried : (graph : Graph) → HeapShows now graph → counted ≡ length graph.objects
@@ -193,7 +193,7 @@ module _ (names : List (List ℕ)) {old now : HeapState} (after : HeapState) {ob
       let (text, apart, carries, asks) = stopped_on graph shown made in
       same_heap now after (same_stopped names now.main after.main graph command text stop carries) rest
 
-  -- it may be made way for
+  -- room may be made for it
   pub servable : IsWithin old.main.seat.space.variables field_numbers command → IsServable stop
   servable within need is =
       let (graph, shown, made) = some in
@@ -214,7 +214,7 @@ module _ (names : List (List ℕ)) {old now : HeapState} (after : HeapState) {ob
   module _ {made : HeapState} (space : (graph : Graph) → HeapShows after graph → HeapShows made graph)
       (kept : made.rest ≡ after.rest) where
     -- so the heap is at a try again, where way was made
-    pub ready_next : {next : Tried} → MakesWay after made tried stop (Some next)
+    pub ready_next : {next : Attempt} → MakesRoomFor after made tried stop (Some next)
         → IsReady names old made objects command next
     ready_next {next} way = record {
       shows = λ graph shown.
@@ -224,15 +224,15 @@ module _ (names : List (List ℕ)) {old now : HeapState} (after : HeapState) {ob
           let (text, apart, carries, asks) = stopped_on graph shown counted_so in
           stands_next names old now made after.main graph command text shown (ready.shows graph shown) apart tried stop
           next (ready.stands graph shown counted_so) carries asks
-          (subst (λ one. MakesWay one made tried stop (Some next)) unchanged way);
+          (subst (λ one. MakesRoomFor one made tried stop (Some next)) unchanged way);
     }
 
     -- and where none was made, the command stopped for good
-    pub stops : ExactMapsAreFull → NoRunFitsNone → MakesWay after made tried stop None → (graph : Graph)
+    pub stops : ExactMapsAreFull → NoRunFitsNone → MakesRoomFor after made tried stop None → (graph : Graph)
         → HeapShows old graph → objects ≡ length graph.objects → StopsAt names old.main made.main graph command stop
     stops maps runs way graph shown counted_so =
         let (text, apart, carries, asks) = stopped_on graph shown counted_so in
-        let there = subst (λ one. MakesWay one made tried stop None) unchanged way in
+        let there = subst (λ one. MakesRoomFor one made tried stop None) unchanged way in
         let is = ap (λ (heap : HeapState). heap.main) (no_way now made tried stop there) in
         subst (λ main. StopsAt names old.main main graph command stop) (sym is)
         (stops_at names old now made after.main graph command text shown (ready.shows graph shown) apart tried stop maps

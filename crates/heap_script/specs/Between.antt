@@ -40,17 +40,18 @@ pub record IsRest (lines rest : List Line) : Type 0 where
   pub within : length rest ≤ length lines
   pub tail : rest ≡ drop (length lines - length rest) lines
 
--- Lines are executed ahead: between two of them the last of the script's lines are left, from the place of the run on,
--- and so many more may be executed than they are. Nothing is handed on.
-pub record RunsAhead (script : ScriptText) (heap : HeapState) (objects : ℕ) (out taken ts : List ℕ) (rest : List Line)
-    (spare : ℕ) : Type 0 where
+-- Lines are executed one after another: between two of them the last of the script's lines are left, from the place of
+-- the run on, and so many more may be executed than they are, until so many were executed in all. Nothing is handed on.
+pub record RunsLines (script : ScriptText) (heap : HeapState) (objects : ℕ) (out taken ts : List ℕ) (rest : List Line)
+    (spare last : ℕ) : Type 0 where
   pub numbered : IsNumbered script
   pub matched : IsMatched script.lines
   pub fields : length script.fields ≤ field_numbers
   pub is : IsRest script.lines rest
-  pub most : spare + length rest ≤ lines_most
+  pub most : spare + length rest ≤ last
+  pub few : last ≤ lines_most
   pub running : Running script heap objects out (only []) (only taken) (length script.lines - length rest) ts
-      (lines_most - (spare + length rest)) uncollected
+      (last - (spare + length rest)) uncollected
 
 -- the first of these lines does this, which is no command
 pub record Begins (rest : List Line) (what : What) : Type 0 where

@@ -5,7 +5,7 @@ use Rattle.heap_command.specs.declared.command.Command.TheVariants.{Scavenge}
 use Rattle.heap_command.specs.declared.command.FaultWord.TheVariants.{WeakFull}
 use Rattle.object_graph.specs.Graphs.{Graph}
 use Rattle.object_graph.specs.Limits.{ideal_limits}
-use Rattle.object_graph.specs.Meaning.{done, fault, does}
+use Rattle.object_graph.specs.Meaning.{done, fault, meaning}
 use Rattle.heap_model.specs.Heaps.{Heap}
 use Rattle.heap_model.specs.Rooms.{Room, HasRooms, need_of, FindsMapFull}
 use Rattle.nursery.specs.Young.{HasRoom}
@@ -13,7 +13,7 @@ use Rattle.live_cells.specs.Exact.{Fits}
 use Rattle.write_barrier.specs.MutatorState.{Mutator, heap_of, MainShows}
 use Rattle.scavenger.specs.Scavenged.{Scavenges}
 use Rattle.scavenger.specs.Laws.{KeepsGraphs}
-use Rattle.exact_heaps.specs.Collected.{CollectsAll}
+use Rattle.collector.specs.Collected.{CollectsAll}
 use Rattle.collector.specs.Making.{IsOutOfRoom, Serves, MakesRoom}
 use Rattle.mutator.specs.declared.stop.Stop.{Stop}
 use Rattle.mutator.specs.declared.stop.Stop.TheVariants.{Fault, NoRoom, NoClear}
@@ -29,7 +29,7 @@ IsApart command = asks_collector command ≡ false
 pub record IsSound (names : List (List ℕ)) (graph : Graph) (command : Command) : Type 0 where
   pub after : Graph
   pub written : List ℕ
-  pub is : does ideal_limits names graph command ≡ done after written
+  pub is : meaning ideal_limits names graph command ≡ done after written
 
 -- The command needs so many words, whatever rooms objects have in the heap, and there is no room for them. It does not
 -- find its weak map full of pairs.
@@ -109,11 +109,11 @@ pub data FaultsOn (names : List (List ℕ)) (old new : Mutator) (graph : Graph) 
 -- room for it; or the heap was fully collected, and its weak map is full still, which is the fault `weakfull`.
 abbrev pub StopsAt : List (List ℕ) → Mutator → Mutator → Graph → Command → Stop → Type 0
 StopsAt names old new graph command (Fault word) =
-    (does ideal_limits names graph command ≡ fault word) × FaultsOn names old new graph command word
+    (meaning ideal_limits names graph command ≡ fault word) × FaultsOn names old new graph command word
 StopsAt names old new graph command (NoRoom need) =
     IsSound names graph command × CollectsFully names old new graph command × HasNoPlace new graph command need
 StopsAt names old new graph command (NoClear entries) =
-    (does ideal_limits names graph command ≡ fault WeakFull) × CollectsFully names old new graph command
+    (meaning ideal_limits names graph command ≡ fault WeakFull) × CollectsFully names old new graph command
 
 -- a command that is none of the collector's was carried out at last, or stopped for good
 abbrev pub CarriesAtLast : List (List ℕ) → Mutator → Mutator → Graph → Command → List ℕ

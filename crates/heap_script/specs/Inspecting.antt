@@ -1,10 +1,9 @@
 -- How the heap of a run is inspected: at its end, and behind full collections.
 use Rattle.std.specs.Prelude.{◌≡◌, Bool, true, false}
 use Rattle.object_graph.specs.Graphs.{Graph}
-use Rattle.page_space.specs.Extents.{marks_start}
-use Rattle.exact_heaps.specs.Collected.{CollectsAll}
+use Rattle.collector.specs.Collected.{CollectsAll}
 use Rattle.collector.specs.States.{HeapState, HeapShows}
-use Rattle.heap_checker.specs.declared.counts.Counts.{Counts}
+use Rattle.heap_check.specs.declared.counts.Counts.{Counts}
 use Rattle.heap_script.specs.declared.inspecting.Inspection.{Inspection}
 use Rattle.heap_script.specs.declared.inspecting.Inspection.TheVariants.{Nothing, Counts as ByCensus, Checks}
 use Rattle.heap_script.specs.declared.finished.How.{How}
@@ -15,13 +14,13 @@ use Rattle.heap_script.specs.Runs.{HasCounts}
 abbrev pub counts_at_end : Inspection → Bool
 counts_at_end Nothing = false
 counts_at_end ByCensus = true
-counts_at_end (Checks words) = true
+counts_at_end (Checks space) = true
 
--- a checker, if there is one, is for images of the heap: it has flags for as many words
+-- an inspector, if there is one, is for the regions of the heap
 abbrev pub IsFor : HeapState → Inspection → Type 0
 IsFor heap Nothing = Unit {0}
 IsFor heap ByCensus = Unit {0}
-IsFor heap (Checks words) = words ≡ marks_start heap.main.seat.space
+IsFor heap (Checks space) = space ≡ heap.main.seat.space
 
 -- The heap, which shows a graph, was fully collected and shows it still, and these are the counts of what can be
 -- reached.

@@ -1,3 +1,4 @@
+pub mod Inspectors
 pub mod Cycles
 pub mod Stages
 pub mod Reached
@@ -6,7 +7,8 @@ pub mod Runs
 pub mod Inspecting
 pub mod LoopCounters
 pub mod Collecting
-pub mod MakingWay
+pub mod Executing
+pub mod MakingRoom
 pub mod Progress
 pub mod Between
 pub use Rattle.mutator.specs.declared.output.TheConstants

@@ -40,7 +40,7 @@ abbrev pub made_by : Option Command → ℕ
 made_by None = 0
 made_by (Some command) = objects_made command
 
--- a line that runs a command does with the heap what the command does, once way is made for it if need be, and one that
+-- a line that runs a command does with the heap what the command does, once room is made for it if need be, and one that
 -- runs none does nothing
 abbrev pub CarriesLine : List (List ℕ) → Bool → Mutator → Mutator → Graph → Option Command → List ℕ
     → Result (Unit {0}) Stop → Type 0

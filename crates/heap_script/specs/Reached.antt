@@ -2,7 +2,7 @@
 use Rattle.std.specs.Prelude.{◌≡◌, ℕ, ◌≤◌, List, length, take, drop, Some}
 use Rattle.heap_command.specs.Executed.{Executed}
 use Rattle.object_graph.specs.Limits.{ideal_limits}
-use Rattle.object_graph.specs.Run.{Told, told, lines_most, Ending, EndsAfter}
+use Rattle.object_graph.specs.Run.{Told, run_of, lines_most, Ending, EndsAfter}
 use Rattle.script_text.specs.Scripts.{ScriptText}
 use Rattle.script_text.specs.Unrolled.{executed_lines}
 use Rattle.heap_model.specs.Heaps.{Heap}
@@ -24,5 +24,5 @@ pub record RanTo (script : ScriptText) (heap : Heap) (executed : ℕ) : Type 0 w
   pub few : executed ≤ lines_most
   pub variables : heap.space.variables ≡ length script.variables
   pub so_far : Told
-  pub said : told ideal_limits script.fields (take executed (executed_lines script.lines)) ≡ Some so_far
+  pub said : run_of ideal_limits script.fields (take executed (executed_lines script.lines)) ≡ Some so_far
   pub shown : Shows heap so_far.graph

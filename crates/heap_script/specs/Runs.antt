@@ -8,7 +8,7 @@ use Rattle.heap_command.specs.declared.command.FaultWord.TheVariants.{WeakFull}
 use Rattle.object_graph.specs.Graphs.{Graph}
 use Rattle.object_graph.specs.Limits.{ideal_limits}
 use Rattle.object_graph.specs.Reach.{reached_objects, reached_entries}
-use Rattle.object_graph.specs.Run.{Told, told, lines_most, end, fault_at, limit_at, ending}
+use Rattle.object_graph.specs.Run.{Told, run_of, lines_most, end, fault_at, limit_at, ending}
 use Rattle.script_text.specs.Scripts.{ScriptText}
 use Rattle.script_text.specs.Unrolled.{executed_lines}
 use Rattle.heap_model.specs.Heaps.{Heap}
@@ -19,7 +19,7 @@ use Rattle.free_runs.specs.FreeRuns.{FitsNowhere}
 use Rattle.live_cells.specs.Exact.{Exact, Fits}
 use Rattle.live_cells.specs.Fitting.{DeadIsFree}
 use Rattle.scavenger.specs.Laws.{IsStuck}
-use Rattle.heap_checker.specs.declared.counts.Counts.{Counts}
+use Rattle.heap_check.specs.declared.counts.Counts.{Counts}
 use Rattle.mutator.specs.declared.output.TheConstants.{OUTPUT_BYTES, ROOM}
 use Rattle.byte_ends.specs.Faults.{Rose}
 use Rattle.byte_ends.specs.Sink.{Appends, AppendsSome}
@@ -111,9 +111,9 @@ waiting_of held = if nat_lt OUTPUT_BYTES (length held + ROOM) then [] else held
 -- the line behind the first so many tells these bytes
 pub record TellsAt (script : ScriptText) (executed : ℕ) (text : List ℕ) : Type 0 where
   pub before : Told
-  pub said_before : told ideal_limits script.fields (take executed (executed_lines script.lines)) ≡ Some before
+  pub said_before : run_of ideal_limits script.fields (take executed (executed_lines script.lines)) ≡ Some before
   pub after : Told
-  pub said_after : told ideal_limits script.fields (take (executed + 1) (executed_lines script.lines)) ≡ Some after
+  pub said_after : run_of ideal_limits script.fields (take (executed + 1) (executed_lines script.lines)) ≡ Some after
   pub adds : after.bytes ≡ before.bytes ++ text
 
 -- What the output holds after so many lines: nothing before the first one, and then what each line tells, behind what

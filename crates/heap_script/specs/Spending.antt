@@ -17,7 +17,7 @@ use Rattle.heap_model.specs.Reaching.{IsTight, FillsPages}
 use Rattle.heap_model.specs.Rooms.{Room, HasRooms, need_of, FindsMapFull}
 use Rattle.free_runs.specs.FreeRuns.{AreFree, FitsNowhere, whole_rows}
 use Rattle.live_cells.specs.Exact.{Exact}
-use Rattle.exact_heaps.specs.Collected.{LeavesExact}
+use Rattle.collector.specs.Collected.{LeavesExact}
 use Rattle.scavenger.specs.Laws.{KeepsPlaces, TakesWords, PromotesWhatFits, PromotesNoOther}
 use Rattle.mutator.specs.Capacities.{KeepsStores}
 use Rattle.heap_script.specs.Cycles.{asks_collector, is_in_cycle}

@@ -3,7 +3,7 @@ ghost use Rattle.std.specs.Prelude.{◌≡◌, ◌+◌, ◌≤◌, ◌++◌, ℕ
 ghost use Rattle.object_graph.specs.Graphs.{Graph};
 ghost use Rattle.object_graph.specs.Reach.{reached_objects, reached_entries};
 ghost use Rattle.object_graph.specs.Texts.{line, census_text};
-ghost use Rattle.exact_heaps.specs.Collected.{CollectsAll};
+ghost use Rattle.collector.specs.Collected.{CollectsAll};
 ghost use Rattle.collector.specs.States.{HeapShows, with_cycle};
 ghost use Rattle.heap_script.specs.Collecting.{CarriesAsked};
 ghost use Rattle.heap_script.specs.Cycles.{asks_collector, cycle_after_command};

@@ -1,5 +1,5 @@
-//! One command of a script on the heap. Those of the collector stand in `collecting`, what is done where a command
-//! stops in `making_way`, and which line comes next in `interpreter` and `loop_counters`.
+//! One line of a script on the heap, whatever it does. What each command does stands in `commands` and `collecting`, what
+//! is done where one stops in `making_room`, and which line comes next in `interpreter` and `loop_counters`.
 ghost use Rattle.std.specs.Prelude.{◌≡◌, ◌+◌, ◌<◌, ◌≤◌, ◌^◌};
 ghost use Rattle.std.specs.Prelude.{ℕ, List, ◌++◌, length, if◌then◌else◌};
 ghost use Rattle.std.specs.Prelude.{false, is_ok, OnOk, OnErr, IfOk};
@@ -11,18 +11,20 @@ ghost use Rattle.script_text.specs.Sound.{NamesWithin, AreShort};
 ghost use Rattle.mutator.specs.CarriesOut.{field_numbers};
 ghost use Rattle.collector.specs.States.{HeapShows, with_cycle};
 ghost use Rattle.heap_script.specs.Collecting.{Tries, CarriesAtLast};
+ghost use Rattle.heap_script.specs.Executing.{objects_after};
 ghost use Rattle.heap_script.specs.Cycles.{asks_collector, cycle_after_line};
 ghost use Rattle.heap_script.specs.Progress.{objects_made, made_by, command_in};
 ghost use Rattle.heap_script.specs.Progress.{CarriesLine, outcome_of};
 ghost use Rattle.heap_script.specs.LoopCounters.{standing_after, IsInside};
 
 use crate::collecting::{asks_collector, collect_as_asked};
+use crate::commands::execute;
 use crate::loop_counters::LoopCounters;
-use crate::making_way::{Tried, make_way};
+use crate::making_room::{Attempt, make_room_for};
 use collector::Heap;
 use heap_command::Command;
 use live_cells::{laws_of_counts, laws_of_fitting};
-use mutator::{OUTPUT_BYTES, Output, ROOM, Stop};
+use mutator::{Explained, OUTPUT_BYTES, Output, ROOM, Stop};
 use script_text::{Script, What};
 
 /// Executes a line, and answers where the run goes on. `objects` counts the objects that were made.
@@ -69,8 +71,8 @@ pub(crate) fn execute_line(
     }
 }
 
-/// Carries a command out that is none of the collector's. Where it stops for want of room, or since its weak map is
-/// full of pairs, way is made for it, and then it is tried again.
+/// Carries out a command that is none of the collector's. Where it stops since there is no room for it, or since its weak
+/// map is full of pairs, room is made for it, and then it is tried again.
 #[inline(always)]
 fn carry_out(
     heap: &mut Heap,
@@ -94,13 +96,13 @@ fn carry_out(
 {
     // The call stands in one place alone: with a second one it is not inlined into the loop over
     // lines, whatever its attribute asks.
-    let mut tried = Tried::Once;
+    let mut tried = Attempt::Once;
     'tries: loop {
-        let Err(stop) = execute(heap, script, objects, command, out) else {
+        let Err(stop) = attempt(heap, script, objects, command, out) else {
             return Ok(());
         };
-        let Some(next) = make_way(heap, stop, tried) else {
-            // A weak map that is full still, or words for which there is no room, behind a full
+        let Some(next) = make_room_for(heap, stop, tried) else {
+            // A weak map that is full still, or words for which there is no room, after a full
             // collection: the one is a fault, and the others fit nowhere.
             laws_of_counts();
             laws_of_fitting();
@@ -110,10 +112,10 @@ fn carry_out(
     }
 }
 
-/// Carries a command out that is none of the collector's, if there is room for it. `objects` counts the objects that
+/// Carries out a command that is none of the collector's, if there is room for it. `objects` counts the objects that
 /// were made.
 #[inline(always)]
-fn execute(
+fn attempt(
     heap: &mut Heap,
     script: &Script<'_>,
     objects: &mut u32,
@@ -131,48 +133,16 @@ fn execute(
         × Tries script.now.fields heap.old.main heap.new.main graph command.now text result
         × (out.new ≡ (if is_ok result then out.old ++ text else out.old)) }
     ensures rest { heap.new.rest ≡ heap.old.rest }
-    ensures counted { OnOk result (objects.new ≡ objects.old + objects_made command.now) }
-    ensures uncounted { is_ok result ≡ false → objects.new ≡ objects.old }
+    ensures counted { objects.new ≡ objects_after objects.old command.now result }
 {
     match command {
-        Command::New { x, cap } => counted(
-            mutator::new_plain(heap.main_mut(), *x, *objects, *cap),
-            objects,
-        ),
-        Command::List { x } => counted(mutator::new_list(heap.main_mut(), *x, *objects), objects),
-        Command::Weak { x } => counted(mutator::new_weak(heap.main_mut(), *x, *objects), objects),
-        Command::LetValue { x, v } => mutator::let_value(heap.main_mut(), *x, *v),
-        Command::DropVar { x } => mutator::drop_var(heap.main_mut(), *x),
-        Command::Add { x, v } => mutator::add(heap.main_mut(), *x, *v),
-        Command::Set { x, f, v } => mutator::set(heap.main_mut(), *x, *f, *v),
-        Command::Get { y, x, f } => mutator::get(heap.main_mut(), *y, *x, *f),
-        Command::Del { x, f } => mutator::del(heap.main_mut(), *x, *f),
-        Command::Push { x, v } => mutator::push(heap.main_mut(), *x, *v),
-        Command::Put { x, i, v } => mutator::put(heap.main_mut(), *x, *i, *v),
-        Command::At { y, x, i } => mutator::at(heap.main_mut(), *y, *x, *i),
-        Command::Shift { x, n } => mutator::shift(heap.main_mut(), *x, *n),
-        Command::Trunc { x, n } => mutator::trunc(heap.main_mut(), *x, *n),
-        Command::WPut { m, k, v } => mutator::wput(heap.main_mut(), *m, *k, *v),
-        Command::WGet { y, m, k } => mutator::wget(heap.main_mut(), *y, *m, *k),
-        Command::WDel { m, k } => mutator::wdel(heap.main_mut(), *m, *k),
         Command::Print { v } => mutator::print(heap.main_mut(), *v, out),
         Command::Same { a, b } => mutator::same(heap.main_mut(), *a, *b, out),
         Command::Alike { x, y } => mutator::alike(heap.main_mut(), *x, *y, out),
         Command::Shape { x } => mutator::shape(heap.main_mut(), script, *x, out),
-        _ => unreachable!(),
+        _ => match execute::<Explained>(heap, objects, command) {
+            Some(told) => told.came,
+            None => unreachable!(),
+        },
     }
-}
-
-/// Counts an object more, if it was made.
-#[inline(always)]
-fn counted(made: Result<(), Stop>, objects: &mut u32) -> Result<(), Stop>
-    requires few { objects.old < lines_most }
-    ensures same { result ≡ made }
-    ensures counted { OnOk result (objects.new ≡ objects.old + 1) }
-    ensures uncounted { is_ok result ≡ false → objects.new ≡ objects.old }
-{
-    if made.is_ok() {
-        *objects += 1;
-    }
-    made
 }

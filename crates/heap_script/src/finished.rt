@@ -2,7 +2,7 @@
 ghost use Rattle.std.specs.Prelude.{◌≡◌};
 ghost use Rattle.heap_script.specs.Runs.{need_at};
 
-use heap_checker::{Counts, Flaw};
+use heap_check::{Counts, Flaw};
 use heap_command::FaultWord;
 
 /// Why a run went no further.

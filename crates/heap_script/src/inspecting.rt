@@ -2,7 +2,6 @@
 //! is built as it is proved; so these judgements are of the build, and of the machine.
 ghost use Rattle.std.specs.Prelude.{◌≡◌, IfOk, OnErr, None};
 ghost use Rattle.object_graph.specs.Graphs.{Graph};
-ghost use Rattle.page_space.specs.Extents.{marks_start};
 ghost use Rattle.write_barrier.specs.MutatorState.{heap_of};
 ghost use Rattle.live_cells.specs.Exact.{Exact};
 ghost use Rattle.collector.specs.States.{HeapShows};
@@ -10,9 +9,14 @@ ghost use Rattle.heap_script.specs.Runs.{HasCounts};
 ghost use Rattle.heap_script.specs.Inspecting.{counts_at_end, IsFor, EndsCounted, InspectsEnd};
 
 use crate::finished::How;
-use collector::{Heap, laws_of_images};
-use heap_checker::{Checker, Counts, Flaw, laws_of_flaws};
+use collector::{Heap, image_room, laws_of_images};
+use heap_check::{Checker, Counts, Flaw, laws_of_flaws};
+use heap_model::HeapImage;
 use live_cells::laws_of_counts;
+use page_space::Regions;
+use std::alloc::Global;
+use std::marker::Model;
+use tagged_word::NoMemory;
 
 /// What is done about the heap of a run, beside running its script.
 #[derive(Drop)]
@@ -22,7 +26,26 @@ pub enum Inspection {
     /// At the end of the script the heap is fully collected, and what it keeps is counted.
     Counts,
     /// The same by a checker, which judges the heap behind each full collection too.
-    Checks(Checker),
+    Checks(Inspector),
+}
+
+/// A checker, and the image of a heap that it checks. Its value is the regions of the heap.
+#[derive(Drop)]
+pub struct Inspector {
+    checker: Checker,
+    image: HeapImage,
+}
+
+impl Model for Inspector {
+    ghost use Rattle.page_space.specs.Extents.{Space};
+
+    ghost Value = { Space };
+
+    ghost use Rattle.heap_script.specs.Inspectors.{space_of, IsForImage};
+
+    ghost view = { space_of };
+
+    ghost invariant = { IsForImage };
 }
 
 /// To what a run came whose lines came to this: where that is the end of its script, the heap is collected and counted,
@@ -49,7 +72,7 @@ fn end_inspected(heap: &mut Heap, inspection: &mut Inspection) -> How
     match inspection {
         Inspection::Nothing => How::End,
         Inspection::Counts => count_end(heap),
-        Inspection::Checks(checker) => check_end(heap, checker),
+        Inspection::Checks(inspector) => check_end(heap, inspector),
     }
 }
 
@@ -66,13 +89,13 @@ fn count_end(heap: &mut Heap) -> How
 }
 
 /// Collects the heap fully, and judges it.
-fn check_end(heap: &mut Heap, checker: &mut Checker) -> How
+fn check_end(heap: &mut Heap, inspector: &mut Inspector) -> How
     requires shown { (graph : Graph) × HeapShows heap.old graph }
-    requires words { checker.old ≡ marks_start heap.old.main.seat.space }
+    requires regions { inspector.old ≡ heap.old.main.seat.space }
     ensures { (graph : Graph) → HeapShows heap.old graph → EndsCounted heap.old heap.new graph result }
 {
     heap.collect_all();
-    match judge(heap, checker) {
+    match inspector.judge(heap) {
         Ok(counts) => How::Counted(counts),
         Err(flaw) => How::Flawed(flaw),
     }
@@ -93,27 +116,38 @@ pub(crate) fn flaw_behind(heap: &mut Heap, inspection: &mut Inspection) -> Optio
     if !heap.take_collected() {
         return None;
     }
-    let Inspection::Checks(checker) = inspection else {
+    let Inspection::Checks(inspector) = inspection else {
         return None;
     };
-    judge(heap, checker).err()
+    inspector.judge(heap).err()
 }
 
-/// Judges an image of the heap: how many objects and entries it has, or its first flaw.
-fn judge(heap: &mut Heap, checker: &mut Checker) -> Result<Counts, Flaw>
-    requires shown { (graph : Graph) × HeapShows heap.old graph }
-    requires words { checker.old ≡ marks_start heap.old.main.seat.space }
-    ensures sound { OnErr result ⊥ }
-    ensures counted { (graph : Graph) → HeapShows heap.old graph → Exact (heap_of heap.old.main) graph
-        → IfOk result (HasCounts graph) }
-    ensures main { heap.new.main ≡ heap.old.main }
-    ensures cycle { heap.new.rest.in_cycle ≡ heap.old.rest.in_cycle }
-    ensures shows { (graph : Graph) → HeapShows heap.old graph → HeapShows heap.new graph }
-    ensures same { checker.new ≡ checker.old }
-{
-    laws_of_images();
-    laws_of_flaws();
-    laws_of_counts();
-    heap.main().addresses_fit();
-    checker.check(heap.image())
+impl Inspector {
+    /// An inspector of heaps over these regions. It takes the memory for an image, and three bytes for each of its words;
+    /// later calls take none.
+    pub fn new(alloc: Global, regions: Regions) -> Result<Inspector, NoMemory>
+        ensures { IfOk result (λ inspector. inspector ≡ regions) }
+    {
+        let checker = Checker::new(alloc, regions)?;
+        let image = image_room(alloc, regions)?;
+        Ok(Inspector { checker, image })
+    }
+
+    /// Judges an image of the heap: how many objects and entries it has, or its first flaw.
+    fn judge(&mut self, heap: &mut Heap) -> Result<Counts, Flaw>
+        requires shown { (graph : Graph) × HeapShows heap.old graph }
+        requires regions { self.old ≡ heap.old.main.seat.space }
+        ensures sound { OnErr result ⊥ }
+        ensures counted { (graph : Graph) → HeapShows heap.old graph → Exact (heap_of heap.old.main) graph
+            → IfOk result (HasCounts graph) }
+        ensures heap { heap.new ≡ heap.old }
+        ensures same { self.new ≡ self.old }
+    {
+        laws_of_images();
+        laws_of_flaws();
+        laws_of_counts();
+        heap.main().addresses_fit();
+        heap.put_image(&mut self.image);
+        self.checker.check(&self.image)
+    }
 }

@@ -14,8 +14,9 @@ use crate::execute::execute_line;
 use crate::finished::{Finished, How};
 use crate::flushing::flush;
 use crate::inspecting::{Inspection, flaw_behind, inspect_end};
+use crate::lines::{Reached, run_lines};
 use crate::loop_counters::LoopCounters;
-use crate::running_ahead::{Reached, run_ahead};
+use crate::pace::Unpaced;
 use byte_ends::{Failed, Sink};
 use collector::Heap;
 use crew::Gate;
@@ -56,7 +57,7 @@ pub fn run_script<K: Sink, G: Gate, R: Threads + Sync>(
 {
     // Tells that the script has at most 4,096 fields, whose names are short.
     let _fields = script.fields();
-    let ran = run_lines(heap, script, out, sink, inspection);
+    let ran = interpret(heap, script, out, sink, inspection);
     let finished = Finished {
         how: inspect_end(ran.how, heap, inspection),
         ..ran
@@ -75,7 +76,7 @@ pub fn run_script<K: Sink, G: Gate, R: Threads + Sync>(
 
 /// Executes lines from the first on. What they write waits in the output or was handed to the sink.
 /// Before each line, and nowhere else, an output that is full is handed on.
-fn run_lines<K: Sink>(
+fn interpret<K: Sink>(
     heap: &mut Heap,
     script: &Script<'_>,
     out: &mut Output,
@@ -117,16 +118,10 @@ fn run_lines<K: Sink>(
         if let Some(flaw) = flaw_behind(heap, inspection) {
             return Finished::after(How::Flawed(flaw), line.number, executed);
         }
-        let ahead = run_ahead(
-            heap,
-            script,
-            &mut objects,
-            &mut turns,
-            Reached { at, executed },
-            out,
-        );
-        at = ahead.at;
-        executed = ahead.executed;
+        let from = Reached { at, executed };
+        let ran = run_lines(heap, script, &mut objects, &mut turns, from, out, &Unpaced);
+        at = ran.at;
+        executed = ran.executed;
     }
     Finished::after(How::End, 0, executed)
 }

@@ -11,16 +11,18 @@
 #![tactic(auto)]
 
 mod collecting;
+mod commands;
 mod execute;
 mod finished;
 mod flushing;
 mod inspecting;
 mod interpreter;
+mod lines;
 mod loop_counters;
-mod making_way;
-mod running_ahead;
+mod making_room;
+mod pace;
 
 pub use finished::{Finished, How};
-pub use inspecting::Inspection;
+pub use inspecting::{Inspection, Inspector};
 pub use interpreter::run_script;
 pub use mutator::Output;

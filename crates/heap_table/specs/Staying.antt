@@ -1,8 +1,7 @@
 -- What stays beside the words that are read and written goes on staying.
-use Rattle.std.specs.Prelude.{◌≡◌, ◌≢◌, refl}
+use Rattle.std.specs.Prelude.{◌≡◌, refl}
 use Rattle.std.specs.Borrow.{MutBor}
-use Rattle.std.proofs.Common.{◌∙◌, sym}
-use Rattle.heap_table.specs.declared.phase.Phase.TheVariants.{Scavenge}
+use Rattle.std.proofs.Common.{◌∙◌}
 use Rattle.heap_table.specs.Seats.{Seat, RestStays}
 
 -- everything but the table is the same, and the seat is the one that was lent
@@ -26,7 +25,3 @@ rest_stays_again a b c first then =
 pub stays_lent_again : (a b c : MutBor Seat) → StaysLent a b → StaysLent b c → StaysLent a c
 stays_lent_again a b c first then =
     record { lender = then.lender ∙ first.lender; space = then.space ∙ first.space; phase = then.phase ∙ first.phase }
-
--- a phase that has stayed is still another
-pub rest_stays_steady : (a b : Seat) → RestStays a b → a.phase ≢ Scavenge → b.phase ≢ Scavenge
-rest_stays_steady a b stays steady = λ same. steady (sym stays.phase ∙ same)

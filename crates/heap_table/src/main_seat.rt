@@ -1,12 +1,11 @@
 //! The seat of the thread that runs commands.
-ghost use Rattle.std.specs.Prelude.{◌≡◌, ◌≢◌, ◌+◌, ◌<◌, ◌≤◌, ◌++◌, length, take, drop, replicate};
+ghost use Rattle.std.specs.Prelude.{◌≡◌, ◌+◌, ◌<◌, ◌≤◌, ◌++◌, length, take, drop, replicate};
 ghost use Rattle.std.specs.Prelude.{slice_get, slice_set, IfOk, Some};
 ghost use Rattle.page_space.specs.Extents.{words_count, marks_start};
 ghost use Rattle.word_store.specs.Copies.{copied};
-ghost use Rattle.heap_table.specs.declared.phase.Phase.TheVariants.{Quiet, Scavenge};
+ghost use Rattle.heap_table.specs.declared.phase.Phase.TheVariants.{Quiet};
 ghost use Rattle.heap_table.specs.Seats.{fresh, heap_words, RestStays};
 ghost use Rattle.heap_table.specs.Staying.{rest_stays_itself, rest_stays_again};
-ghost use Rattle.heap_table.specs.Staying.{rest_stays_steady};
 
 use crate::paused::Paused;
 use crate::phase::Phase;
@@ -78,8 +77,7 @@ impl MainSeat {
     /// The word at an address before the marks.
     #[inline(always)]
     pub fn word(&self, a: u32) -> u64
-        requires within { a < marks_start self.now.space }
-        requires steady { self.now.phase ≢ Scavenge }
+        requires { a < marks_start self.now.space }
         ensures of_table { slice_get self.now.table a ≡ Some result }
         ensures of_heap { slice_get (heap_words self.now) a ≡ Some result }
     {
@@ -104,8 +102,7 @@ impl MainSeat {
     /// The word at an offset of a cell, before the marks.
     #[inline(always)]
     pub fn slot(&self, cell: u32, offset: u32) -> u64
-        requires within { cell + offset < marks_start self.now.space }
-        requires steady { self.now.phase ≢ Scavenge }
+        requires { cell + offset < marks_start self.now.space }
         ensures of_table { slice_get self.now.table (cell + offset) ≡ Some result }
         ensures of_heap { slice_get (heap_words self.now) (cell + offset) ≡ Some result }
     {
@@ -259,7 +256,7 @@ impl MainSeat {
 impl Reads for MainSeat {
     ghost words = { heap_words };
 
-    ghost IsSteady = { λ seat. seat.phase ≢ Scavenge };
+    ghost IsSteady = { λ _. Unit {0} };
 
     ghost Rest = { RestStays };
 
@@ -267,7 +264,7 @@ impl Reads for MainSeat {
 
     ghost rest_again = { rest_stays_again };
 
-    ghost stays_steady = { rest_stays_steady };
+    ghost stays_steady = { λ _ _ _ _. tt };
 
     #[inline(always)]
     fn count(&self) -> u32 {

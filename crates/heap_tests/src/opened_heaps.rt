@@ -15,7 +15,7 @@ use crate::opened_words::{
     EDEN, RUNS, SLOTS, SMALL, SMALL_WORDS, TURNS, USUAL, USUAL_WORDS, VALUES,
 };
 use cell_layout::{Cell, NotACell, cell_at};
-use collector::Heap;
+use collector::{Heap, image_room};
 use handle_roots::Held;
 use heap_table::HeapTable;
 use object_cells::{SlotContent, content_of, fill_store, make_box, rep_of};
@@ -94,9 +94,7 @@ fn cell_of(main: &mut Main, a: u32) -> Result<Cell, NotACell>
 }
 
 /// The words from an address before the marks on are these.
-fn has_words(rt: &impl Abort, main: &Main, from: u32, words: &[u64])
-    requires { main.now.seat.phase ≡ Quiet }
-{
+fn has_words(rt: &impl Abort, main: &Main, from: u32, words: &[u64]) {
     // There are as many words as addresses before the marks.
     let _regions = main.regions();
     let mut a = from;
@@ -108,9 +106,7 @@ fn has_words(rt: &impl Abort, main: &Main, from: u32, words: &[u64])
 }
 
 /// What a word stands for; nothing where it refers to no address before the marks.
-fn value_of(main: &Main, word: Word) -> Option<(bool, Held)>
-    requires { main.now.seat.phase ≡ Quiet }
-{
+fn value_of(main: &Main, word: Word) -> Option<(bool, Held)> {
     // There are as many words as addresses before the marks.
     let _regions = main.regions();
     match word.address() {
@@ -174,7 +170,11 @@ fn reserves(rt: &impl Abort, heap: &mut Heap, need: u32, at: Option<u32>) {
 #[test]
 fn eden_gives_its_words_one_behind_another_to_its_end(rt: HostRuntime) -> Result<(), Fail> {
     let mut heap = opened(&rt, rt.alloc(), SMALL)?;
-    assert_eq!(rt; heap.image().words.as_slice().len(), 10_442);
+    let Ok(mut image) = image_room(rt.alloc(), heap.main().regions()) else {
+        return Err(Fail::from("memory was refused"));
+    };
+    heap.put_image(&mut image);
+    assert_eq!(rt; image.words.as_slice().len(), 10_442);
     for (need, at) in &RUNS {
         reserves(&rt, &mut heap, *need, *at);
     }
@@ -259,9 +259,7 @@ fn size_of(main: &mut Main, a: u32) -> u32
 }
 
 /// Each word stands for its value.
-fn has_values(rt: &impl Abort, main: &Main, values: &[(Word, Option<(bool, Held)>)])
-    requires { main.now.seat.phase ≡ Quiet }
-{
+fn has_values(rt: &impl Abort, main: &Main, values: &[(Word, Option<(bool, Held)>)]) {
     for (word, value) in values {
         assert_eq!(rt; value_of(main, *word), *value);
     }
@@ -270,7 +268,7 @@ fn has_values(rt: &impl Abort, main: &Main, values: &[(Word, Option<(bool, Held)
 /// A path of one field is added behind that of a root.
 fn adds_a_path(rt: &impl Abort, main: &mut Main) {
     let shape = main.shapes().root(2);
-    assert!(rt; main.shapes().find(shape, 3).is_none());
+    assert!(rt; main.lookup(shape, 3).is_none());
     assert!(rt; main.shapes().fields(shape) < 64);
     assert_eq!(rt; step(main, shape, 3, Rep::Wide), Ok(17));
     assert_eq!(rt; main.shapes().paths(), 10);

@@ -4,7 +4,7 @@ use Rattle.heap_command.specs.declared.command.Command.{Command}
 use Rattle.ideal_graph.specs.declared.ideal.IdealStop.{IdealStop}
 use Rattle.ideal_graph.specs.declared.ideal.IdealStop.TheVariants.{ScriptFault, NoMemory}
 use Rattle.object_graph.specs.Graphs.{Graph}
-use Rattle.object_graph.specs.Meaning.{Outcome, does, done, fault}
+use Rattle.object_graph.specs.Meaning.{Outcome, meaning, done, fault}
 use Rattle.object_graph.specs.Limits.{ideal_limits}
 
 -- a graph, and the names of its fields by number
@@ -20,4 +20,4 @@ StepsTo old new outcome (Err NoMemory) = new ≡ old
 
 -- the answer is the command's meaning, or want of memory
 abbrev pub Steps : NamedGraph → NamedGraph → Command → Result (List ℕ) IdealStop → Type 0
-Steps old new command answer = StepsTo old new (does ideal_limits old.names old.graph command) answer
+Steps old new command answer = StepsTo old new (meaning ideal_limits old.names old.graph command) answer

@@ -3,11 +3,13 @@ use crate::images::Change::{self, Survivors, Used, Word};
 use crate::images::{Worked, image_of};
 use crate::shown_graphs::{D, K, L, M, SCRIPT, empty, go_on, is_shown};
 use crate::worked::{MIXED, OLD};
+use heap_check::check;
 use heap_command::Command::{self, DropVar, LetValue, Put, Trunc, WDel};
 use heap_command::Operand::{Int, Var};
-use heap_judge::{fits, is_exact, is_whole_heap};
 use heap_model::HeapImage;
 use ideal_graph::Ideal;
+use slow_check::{fits, is_exact};
+use std::alloc::Global;
 use std::test::Fail;
 
 /// Changes of the mixed heap, commands behind its script but for the last, which lets number 3 go;
@@ -35,7 +37,12 @@ const CASES: [Case; 11] = [
     (&[BOUND], &[], "nothing", (true, true)),
     (&[], &[DropVar { x: D }], "a dead key", (true, false)),
     (&[BOUND, UNBOXED], &[PUT], "a dead box", (true, false)),
-    (&[BOUND, UNBOXED, Used(23)], &[PUT], "no box", (true, true)),
+    (
+        &[BOUND, UNBOXED, Used(23), Word(2_071, 0), Word(2_072, 0)],
+        &[PUT],
+        "no box",
+        (true, true),
+    ),
     (
         &[BOUND, UNBOXED, Word(2_071, 30), Word(2_072, 2)],
         &[PUT],
@@ -43,7 +50,15 @@ const CASES: [Case; 11] = [
         (true, false),
     ),
     (
-        &[BOUND, UNBOXED, Used(23), Word(2_049, 3), Word(2_050, 0)],
+        &[
+            BOUND,
+            UNBOXED,
+            Used(23),
+            Word(2_071, 0),
+            Word(2_072, 0),
+            Word(2_049, 3),
+            Word(2_050, 0),
+        ],
         &[Trunc { x: L, n: Int(0) }],
         "a dead store",
         (true, false),
@@ -144,23 +159,25 @@ const ROOMS: [Room; 7] = [
     ),
 ];
 
-/// Whether a whole heap shows the graph, and whether it keeps exactly what can be reached.
-fn is_kept(image: &HeapImage, ideal: &Ideal, shown: bool) -> Result<(bool, bool), Fail> {
+/// Whether an image that is a whole heap keeps exactly what can be reached.
+fn is_kept(alloc: Global, image: &HeapImage, ideal: &Ideal) -> Result<bool, Fail> {
+    let Ok(_counts) = check(alloc, image) else {
+        return Err(Fail::from("a flaw, or memory was refused"));
+    };
     match is_exact(image, ideal) {
-        Ok(exact) => Ok((shown, exact)),
+        Ok(exact) => Ok(exact),
         Err(_) => Err(Fail::from("memory was refused")),
     }
 }
 
 /// Whether just so many words fit into an image that is a whole heap.
-fn just_fit(image: &HeapImage, most: u32) -> bool {
+fn just_fit(alloc: Global, image: &HeapImage, most: u32) -> bool {
     let Some(more) = most.checked_add(1) else {
         return false;
     };
-    if is_whole_heap(image) {
-        fits(image, most) && !fits(image, more)
-    } else {
-        false
+    match check(alloc, image) {
+        Ok(_) => fits(image, most) && !fits(image, more),
+        Err(_) => false,
     }
 }
 
@@ -171,8 +188,9 @@ fn a_heap_is_exact_where_each_cell_of_it_is_reached(rt: HostRuntime) -> Result<(
         go_on(&rt, &mut ideal, &SCRIPT[..10]);
         go_on(&rt, &mut ideal, more);
         let image = image_of(&rt, rt.alloc(), &MIXED, changes)?;
-        let shown = is_shown(&rt, &image, &ideal)?;
-        assert_eq!(rt; is_kept(&image, &ideal, shown)?, *expected, "{what}");
+        let shown = is_shown(rt.alloc(), &image, &ideal)?;
+        let exact = is_kept(rt.alloc(), &image, &ideal)?;
+        assert_eq!(rt; (shown, exact), *expected, "{what}");
     }
     Ok(())
 }
@@ -181,7 +199,7 @@ fn a_heap_is_exact_where_each_cell_of_it_is_reached(rt: HostRuntime) -> Result<(
 fn words_fit_where_dead_ones_stand_one_behind_another(rt: HostRuntime) -> Result<(), Fail> {
     for (worked, changes, what, most) in &ROOMS {
         let image = image_of(&rt, rt.alloc(), worked, changes)?;
-        assert!(rt; just_fit(&image, *most), "{what}");
+        assert!(rt; just_fit(rt.alloc(), &image, *most), "{what}");
     }
     Ok(())
 }

@@ -62,7 +62,7 @@ fn shapes(rt: &impl Abort, alloc: Global, worked: &Worked) -> Result<ShapeTree, 
     };
     for (shape, name, rep) in worked.steps {
         assert!(rt; shapes.has_path(*shape));
-        assert!(rt; shapes.find(*shape, *name).is_none());
+        assert!(rt; shapes.lookup(*shape, *name).is_none());
         assert!(rt; shapes.fields(*shape) < 64);
         let field = PathField {
             name: *name,

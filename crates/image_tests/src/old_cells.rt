@@ -2,9 +2,10 @@
 use crate::images::Change::{self, Used, Word};
 use crate::images::image_of;
 use crate::worked::OLD;
-use heap_judge::{are_free_runs, are_remembered, is_whole_heap};
+use heap_check::check;
 use heap_model::HeapImage;
 use page_space::Run;
+use slow_check::{are_free_runs, are_remembered};
 use std::alloc::Global;
 use std::test::Fail;
 
@@ -90,19 +91,19 @@ const ROWS: [Rows; 15] = [
 ];
 
 /// Whether the image is whole, and these are the slots of its pages that refer to young cells.
-fn remembers(image: &HeapImage, slots: &[u32]) -> (bool, bool) {
-    if !is_whole_heap(image) {
-        return (false, false);
+fn remembers(alloc: Global, image: &HeapImage, slots: &[u32]) -> (bool, bool) {
+    match check(alloc, image) {
+        Ok(_) => (true, are_remembered(image, slots)),
+        Err(_) => (false, false),
     }
-    (true, are_remembered(image, slots))
 }
 
 /// Whether the image is whole, and these are free runs of its pages.
-fn has_free(image: &HeapImage, rows: &[Vec<Run>]) -> (bool, bool) {
-    if !is_whole_heap(image) {
-        return (false, false);
+fn has_free(alloc: Global, image: &HeapImage, rows: &[Vec<Run>]) -> (bool, bool) {
+    match check(alloc, image) {
+        Ok(_) => (true, are_free_runs(image, rows)),
+        Err(_) => (false, false),
     }
-    (true, are_free_runs(image, rows))
 }
 
 /// A row of runs.
@@ -132,7 +133,11 @@ fn slots_of_pages_are_remembered_where_they_refer_to_young_cells(
 ) -> Result<(), Fail> {
     for (changes, slots, what, expected) in &SLOTS {
         let image = image_of(&rt, rt.alloc(), &OLD, changes)?;
-        assert_eq!(rt; remembers(&image, slots), (true, *expected), "{what}");
+        assert_eq!(rt;
+            remembers(rt.alloc(), &image, slots),
+            (true, *expected),
+            "{what}"
+        );
     }
     Ok(())
 }
@@ -142,7 +147,11 @@ fn runs_are_free_where_each_is_one_free_cell_of_a_page(rt: HostRuntime) -> Resul
     for (changes, rows, what, expected) in &ROWS {
         let image = image_of(&rt, rt.alloc(), &OLD, changes)?;
         let rows = rows_of(rt.alloc(), rows)?;
-        assert_eq!(rt; has_free(&image, &rows), (true, *expected), "{what}");
+        assert_eq!(rt;
+            has_free(rt.alloc(), &image, &rows),
+            (true, *expected),
+            "{what}"
+        );
     }
     Ok(())
 }

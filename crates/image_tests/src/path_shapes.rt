@@ -149,7 +149,7 @@ fn done(rt: &impl Abort, tree: &mut ShapeTree, act: Act) -> (u32, Result<u32, Sh
         Step(shape, field) => {
             assert!(rt; tree.has_path(shape));
             assert!(rt; tree.fields(shape) < 64);
-            assert!(rt; tree.find(shape, field.name).is_none());
+            assert!(rt; tree.lookup(shape, field.name).is_none());
             match tree.can_step(shape, field) {
                 Ok(step) => (lacks(step), Ok(tree.step(shape, field, step))),
                 Err(full) => (full.missing, Err(full)),
@@ -184,7 +184,7 @@ fn leads(rt: &impl Abort, tree: &mut ShapeTree, turn: Turn) {
 }
 
 /// The shape has this layout word, parent, cap and fields, and each field is found by its name.
-fn shows(rt: &impl Abort, tree: &ShapeTree, shown: &Shown) {
+fn shows(rt: &impl Abort, tree: &mut ShapeTree, shown: &Shown) {
     let (shape, word, parent, cap, fields) = *shown;
     assert!(rt; tree.has_path(shape));
     let others = (
@@ -196,10 +196,13 @@ fn shows(rt: &impl Abort, tree: &ShapeTree, shown: &Shown) {
         (tree.layout(shape).word(), others),
         (word, (parent, cap, fields.len()))
     );
-    assert!(rt; tree.find(shape, 4_000_000).is_none());
+    assert!(rt; tree.lookup(shape, 4_000_000).is_none());
     for at in 0..tree.fields(shape) {
+        // A look-up caches what it finds, so what is known of the tree is asked again.
+        assert!(rt; tree.has_path(shape));
+        assert!(rt; at < tree.fields(shape));
         let field = tree.field(shape, at);
-        let found = tree.find(shape, field.name);
+        let found = tree.lookup(shape, field.name).map(|found| found.at);
         assert_eq!(rt; (fields.get(at as usize), found), (Some(&field), Some(at)));
     }
 }
@@ -222,8 +225,8 @@ fn a_tree_and_its_copy_go_on_alike(rt: HostRuntime) -> Result<(), Fail> {
             leads(&rt, &mut copy, *turn);
         }
         for shape in *shown {
-            shows(&rt, &tree, shape);
-            shows(&rt, &copy, shape);
+            shows(&rt, &mut tree, shape);
+            shows(&rt, &mut copy, shape);
         }
     }
     Ok(())
@@ -231,7 +234,7 @@ fn a_tree_and_its_copy_go_on_alike(rt: HostRuntime) -> Result<(), Fail> {
 
 #[test]
 fn the_shapes_of_a_new_tree_have_their_words(rt: HostRuntime) -> Result<(), Fail> {
-    let tree = ShapeTree::new(rt.alloc())?;
+    let mut tree = ShapeTree::new(rt.alloc())?;
     for shape in 1..8 {
         assert_eq!(rt; tree.layout(shape).word(), shape as u64 + 1);
         assert!(rt; !tree.has_path(shape));
@@ -239,7 +242,7 @@ fn the_shapes_of_a_new_tree_have_their_words(rt: HostRuntime) -> Result<(), Fail
     for cap in 0..9 {
         let root = tree.root(cap);
         assert_eq!(rt; root, cap + 8);
-        shows(&rt, &tree, &(root, 16 * cap as u64 + 1, None, cap, &[]));
+        shows(&rt, &mut tree, &(root, 16 * cap as u64 + 1, None, cap, &[]));
     }
     Ok(())
 }

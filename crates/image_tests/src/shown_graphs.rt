@@ -2,11 +2,12 @@
 use crate::images::Change::{self, Word};
 use crate::images::{Worked, image_of};
 use crate::worked::{MIXED, USUAL};
+use heap_check::check;
 use heap_command::Command::{self, Del, DropVar, LetValue, List, New, Push, Set, WPut, Weak};
 use heap_command::Operand::{Int, Undefined, Var};
-use heap_judge::{is_whole_heap, shows};
 use heap_model::HeapImage;
 use ideal_graph::Ideal;
+use slow_check::shows;
 use std::alloc::Global;
 use std::process::Abort;
 use std::test::Fail;
@@ -106,7 +107,6 @@ const CASES: [(&Worked, &[Command], &[Case]); 2] = [
                 "no dead key",
                 true,
             ),
-            (&[Word(2_073, 5)], &[], "a word that no cell uses", true),
             // Words that show another graph.
             (&[Word(2_061, 4)], &[], "another element", false),
             (
@@ -230,8 +230,10 @@ pub(crate) fn go_on(rt: &impl Abort, ideal: &mut Ideal, commands: &[Command]) {
 }
 
 /// Whether an image that is a whole heap shows the graph.
-pub(crate) fn is_shown(rt: &impl Abort, image: &HeapImage, ideal: &Ideal) -> Result<bool, Fail> {
-    assert!(rt; is_whole_heap(image));
+pub(crate) fn is_shown(alloc: Global, image: &HeapImage, ideal: &Ideal) -> Result<bool, Fail> {
+    let Ok(_counts) = check(alloc, image) else {
+        return Err(Fail::from("a flaw, or memory was refused"));
+    };
     match shows(image, ideal) {
         Ok(answer) => Ok(answer),
         Err(_) => Err(Fail::from("memory was refused")),
@@ -246,7 +248,7 @@ fn a_whole_heap_shows_one_graph_alone(rt: HostRuntime) -> Result<(), Fail> {
             go_on(&rt, &mut ideal, script);
             go_on(&rt, &mut ideal, more);
             let image = image_of(&rt, rt.alloc(), worked, changes)?;
-            assert_eq!(rt; is_shown(&rt, &image, &ideal)?, *expected, "{what}");
+            assert_eq!(rt; is_shown(rt.alloc(), &image, &ideal)?, *expected, "{what}");
         }
     }
     Ok(())

@@ -1,9 +1,9 @@
 //! Full heaps, and others: whether they keep exactly what can be reached, and how many words fit.
 use crate::runs::{meant, run_kept};
-use heap_checker::check;
-use heap_judge::{fits, is_exact, is_whole_heap};
+use heap_check::check;
 use heap_model::HeapImage;
 use ideal_graph::Ideal;
+use slow_check::{fits, is_exact};
 use std::alloc::Global;
 use std::test::Fail;
 use std::thread::Threads;
@@ -87,24 +87,26 @@ const CASES: [Case; 9] = [
 ];
 
 /// Whether just so many words fit into an image that is a whole heap.
-fn just_fit(image: &HeapImage, most: u32) -> bool {
+fn just_fit(alloc: Global, image: &HeapImage, most: u32) -> bool {
     let Some(more) = most.checked_add(1) else {
         return false;
     };
-    if is_whole_heap(image) {
-        fits(image, most) && !fits(image, more)
-    } else {
-        false
+    match check(alloc, image) {
+        Ok(_) => fits(image, most) && !fits(image, more),
+        Err(_) => false,
     }
 }
 
-/// Whether a check of an image counts as many objects and entries as can be reached.
+/// Whether an image keeps exactly what can be reached, and a check of it counts as many objects and entries.
 fn counts_census(alloc: Global, image: &HeapImage, ideal: &mut Ideal) -> Result<bool, Fail> {
-    match (check(alloc, image), ideal.reach()) {
-        (Ok(counts), Ok(census)) => Ok(
-            counts.objects == census.objects && counts.entries == census.entries,
+    let Ok(counts) = check(alloc, image) else {
+        return Err(Fail::from("a flaw, or memory was refused"));
+    };
+    match (is_exact(image, ideal), ideal.reach()) {
+        (Ok(exact), Ok(census)) => Ok(
+            exact && counts.objects == census.objects && counts.entries == census.entries,
         ),
-        _ => Err(Fail::from("a flaw, or memory was refused")),
+        _ => Err(Fail::from("memory was refused")),
     }
 }
 
@@ -116,15 +118,11 @@ fn judged<R: Threads + Sync + AllocGlobal>(
 ) -> Result<((u8, u32), bool, bool), Fail> {
     let (status, kept) = run_kept(rt, "64", case.script)?;
     let mut ideal = meant(rt.alloc(), case.script, kept.executed)?;
-    let counted = counts_census(rt.alloc(), &kept.image, &mut ideal)?;
-    match is_exact(&kept.image, &ideal) {
-        Ok(exact) => Ok((
-            (status, kept.need),
-            exact && counted,
-            just_fit(&kept.image, case.most),
-        )),
-        Err(_) => Err(Fail::from("memory was refused")),
-    }
+    Ok((
+        (status, kept.need),
+        counts_census(rt.alloc(), &kept.image, &mut ideal)?,
+        just_fit(rt.alloc(), &kept.image, case.most),
+    ))
 }
 
 #[test]

@@ -1,9 +1,9 @@
 //! Kept heaps of runs, judged against the ideal meaning of the same scripts.
 use crate::runs::{meant, run_kept};
-use heap_checker::check;
+use heap_check::check;
 use heap_command::Command::LetValue;
 use heap_command::Operand::Int;
-use heap_judge::shows;
+use slow_check::shows;
 use std::test::Fail;
 use std::thread::Threads;
 
@@ -60,11 +60,13 @@ const SCRIPTS: [&[u8]; 24] = [
 fn judged<R: Threads + Sync + AllocGlobal>(rt: &R, source: &[u8]) -> Result<(bool, bool), Fail> {
     let kept = run_kept(rt, "128", source)?.1;
     let mut ideal = meant(rt.alloc(), source, kept.executed)?;
+    let Ok(_counts) = check(rt.alloc(), &kept.image) else {
+        return Err(Fail::from("a flaw, or memory was refused"));
+    };
     let same = shows(&kept.image, &ideal);
     let bound = ideal.step(&LetValue { x: 0, v: Int(77) });
-    let whole = check(rt.alloc(), &kept.image).is_ok();
     match (same, bound, shows(&kept.image, &ideal)) {
-        (Ok(same), Ok(_), Ok(other)) => Ok((whole && same, other)),
+        (Ok(same), Ok(_), Ok(other)) => Ok((same, other)),
         _ => Err(Fail::from("memory was refused")),
     }
 }

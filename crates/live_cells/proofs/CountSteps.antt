@@ -15,7 +15,7 @@ use Rattle.heap_model.proofs.CellsApart.{IsOfCell, has_is_cell, first_of_cell, c
 use Rattle.heap_model.proofs.WordsAlike.{cell_below_roots}
 use Rattle.live_cells.specs.Census.{objects_in, pairs_counted}
 use Rattle.live_cells.proofs.CellLists.{IsBefore, cells_in, cells_ascend, cell_among, among_has}
-use Rattle.live_cells.specs.Counting.{objects_before, AreCounted, CountsTo, word_pairs_most}
+use Rattle.live_cells.specs.Counting.{objects_before, CountsCellsAndPairs, CountsTo, word_pairs_most}
 use Rattle.live_cells.proofs.CellsBefore.{begins_before, same_kept, all_kept, none_kept}
 use Rattle.live_cells.proofs.CellsBefore.{below_test, not_below_test, kept_to}
 
@@ -147,7 +147,7 @@ counts_more {heap} {cell} {words} pairs whole has object is few counts =
 -- at the roots all cells were passed by
 pub counts_all : {heap : Heap} {rows : List Row} {to objects entries : ℕ} → HasRows heap → AreRows heap rows
     → roots_start heap.space ≤ to → CountsTo heap to objects entries
-    → AreCounted heap (objects_in rows) objects entries
+    → CountsCellsAndPairs heap (objects_in rows) objects entries
 counts_all {heap} {rows} {to} whole are past counts =
     let one = counts.counted rows are in
     let all : objects_before rows to ≡ objects_in rows =

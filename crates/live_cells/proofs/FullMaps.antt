@@ -14,7 +14,7 @@ use Rattle.object_graph.specs.Objects.{with_entry, entry_value}
 use Rattle.object_graph.specs.Graphs.{Graph, WeakObject, value_of, object_in, weak_at}
 use Rattle.object_graph.specs.Invariants.{IsGraph}
 use Rattle.object_graph.specs.Limits.{ideal_limits}
-use Rattle.object_graph.specs.Meaning.{done, fault, unless, weak_most, no_entry_for, reweave, does}
+use Rattle.object_graph.specs.Meaning.{done, fault, unless, weak_most, no_entry_for, reweave, meaning}
 use Rattle.object_graph.specs.Reach.{is_marked, reach}
 use Rattle.object_graph.proofs.WeakMost.{no_entry_for-is}
 use Rattle.graph_laws.proofs.FoundObjects.{weak_at-is}
@@ -74,7 +74,7 @@ module _ {heap : Heap} {graph : Graph} (is_graph : IsGraph graph) (exact : Exact
   full_faults : (rooms : ℕ → Room) (names : List (List ℕ)) (m key : ℕ) (k v : Operand) (weak : WeakObject)
       (value : Value) → HasRooms heap graph rooms → weak_of graph m ≡ Some weak → key_of graph k ≡ Some key
       → value_of graph v ≡ Some value → IsMapFull (rooms weak.number) weak key
-      → does ideal_limits names graph (WPut m k v) ≡ fault WeakFull
+      → meaning ideal_limits names graph (WPut m k v) ≡ fault WeakFull
   full_faults rooms names m key k v weak value has map named given full =
       let target = found_in (get graph.bindings m) (weak_at graph.objects) weak map in
       let one = found_in (value_of graph k) object_in key named in
@@ -88,7 +88,7 @@ module _ {heap : Heap} {graph : Graph} (is_graph : IsGraph graph) (exact : Exact
       let counted = room_counts rooms weak.number weak.entries has stands.1 reached in
       let none = no_entry graph weak.entries key (operand_reached graph k key is_graph keyed) full.fresh
       (subst (λ n. weak_most ≤ n) counted full.full) in
-      let known : does ideal_limits names graph (WPut m k v)
+      let known : meaning ideal_limits names graph (WPut m k v)
       ≡ unless WeakFull (no_entry_for (reach graph) weak.entries key)
       (done (reweave graph weak (with_entry weak.entries key value)) []) = rw (bound, keyed, given, found) in
       known ∙ ap (λ test. unless WeakFull test (done (reweave graph weak (with_entry weak.entries key value)) [])) none
@@ -96,6 +96,6 @@ module _ {heap : Heap} {graph : Graph} (is_graph : IsGraph graph) (exact : Exact
 -- A command that finds its map full in an exact heap is a fault.
 pub exact_maps_are_full : ExactMapsAreFull
 exact_maps_are_full heap graph rooms names command entries is_graph exact has finds =
-    ap (does ideal_limits names graph) finds.is
+    ap (meaning ideal_limits names graph) finds.is
     ∙ full_faults is_graph exact rooms names finds.m finds.key finds.k finds.v finds.weak finds.value has finds.map
     finds.named finds.given finds.full

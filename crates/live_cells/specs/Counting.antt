@@ -5,7 +5,7 @@ use Rattle.heap_model.specs.Heaps.{Heap, Row, AreRows}
 use Rattle.live_cells.specs.Census.{objects_in, pairs_counted}
 
 -- So many objects there are among these cells, and their weak maps count so many pairs together.
-pub record AreCounted (heap : Heap) (cells : List Cell) (many pairs : ℕ) : Type 0 where
+pub record CountsCellsAndPairs (heap : Heap) (cells : List Cell) (many pairs : ℕ) : Type 0 where
   pub objects : many ≡ length cells
   pub entries : pairs ≡ sum_by (λ cell. pairs_counted heap cell.layout.kind cell.at) cells
 
@@ -21,6 +21,6 @@ word_pairs_most = 341
 -- A count has come to an address: these are the objects and the pairs of the cells that begin before it, and there are
 -- no more than the words before it may have.
 pub record CountsTo (heap : Heap) (to objects entries : ℕ) : Type 0 where
-  pub counted : (rows : List Row) → AreRows heap rows → AreCounted heap (objects_before rows to) objects entries
+  pub counted : (rows : List Row) → AreRows heap rows → CountsCellsAndPairs heap (objects_before rows to) objects entries
   pub few_objects : objects ≤ to
   pub few_entries : entries ≤ word_pairs_most * to

@@ -5,7 +5,7 @@ use Rattle.heap_command.specs.declared.command.FaultWord.TheVariants.{WeakFull}
 use Rattle.object_graph.specs.Graphs.{Graph}
 use Rattle.object_graph.specs.Invariants.{IsGraph}
 use Rattle.object_graph.specs.Reach.{is_marked, reach}
-use Rattle.object_graph.specs.Meaning.{fault, does}
+use Rattle.object_graph.specs.Meaning.{fault, meaning}
 use Rattle.object_graph.specs.Limits.{ideal_limits}
 use Rattle.heap_model.specs.Types.{Entry, Command}
 use Rattle.heap_model.specs.Heaps.{Heap}
@@ -43,4 +43,4 @@ abbrev pub ExactMapsAreFull : Type 0
 ExactMapsAreFull =
     (heap : Heap) (graph : Graph) (rooms : ℕ → Room) (names : List (List ℕ)) (command : Command) (entries : ℕ)
     → IsGraph graph → Exact heap graph → HasRooms heap graph rooms → FindsMapFull graph rooms command entries
-    → does ideal_limits names graph command ≡ fault WeakFull
+    → meaning ideal_limits names graph command ≡ fault WeakFull

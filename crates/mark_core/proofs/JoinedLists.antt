@@ -3,7 +3,7 @@ use Rattle.std.proofs.Common.{ℕ, ◌<◌, ◌+◌, ◌≡◌, List, length, ge
 use Rattle.std.proofs.Common.{subst, arith}
 use Rattle.std.proofs.lemmas.List.{length-map, get_or-map}
 use Rattle.mark_laws.specs.Types.{SnapSlot}
-use Rattle.seat_steps.specs.Boards.{joined_by}
+use Rattle.core_parts.specs.Boards.{joined_by}
 use Rattle.mark_world.specs.Pages.{target, targets_joined}
 
 -- and so does the target of the next word

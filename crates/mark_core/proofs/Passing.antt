@@ -15,8 +15,8 @@ use Rattle.tagged_word.specs.Cells.{cell_size, cell_words_most, has_length, in_o
 use Rattle.tagged_word.specs.Cells.{store_slot}
 use Rattle.tagged_word.specs.Cells.{tagged_offsets, tagged_offsets_of}
 use Rattle.tagged_word.proofs.Cells.{size_bounds, slot_within, tagged_is_scavenged}
-use Rattle.seat_steps.specs.Lists.{is_in}
-use Rattle.seat_steps.proofs.Joining.{in_found, found_in}
+use Rattle.core_parts.specs.Lists.{is_in}
+use Rattle.core_parts.proofs.Joining.{in_found, found_in}
 
 -- this holds of each of the first numbers that is in a list
 abbrev pub PassBelow : List ℕ → (ℕ → Type 0) → ℕ → Type 0

@@ -11,8 +11,8 @@ use Rattle.mark_laws.specs.Types.{Reading}
 use Rattle.tagged_word.specs.Readings.{read_cell}
 use Rattle.tagged_word.proofs.Cells.{slot_within, tagged_is_scavenged}
 use Rattle.tagged_word.proofs.CellReadings.{cell_from}
-use Rattle.seat_steps.specs.Lists.{is_in}
-use Rattle.seat_steps.proofs.Tested.{nat_lt-yes, not_equal}
+use Rattle.core_parts.specs.Lists.{is_in}
+use Rattle.core_parts.proofs.Tested.{nat_lt-yes, not_equal}
 use Rattle.mark_world.specs.Pages.{slots_of}
 
 -- the offsets below a number

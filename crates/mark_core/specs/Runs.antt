@@ -1,7 +1,7 @@
 -- Where a run of events stops before its end.
 use Rattle.std.specs.Prelude.{◌≡◌, ℕ, List, slice_get, Some}
 use Rattle.mark_laws.specs.Types.{StepStop, Event, World}
-use Rattle.seat_steps.specs.declared.stop.StepStop.TheVariants.{NotEnabled, NoMemory}
+use Rattle.core_parts.specs.declared.stop.StepStop.TheVariants.{NotEnabled, NoMemory}
 use Rattle.mark_world.specs.AfterEvents.{Possible, WerePossible, moment}
 
 -- those before the event of a number were possible, each at its moment, and it is not

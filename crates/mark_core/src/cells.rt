@@ -2,15 +2,15 @@
 ghost use Rattle.std.specs.Prelude.{◌≡◌, ◌+◌, ◌<◌, ◌↔◌, IsTrue, true, false, min};
 ghost use Rattle.std.specs.Prelude.{slice_index, Option};
 ghost use Rattle.tagged_word.specs.declared.reading.Reading.{Reading};
-ghost use Rattle.seat_steps.specs.Lists.{is_in};
+ghost use Rattle.core_parts.specs.Lists.{is_in};
 ghost use Rattle.mark_world.specs.Pages.{page_end, cell_at, slots_of, is_inside, is_head, is_head_of};
 ghost use Rattle.mark_world.specs.Pages.{is_quiet, leaves_alone, is_free, EachFree, IsOutside};
 ghost use Rattle.mark_world.specs.Coverage.{cell_of};
 
 use crate::lists::is_in;
+use core_parts::read_cell;
 use mark_world::{MainView, World};
 use page_space::PAGE_WORDS;
-use seat_steps::read_cell;
 use tagged_word::Reading;
 use tagged_word::cell::LENGTH;
 

@@ -1,8 +1,8 @@
 //! What the mutator knows after a step of its own, by the word that it found; and what both kinds of seat learn.
 ghost use Rattle.std.specs.Prelude.{◌≡◌, ◌<◌, IfOk, OnOk};
 ghost use Rattle.std.specs.Option.{option_map};
-ghost use Rattle.seat_steps.specs.Boards.{giver_left, taker_joined};
-ghost use Rattle.seat_steps.specs.Lists.{joined, left};
+ghost use Rattle.core_parts.specs.Boards.{giver_left, taker_joined};
+ghost use Rattle.core_parts.specs.Lists.{joined, left};
 ghost use Rattle.mark_world.specs.Pages.{slot_words};
 ghost use Rattle.mark_world.specs.Coverage.{cell_of};
 ghost use Rattle.mark_world.specs.Steps.{noted, main_spot, main_learns, joined_if_white};
@@ -11,8 +11,8 @@ ghost use Rattle.mark_core.specs.Locations.{FitsSpot};
 
 use crate::cells::{cell_of, is_free, is_slot, word_at};
 use crate::lists::{join_all, join_by, join_if_white, join_target, join_targets};
+use core_parts::{Items, Note, join, leave};
 use mark_world::{Event, HelperView, MainView, Snap, World};
-use seat_steps::{Items, Note, join, leave};
 use std::alloc::Global;
 use tagged_word::{NoMemory, Reading, Word};
 

@@ -1,8 +1,8 @@
 //! What a helper knows after a step of its own, by the word that it found.
 ghost use Rattle.std.specs.Prelude.{◌≡◌, ◌<◌, OnOk, Some, None};
 ghost use Rattle.std.specs.Option.{option_map};
-ghost use Rattle.seat_steps.specs.Boards.{giver_left, taker_joined};
-ghost use Rattle.seat_steps.specs.Lists.{left};
+ghost use Rattle.core_parts.specs.Boards.{giver_left, taker_joined};
+ghost use Rattle.core_parts.specs.Lists.{left};
 ghost use Rattle.mark_world.specs.Steps.{noted, helper_spot, helper_learns, snap_settled, with_slot};
 ghost use Rattle.mark_world.specs.Steps.{with_layout, with_length, snap_begun, joined_if_white};
 ghost use Rattle.mark_core.specs.Locations.{FitsSpot};
@@ -10,8 +10,8 @@ ghost use Rattle.mark_world.specs.declared.step.Spot.TheVariants as Spot;
 
 use crate::learning::{join_taken, leave_given, note_colour};
 use crate::lists::{join_if_white, snap_targets};
+use core_parts::{Items, Note, leave};
 use mark_world::{Event, HelperView, Snap, SnapSlot};
-use seat_steps::{Items, Note, leave};
 use std::alloc::Global;
 use tagged_word::NoMemory;
 

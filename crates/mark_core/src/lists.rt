@@ -1,12 +1,12 @@
 //! Lists of addresses that others join.
 ghost use Rattle.std.specs.Prelude.{◌≡◌, ◌↔◌, OnOk, IsTrue, Contains};
-ghost use Rattle.seat_steps.specs.Lists.{is_in};
-ghost use Rattle.seat_steps.specs.Boards.{joined_by};
+ghost use Rattle.core_parts.specs.Lists.{is_in};
+ghost use Rattle.core_parts.specs.Boards.{joined_by};
 ghost use Rattle.mark_world.specs.Pages.{target, targets_joined};
 ghost use Rattle.mark_world.specs.Steps.{all_joined, joined_if_white, snap_targets, white};
 
+use core_parts::{Items, Note, join};
 use mark_world::Snap;
-use seat_steps::{Items, Note, join};
 use std::alloc::Global;
 use tagged_word::{NoMemory, Word};
 

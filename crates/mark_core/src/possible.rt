@@ -1,7 +1,7 @@
 //! Where an event is possible.
 ghost use Rattle.std.specs.Prelude.{◌↔◌, ◌<◌, ◌≡◌, ◌≢◌, IsTrue, IsSomeAnd, slice_get, slice_index};
 ghost use Rattle.mark_world.specs.Steps.{white};
-ghost use Rattle.mark_world.specs.AfterEvents.{IsReached, AsksWorld, MayStep, Possible, seats_out};
+ghost use Rattle.mark_world.specs.AfterEvents.{IsMarked, AsksWorld, MayStep, Possible, seats_out};
 
 use crate::conditions::{may_helper, may_main};
 use crate::lists::has;
@@ -47,7 +47,7 @@ fn is_out(world: &World, helper: u32) -> bool
 
 /// Whether a cell is published and not white.
 fn is_reached(world: &World, at: u32) -> bool
-    ensures { IsTrue result ↔ IsReached world.now at }
+    ensures { IsTrue result ↔ IsMarked world.now at }
 {
     has(world.main.starts.as_slice(), at) && is_coloured(world, at)
 }

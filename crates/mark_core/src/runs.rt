@@ -8,8 +8,8 @@ ghost use Rattle.mark_core.specs.Runs.{StopsThere};
 
 use crate::possible::is_possible;
 use crate::steps::apply;
+use core_parts::StepStop;
 use mark_world::{Event, World};
-use seat_steps::StepStop;
 use std::alloc::Global;
 
 /// The world after events, each carried out in the world that those before it left. It stops at the

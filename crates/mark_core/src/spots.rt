@@ -1,14 +1,14 @@
 //! The one word that an event touches.
 ghost use Rattle.std.specs.Prelude.{◌≡◌, ◌+◌, ◌≤◌, slice_index, slice_set};
 ghost use Rattle.std.specs.Option.{option_map};
-ghost use Rattle.seat_steps.specs.Boards.{given_word};
+ghost use Rattle.core_parts.specs.Boards.{given_word};
 ghost use Rattle.mark_world.specs.Steps.{actor, main_spot, helper_spot, layout_spot, shaded, settled, becomes};
 ghost use Rattle.mark_world.specs.AfterEvents.{word_at, with_word};
 ghost use Rattle.mark_core.specs.Locations.{FitsSpot};
 
 use crate::cells::word_at;
+use core_parts::Items;
 use mark_world::{Actor, Event, HelperView, Snap, Spot, World};
-use seat_steps::Items;
 use tagged_word::cell::LENGTH;
 use tagged_word::{Header, Word};
 

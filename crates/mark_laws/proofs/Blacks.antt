@@ -7,8 +7,8 @@ use Rattle.std.proofs.lemmas.Bool.{cases_lt}
 use Rattle.std.proofs.lemmas.Bool.Decides.{nat_tests}
 use Rattle.std.proofs.lemmas.List.{get_or_past, get_or-set_other, get_or-set_same, length-set}
 use Rattle.tagged_word.specs.Cells.{length_offset}
-use Rattle.seat_steps.specs.Lists.{joined}
-use Rattle.seat_steps.proofs.Joining.{joined_in}
+use Rattle.core_parts.specs.Lists.{joined}
+use Rattle.core_parts.proofs.Joining.{joined_in}
 use Rattle.mark_laws.specs.Types.{Event, Spot, Snap, HelperView, World}
 use Rattle.mark_world.specs.declared.event.Event.TheVariants as event
 use Rattle.mark_world.specs.Pages.{is_free}

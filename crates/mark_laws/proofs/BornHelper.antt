@@ -6,15 +6,15 @@ use Rattle.std.proofs.lemmas.List.Elements.{All-append, All-contains, All-set}
 use Rattle.std.specs.Option.{option_map}
 use Rattle.tagged_word.specs.Cells.{length_offset}
 use Rattle.tagged_word.proofs.Members.{map_from}
-use Rattle.seat_steps.specs.Lists.{left}
-use Rattle.seat_steps.proofs.Leaving.{left_from}
+use Rattle.core_parts.specs.Lists.{left}
+use Rattle.core_parts.proofs.Leaving.{left_from}
 use Rattle.mark_laws.specs.Types.{Event, Snap, SnapSlot, Spot, HelperView, World}
 use Rattle.mark_world.specs.declared.event.Event.TheVariants as event
 use Rattle.mark_world.specs.Naming.{IsToRead, Named, named, read_offsets, read_words}
 use Rattle.mark_world.specs.Steps.{becomes, grey, helper_learns, helper_spot, snap_settled, snap_targets, white}
 use Rattle.mark_world.specs.Steps.{with_layout, with_length, with_slot}
 use Rattle.mark_world.specs.Conditions.{MayHelper}
-use Rattle.mark_world.specs.AfterEvents.{after_helper, IsReached, with_word, word_at}
+use Rattle.mark_world.specs.AfterEvents.{after_helper, IsMarked, with_word, word_at}
 use Rattle.mark_world.specs.Coverage.{colour_of}
 use Rattle.mark_world.specs.Soundness.{AreIn, HasCells, HasLists, HasSnaps, HasViewLists, IsTrueSnap}
 use Rattle.mark_world.specs.BornCells.{Born, HasBorn}
@@ -57,7 +57,7 @@ to_read Named.no_cell read offset may = absurd may
 to_read (Named.slots offsets) read offset may = (offsets, refl, may.0, may.1)
 
 -- the target of a slot that is to be read of a grey cell is born
-pub read_born : (world : World) (snap : Snap) (offset : ℕ) → HasCells world → Born world → IsReached world snap.cell
+pub read_born : (world : World) (snap : Snap) (offset : ℕ) → HasCells world → Born world → IsMarked world snap.cell
     → colour_of world snap.cell ≡ grey
     → IsTrueSnap world snap → IsToRead (named snap) (read_offsets snap) offset
     → HasBorn world (slice_index world.words (snap.cell + offset))
@@ -78,7 +78,7 @@ loaded_born : (world later : World) (view : HelperView) (offset : ℕ) → HasCe
     → HasBorn later (word_at world (option_map (λ (t : Snap). Spot.Heap (t.cell + offset)) view.snap)))
 loaded_born world later view offset cells born has is_true grows were may =
     let s = some_and (λ (snap : Snap). IsToRead (named snap) (read_offsets snap) offset) view.snap may in
-    let reached = some_at (λ (t : Snap). IsReached world t.cell) view.snap s.0 s.1 has.snap in
+    let reached = some_at (λ (t : Snap). IsMarked world t.cell) view.snap s.0 s.1 has.snap in
     subst (λ (o : Option Snap). IfSome o (λ (t : Snap). colour_of later t.cell ≡ grey
     → HasBorn later (word_at world (option_map (λ (u : Snap). Spot.Heap (u.cell + offset)) o)))) (sym s.1)
     (λ is_grey. let was = were s.0.cell reached is_grey in
@@ -221,7 +221,7 @@ helper_born world number view of cells lists snaps born has is_true read visits 
     grey_before (colour_of world at) (colour_of later at) reached.coloured (rises at) in
     let own : List ℕ = (helper_learns world.old view of (word_at world (helper_spot view of))).visit in
     let born_cell : IfSome view.snap (λ s. Contains world.main.born s.cell) =
-    some_weaker (λ (s : Snap). IsReached world s.cell) (λ (s : Snap). Contains world.main.born s.cell) view.snap
+    some_weaker (λ (s : Snap). IsMarked world s.cell) (λ (s : Snap). Contains world.main.born s.cell) view.snap
     (λ s reached. born.reached s.cell reached) has.snap in
     let coloured : (at : ℕ) → colour_of later at ≢ white → (colour_of world at ≢ white)
     ⊎ Contains world.main.born at =

@@ -2,15 +2,15 @@
 use Rattle.std.proofs.Common.{ℕ, ◌≢◌, ◌∙◌, inl, inr, IsTrue, List, slice_index, slice_set, All, Contains}
 use Rattle.std.proofs.Common.{get_or, sym, subst, ◌==◌, eqb-true}
 use Rattle.std.proofs.lemmas.Bool.{eqb-false}
-use Rattle.seat_steps.specs.Lists.{joined}
-use Rattle.seat_steps.specs.Boards.{joined_by}
-use Rattle.seat_steps.proofs.Joining.{decided, joined_from, joined_in, joined_keeps}
+use Rattle.core_parts.specs.Lists.{joined}
+use Rattle.core_parts.specs.Boards.{joined_by}
+use Rattle.core_parts.proofs.Joining.{decided, joined_from, joined_in, joined_keeps}
 use Rattle.mark_laws.specs.Types.{Event, Actor, HelperView, World}
 use Rattle.mark_world.specs.declared.event.Event.TheVariants as event
 use Rattle.mark_world.specs.Pages.{EachFree, is_free, target}
 use Rattle.mark_world.specs.Steps.{becomes, black, main_spot, shaded, white}
 use Rattle.mark_world.specs.Conditions.{MayMain}
-use Rattle.mark_world.specs.AfterEvents.{after_main, IsReached, word_at}
+use Rattle.mark_world.specs.AfterEvents.{after_main, IsMarked, word_at}
 use Rattle.mark_world.specs.Coverage.{colour_of}
 use Rattle.mark_world.specs.Soundness.{AreIn, HasCells, HasLists, HasSizes, HasSure}
 use Rattle.mark_world.specs.BornCells.{Born}
@@ -30,7 +30,7 @@ main_grows world (event.NewBlack at) word born =
 main_grows world _ word born = born
 
 -- a cell that was coloured by an event, or before it
-coloured_born : (world : World) (born : List ℕ) (a colour at : ℕ) → ((k : ℕ) → IsReached world k → Contains born k)
+coloured_born : (world : World) (born : List ℕ) (a colour at : ℕ) → ((k : ℕ) → IsMarked world k → Contains born k)
     → Contains world.main.starts at → Contains born a
     → slice_index (slice_set world.colours a colour) at ≢ white → Contains born at
 coloured_born world born a colour at were start is_born coloured = elim (put_or_stays world.colours a colour at) [
@@ -39,7 +39,7 @@ coloured_born world born a colour at were start is_born coloured = elim (put_or_
 ]
 
 -- a cell that was reached before one joined the published ones
-joins_born : (world : World) → Born world → (a at : ℕ) → IsReached (after_main world (event.NewBlack a)) at
+joins_born : (world : World) → Born world → (a at : ℕ) → IsMarked (after_main world (event.NewBlack a)) at
     → colour_of world at ≢ white → Contains (joined world.main.born a) at
 joins_born world born a at reached coloured = elim (decided (at == a)) [
   | inl same ↦ subst (Contains (joined world.main.born a)) (sym (eqb-true _ _ same)) (joined_in world.main.born a)
@@ -50,7 +50,7 @@ joins_born world born a at reached coloured = elim (decided (at == a)) [
 ]
 
 -- a cell that joined the published ones
-new_born : (world : World) → Born world → (a at : ℕ) → IsReached (after_main world (event.NewBlack a)) at
+new_born : (world : World) → Born world → (a at : ℕ) → IsMarked (after_main world (event.NewBlack a)) at
     → Contains (joined world.main.born a) at
 new_born world born a at reached = elim (put_or_stays world.colours a black at) [
   | inl same ↦ subst (Contains (joined world.main.born a)) (sym same) (joined_in world.main.born a)
@@ -59,7 +59,7 @@ new_born world born a at reached = elim (put_or_stays world.colours a black at) 
 
 -- what is reached is born, after a step of the mutator
 main_reached : (world : World) (of : Event) → Born world → MayMain world.old world.words world.layouts world.main of
-    → (at : ℕ) → IsReached (after_main world of) at → Contains (after_main world of).main.born at
+    → (at : ℕ) → IsMarked (after_main world of) at → Contains (after_main world of).main.born at
 main_reached world (event.ShadeMain a) born may at reached =
     coloured_born world world.main.born a (shaded (slice_index world.colours a)) at born.reached reached.start may
     reached.coloured

@@ -6,12 +6,12 @@ use Rattle.std.proofs.lemmas.Bool.{eqb-false}
 use Rattle.std.proofs.lemmas.List.Elements.{All-contains}
 use Rattle.mark_laws.specs.Types.{Reading, Snap, SnapSlot, HelperView, MainView, World}
 use Rattle.tagged_word.proofs.Cells.{some_same}
-use Rattle.seat_steps.proofs.Joining.{decided}
+use Rattle.core_parts.proofs.Joining.{decided}
 use Rattle.mark_world.specs.declared.event.Event.TheVariants as event
 use Rattle.mark_world.specs.Pages.{is_free, is_head_of, page_end, slots_of, target}
 use Rattle.mark_world.specs.Steps.{grey}
 use Rattle.mark_world.specs.Conditions.{MayAddLayout, MayStoreHeader, MayStoreOwned, MayStoreSlot}
-use Rattle.mark_world.specs.AfterEvents.{after_main, IsReached}
+use Rattle.mark_world.specs.AfterEvents.{after_main, IsMarked}
 use Rattle.mark_world.specs.Coverage.{EachSlot, cell_of, colour_of}
 use Rattle.mark_world.specs.Soundness.{HasCells, HasLists, HasSure, HasViewLists}
 use Rattle.mark_world.specs.BornCells.{HasBorn}
@@ -43,7 +43,7 @@ StartBorn world start = Contains world.main.born start → EachSlot world start 
 
 -- what was read in a snap stays born
 pub snap_born : (world later : World) (snap : Snap) → Grows world later → WereGrey world later
-    → IsReached world snap.cell
+    → IsMarked world snap.cell
     → SnapBorn world snap → SnapBorn later snap
 snap_born world later snap grows were reached born is_grey =
     all_weaker (λ (s : SnapSlot). HasBorn world s.word) (λ (s : SnapSlot). HasBorn later s.word) snap.slots
@@ -54,7 +54,7 @@ pub view_born : (world later : World) (view : HelperView) → Grows world later 
     → HasViewLists world view → ViewBorn world view → ViewBorn later view
 view_born world later view grows were has born =
     some_from (SnapBorn later) view.snap (λ snap e.
-    snap_born world later snap grows were (some_at (λ (s : Snap). IsReached world s.cell) view.snap snap e has.snap)
+    snap_born world later snap grows were (some_at (λ (s : Snap). IsMarked world s.cell) view.snap snap e has.snap)
     (some_at (SnapBorn world) view.snap snap e born))
 
 -- in all views

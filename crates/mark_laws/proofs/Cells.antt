@@ -9,7 +9,7 @@ use Rattle.tagged_word.specs.Readings.{read_cell}
 use Rattle.tagged_word.proofs.Cells.{some_same}
 use Rattle.tagged_word.proofs.CellReadings.{cell_from, cell_to}
 use Rattle.tagged_word.proofs.Layouts.{kind_number-some}
-use Rattle.seat_steps.specs.Lists.{is_in}
+use Rattle.core_parts.specs.Lists.{is_in}
 use Rattle.mark_world.specs.declared.event.Event.TheVariants as event
 use Rattle.mark_world.specs.Pages.{EachFree, cell_at, is_free, is_head, is_head_of, is_inside, leaves_alone}
 use Rattle.mark_world.specs.Pages.{offset_in, page_end, slots_of}

@@ -6,7 +6,7 @@ use Rattle.std.proofs.lemmas.List.Elements.{All-contains}
 use Rattle.mark_laws.specs.Types.{Reading, Event, Actor, HelperView, MainView, World}
 use Rattle.tagged_word.proofs.Cells.{some_same}
 use Rattle.tagged_word.proofs.Members.{first_in, rest_in}
-use Rattle.seat_steps.specs.Lists.{joined}
+use Rattle.core_parts.specs.Lists.{joined}
 use Rattle.mark_world.specs.declared.event.Event.TheVariants as event
 use Rattle.mark_world.specs.Pages.{cell_at, is_head_of, is_inside, page_end}
 use Rattle.mark_world.specs.Steps.{actor}

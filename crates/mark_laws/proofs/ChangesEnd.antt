@@ -3,9 +3,9 @@ use Rattle.std.proofs.Common.{ℕ, ◌≡◌, inl, inr, List, [], ◌∷◌, All
 use Rattle.std.proofs.Common.{Option, None, Some, slice_get, refl, sym, subst, arith}
 use Rattle.std.proofs.lemmas.List.{append-nil}
 use Rattle.tagged_word.proofs.Members.{in_cases}
-use Rattle.seat_steps.specs.Lists.{joined}
-use Rattle.seat_steps.proofs.Joining.{joined_in, joined_keeps}
-use Rattle.seat_steps.proofs.Leaving.{left_keeps}
+use Rattle.core_parts.specs.Lists.{joined}
+use Rattle.core_parts.proofs.Joining.{joined_in, joined_keeps}
+use Rattle.core_parts.proofs.Leaving.{left_keeps}
 use Rattle.mark_laws.specs.Types.{Event, Actor, HelperView, World}
 use Rattle.mark_world.specs.declared.event.Event.TheVariants as event
 use Rattle.mark_world.specs.Pages.{target}

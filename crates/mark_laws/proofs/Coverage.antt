@@ -8,9 +8,9 @@ use Rattle.std.proofs.Common.{if◌then◌else◌, is_some, eqb-true, eq-eqb}
 use Rattle.std.proofs.lemmas.Bool.Decides.{nat_tests}
 use Rattle.std.proofs.lemmas.List.{get_or-set_same, get_or_append_left, length-append}
 use Rattle.std.proofs.lemmas.List.Elements.{All-contains}
-use Rattle.seat_steps.specs.Lists.{left}
-use Rattle.seat_steps.proofs.Joining.{decided}
-use Rattle.seat_steps.proofs.Leaving.{left_keeps}
+use Rattle.core_parts.specs.Lists.{left}
+use Rattle.core_parts.proofs.Joining.{decided}
+use Rattle.core_parts.proofs.Leaving.{left_keeps}
 use Rattle.mark_laws.specs.Types.{Event, Actor, Spot, Snap, HelperView, World, MainView}
 use Rattle.mark_world.specs.declared.event.Event.TheVariants as event
 use Rattle.mark_world.specs.Pages.{target, targets_joined}

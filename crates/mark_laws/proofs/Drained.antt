@@ -6,16 +6,16 @@ use Rattle.mark_laws.specs.Types.{Reading, World, HelperView, Snap}
 use Rattle.tagged_word.specs.Readings.{reference_in}
 use Rattle.mark_world.specs.Pages.{slots_of, target}
 use Rattle.mark_world.specs.Steps.{white, grey, black}
-use Rattle.mark_world.specs.AfterEvents.{IsReached}
+use Rattle.mark_world.specs.AfterEvents.{IsMarked}
 use Rattle.mark_world.specs.Coverage.{EachSlot, HasCovered, IsCovered, IsToVisit, cell_of, colour_of}
 use Rattle.mark_world.specs.Soundness.{HasLists, HasViewLists, IsEmptyView, Sound, Waits}
 use Rattle.mark_laws.proofs.Colours.{each_colour}
 use Rattle.mark_laws.proofs.Starts.{free_or_mine}
 use Rattle.mark_laws.proofs.Joins.{of_slot, of_target}
-use Rattle.mark_world.specs.BetweenCommands.{HasSureTarget, IsDrained, MarksAll, IsReachable, Settled}
+use Rattle.mark_world.specs.BetweenCommands.{HasSureTarget, IsDrained, MarksAll, IsReachedByMarking, Settled}
 
 -- an empty list has no member
-in_none : {X : Type 0} (xs : List X) (x : X) → xs ≡ [] → Contains xs x → ⊥
+pub in_none : {X : Type 0} (xs : List X) (x : X) → xs ≡ [] → Contains xs x → ⊥
 in_none xs x e c = omega (arith, ap length e, c.1)
 
 -- the view of each helper is empty where none is out
@@ -51,7 +51,7 @@ pub last_colour : (colour : ℕ) → colour ≤ black → colour ≢ white → c
 last_colour colour most coloured settled = grind arith
 
 -- a reached cell is black
-pub reached_black : (world : World) → Sound world → IsDrained world → (at : ℕ) → IsReached world at
+pub reached_black : (world : World) → Sound world → IsDrained world → (at : ℕ) → IsMarked world at
     → colour_of world at ≡ black
 reached_black world sound drained at reached =
     last_colour (colour_of world at) (each_colour world sound.sizes at) reached.coloured
@@ -61,7 +61,7 @@ reached_black world sound drained at reached =
 
 -- a covered cell is reached
 pub covered_reached : (world : World) → HasLists world → IsDrained world → world.main.owed ≡ [] → (at : ℕ)
-    → IsCovered world at → IsReached world at
+    → IsCovered world at → IsMarked world at
 covered_reached world lists drained none at (inl coloured) =
     record { start = lists.coloured at coloured; coloured = coloured }
 covered_reached world lists drained none at (inr (inl owed)) = absurd (in_none world.main.owed at none owed)
@@ -70,8 +70,8 @@ covered_reached world lists drained none at (inr (inr visit)) = absurd (none_to_
 -- a tagged slot of a reached cell refers to a reached cell
 pub next_reached : (world : World) → Sound world → Settled world → IsDrained world → (from at offset : ℕ)
     (cell : Reading)
-    → IsReached world from → cell_of world from ≡ Some cell → Contains (slots_of cell) offset
-    → target world.old (slice_index world.words (from + offset)) ≡ Some at → IsReached world at
+    → IsMarked world from → cell_of world from ≡ Some cell → Contains (slots_of cell) offset
+    → target world.old (slice_index world.words (from + offset)) ≡ Some at → IsMarked world at
 next_reached world sound settled drained from at offset cell reached reads there refers =
     elim (free_or_mine world from reached.start) [
       | inl free ↦
@@ -89,10 +89,10 @@ next_reached world sound settled drained from at offset cell reached reads there
     ]
 
 -- each old cell that is reached, in so many steps or few, is reached at once
-all_reached : (world : World) → Sound world → Settled world → IsDrained world → (at : ℕ) → IsReachable world at
-    → IsReached world at
-all_reached world sound settled drained _ (IsReachable.start at reached) = reached
-all_reached world sound settled drained _ (IsReachable.slot from at offset cell before reads there refers) =
+all_reached : (world : World) → Sound world → Settled world → IsDrained world → (at : ℕ) → IsReachedByMarking world at
+    → IsMarked world at
+all_reached world sound settled drained _ (IsReachedByMarking.start at reached) = reached
+all_reached world sound settled drained _ (IsReachedByMarking.slot from at offset cell before reads there refers) =
     next_reached world sound settled drained from at offset cell
     (all_reached world sound settled drained from before) reads there refers
 

@@ -1,7 +1,7 @@
 -- No free start comes with an event.
 use Rattle.std.proofs.Common.{ℕ, inl, inr, IsTrue, Option, Some, None, Contains, slice_get, sym, subst}
-use Rattle.seat_steps.specs.Lists.{joined}
-use Rattle.seat_steps.proofs.Joining.{joined_in, joined_from, joined_keeps}
+use Rattle.core_parts.specs.Lists.{joined}
+use Rattle.core_parts.proofs.Joining.{joined_in, joined_from, joined_keeps}
 use Rattle.mark_laws.specs.Types.{Event, Actor, HelperView, MainView, World}
 use Rattle.mark_world.specs.declared.event.Event.TheVariants as event
 use Rattle.mark_world.specs.Pages.{is_free}

@@ -3,9 +3,9 @@ use Rattle.std.proofs.Common.{ℕ, ◌≡◌, ◌∙◌, inl, inr, IsTrue, List,
 use Rattle.std.proofs.Common.{IsSomeAnd, Contains, sym, subst, arith}
 use Rattle.std.specs.Option.{option_map}
 use Rattle.std.proofs.lemmas.List.{get_or_append_left, length-append}
-use Rattle.seat_steps.specs.Lists.{joined}
-use Rattle.seat_steps.specs.Boards.{joined_by}
-use Rattle.seat_steps.proofs.Joining.{joined_in}
+use Rattle.core_parts.specs.Lists.{joined}
+use Rattle.core_parts.specs.Boards.{joined_by}
+use Rattle.core_parts.proofs.Joining.{joined_in}
 use Rattle.mark_laws.specs.Types.{Event, Actor, Snap, HelperView, MainView, World}
 use Rattle.mark_world.specs.Steps.{actor, all_joined, grey, lent, returned, taken_back}
 use Rattle.mark_world.specs.AfterEvents.{after, after_helper, after_return, after_step, MayStep, Possible, PossibleStep}

@@ -8,15 +8,15 @@ use Rattle.tagged_word.specs.Cells.{length_offset}
 use Rattle.tagged_word.specs.Readings.{reference_in}
 use Rattle.page_space.specs.Extents.{board_words}
 use Rattle.mark_laws.specs.Types.{Note, Event, Actor, Spot, Snap, HelperView, MainView, World}
-use Rattle.seat_steps.specs.declared.note.Note.TheVariants.{Coloured, Gave, Took}
+use Rattle.core_parts.specs.declared.note.Note.TheVariants.{Coloured, Gave, Took}
 use Rattle.mark_world.specs.Naming.{IsReadOut, named, read_offsets}
-use Rattle.seat_steps.specs.Lists.{left}
-use Rattle.seat_steps.specs.Boards.{given_word, giver_left, taker_joined}
+use Rattle.core_parts.specs.Lists.{left}
+use Rattle.core_parts.specs.Boards.{given_word, giver_left, taker_joined}
 use Rattle.mark_world.specs.declared.event.Event.TheVariants as event
 use Rattle.mark_world.specs.Steps.{becomes, helper_learns, helper_spot, joined_if_white, noted, snap_settled}
 use Rattle.mark_world.specs.Steps.{with_layout, with_length, with_slot, white}
 use Rattle.mark_world.specs.Conditions.{MayHelper}
-use Rattle.mark_world.specs.AfterEvents.{after_helper, IsReached, MayStep, with_word, word_at}
+use Rattle.mark_world.specs.AfterEvents.{after_helper, IsMarked, MayStep, with_word, word_at}
 use Rattle.mark_world.specs.Coverage.{colour_of}
 use Rattle.mark_world.specs.Soundness.{AreIn, HasCells, HasLists, HasSizes, HasViewLists}
 use Rattle.mark_world.specs.BornCells.{Born}
@@ -43,19 +43,19 @@ was_some f (Some snap) e = refl
 -- the lists of a helper that reads more of its snap
 reads_more : (later : World) (view : HelperView) (f : Snap → Snap) → ((s : Snap) → (f s).cell ≡ s.cell)
     → IsTrue view.out
-    → All (IsReached later) view.grey → IfSome view.snap (λ s. IsReached later s.cell)
+    → All (IsMarked later) view.grey → IfSome view.snap (λ s. IsMarked later s.cell)
     → (IsSome view.snap → view.visit ≡ [])
     → HasViewLists later (record view { snap = option_map f view.snap })
 reads_more later view f same out grey snap one = record {
   grey = grey;
-  snap = more_read (IsReached later) f same view.snap snap;
+  snap = more_read (IsMarked later) f same view.snap snap;
   one_at_once = λ some. one (was_some f view.snap some);
   in_hand = λ not_out. absurd (let both : true ≡ false = sym out ∙ not_out in cc);
 }
 
 -- the lists of a helper whose snap has ended
 settled_lists : (later : World) (view : HelperView) (found : ℕ) (snap : Option Snap) → IsTrue view.out → IsSome snap
-    → All (IsReached later) view.grey → HasViewLists later (snap_settled later.old view found snap)
+    → All (IsMarked later) view.grey → HasViewLists later (snap_settled later.old view found snap)
 settled_lists later view found None out some grey = cc
 settled_lists later view found (Some snap) out some grey = record {
   grey = grey;
@@ -66,8 +66,8 @@ settled_lists later view found (Some snap) out some grey = record {
 
 -- the lists of a helper whose grey cells change, and maybe what it is to visit loses one
 grey_changes : (later : World) (view : HelperView) (list visit : List ℕ) (log : List Note) → IsTrue view.out
-    → All (IsReached later) list
-    → IfSome view.snap (λ s. IsReached later s.cell) → (IsSome view.snap → visit ≡ [])
+    → All (IsMarked later) list
+    → IfSome view.snap (λ s. IsMarked later s.cell) → (IsSome view.snap → visit ≡ [])
     → HasViewLists later (record view { grey = list; visit = visit; log = log })
 grey_changes later view list visit log out grey snap one = record {
   grey = grey;
@@ -85,11 +85,11 @@ some_of P (Some snap) h = refl
 helper_view_lists : (world : World) (number : ℕ) (view : HelperView) (of : Event) (later : World) → HasSizes world
     → HasLists world
     → MayStep world of view → HasViewLists later view → later.old ≡ world.old
-    → ((n a : ℕ) → of ≡ event.ShadeHelper n a → IsReached later a)
-    → ((a : ℕ) → IsReached world a → IsReached later a)
+    → ((n a : ℕ) → of ≡ event.ShadeHelper n a → IsMarked later a)
+    → ((a : ℕ) → IsMarked world a → IsMarked later a)
     → HasViewLists later (helper_learns world.old view of (word_at world (helper_spot view of)))
 helper_view_lists world number view (event.LoadHeader n cell) later sizes lists may has same shades keeps = record {
-  grey = given_all (IsReached later) view.grey cell true has.grey;
+  grey = given_all (IsMarked later) view.grey cell true has.grey;
   snap = keeps cell may.asks;
   one_at_once = λ some. may.may.visit;
   in_hand = λ not_out. absurd (let both : true ≡ false = sym may.out ∙ not_out in cc);
@@ -114,25 +114,25 @@ helper_view_lists world number view (event.Settle n) later sizes lists may has s
 helper_view_lists world number view (event.ShadeHelper n a) later sizes lists may has same shades keeps =
     grey_changes later view (joined_if_white view.grey (slice_index world.colours a) a) (left view.visit a)
     (noted view.log (Coloured a (slice_index world.colours a))) may.out
-    (white_joins (IsReached later) view.grey a (slice_index world.colours a == white) has.grey (shades n a refl))
+    (white_joins (IsMarked later) view.grey a (slice_index world.colours a == white) has.grey (shades n a refl))
     has.snap
     (λ some. ap (λ (v : List ℕ). left v a) (has.one_at_once some))
 helper_view_lists world number view (event.Give n place a) later sizes lists may has same shades keeps =
     grey_changes later view (giver_left view.grey (slice_index world.board place) a) view.visit
     (noted view.log (Gave place (slice_index world.board place))) may.out
-    (given_all (IsReached later) view.grey a (slice_index world.board place == 0) has.grey) has.snap has.one_at_once
+    (given_all (IsMarked later) view.grey a (slice_index world.board place == 0) has.grey) has.snap has.one_at_once
 helper_view_lists world number view (event.Take n place) later sizes lists may has same shades keeps =
     grey_changes later view (taker_joined view.grey (slice_index world.board place)) view.visit
     (noted view.log (Took place (slice_index world.board place))) may.out
-    (target_joins (IsReached later) view.grey (reference_in (slice_index world.board place)) has.grey
-    (some_weaker (IsReached world) (IsReached later) (reference_in (slice_index world.board place)) keeps
+    (target_joins (IsMarked later) view.grey (reference_in (slice_index world.board place)) has.grey
+    (some_weaker (IsMarked world) (IsMarked later) (reference_in (slice_index world.board place)) keeps
     (lists.board place 0 (let many : length world.board ≡ board_words = sizes.board.count in omega
     (arith, many, may.may))))) has.snap has.one_at_once
 helper_view_lists world number view _ later sizes lists may has same shades keeps = has
 
 -- and colours its cell alone, which is reached
 settle_coloured : (world : World) (word : ℕ) (snap : Option Snap) → HasLists world
-    → IfSome snap (λ s. IsReached world s.cell)
+    → IfSome snap (λ s. IsMarked world s.cell)
     → (at : ℕ) → colour_of (with_word world (option_map (λ s. Spot.Colour s.cell) snap) word) at ≢ white
     → Contains world.main.starts at
 settle_coloured world word None lists has at coloured = lists.coloured at coloured
@@ -145,29 +145,29 @@ settle_coloured world word (Some snap) lists has at coloured =
 -- a cell that a helper shaded is reached
 shaded_reached : (world : World) (number : ℕ) (view : HelperView) (n a : ℕ) → Contains world.main.starts a
     → a < length world.colours
-    → IsReached (after_helper world number (event.ShadeHelper n a) (Some view)) a
+    → IsMarked (after_helper world number (event.ShadeHelper n a) (Some view)) a
 shaded_reached world number view n a start within =
     record { start = start; coloured = shaded_coloured world.colours a within }
 
 -- the words of the board by a step of a helper
 helper_board : (world : World) (number : ℕ) (view : HelperView) (of : Event) (R : ℕ → Type 0) → HasSizes world
     → HasLists world
-    → MayHelper view of → All (IsReached world) view.grey → ((a : ℕ) → IsReached world a → R a)
+    → MayHelper view of → All (IsMarked world) view.grey → ((a : ℕ) → IsMarked world a → R a)
     → All (λ word. IfSome (reference_in word) R) (after_helper world number of (Some view)).board
 helper_board world number view (event.Give n place at) R sizes lists may grey keeps =
-    let each = all_weaker (λ (w : ℕ). IfSome (reference_in w) (IsReached world)) (λ (w : ℕ). IfSome (reference_in w) R)
+    let each = all_weaker (λ (w : ℕ). IfSome (reference_in w) (IsMarked world)) (λ (w : ℕ). IfSome (reference_in w) R)
     world.board
-    (λ w. some_weaker (IsReached world) R (reference_in w) keeps) lists.board in
+    (λ w. some_weaker (IsMarked world) R (reference_in w) keeps) lists.board in
     All-set (λ (w : ℕ). IfSome (reference_in w) R) world.board place (given_word (slice_index world.board place) at)
     (given_refers R (slice_index world.board place) at
     (each place 0 (let many : length world.board ≡ board_words = sizes.board.count in
     omega (arith, many, may.on_board)))
-    (keeps at (All-contains (IsReached world) view.grey at grey may.had))) each
+    (keeps at (All-contains (IsMarked world) view.grey at grey may.had))) each
 helper_board world number view (event.Take n place) R sizes lists may grey keeps =
     All-set (λ (w : ℕ). IfSome (reference_in w) R) world.board place 0 tt
-    (all_weaker (λ (w : ℕ). IfSome (reference_in w) (IsReached world)) (λ (w : ℕ). IfSome (reference_in w) R)
+    (all_weaker (λ (w : ℕ). IfSome (reference_in w) (IsMarked world)) (λ (w : ℕ). IfSome (reference_in w) R)
     world.board
-    (λ w. some_weaker (IsReached world) R (reference_in w) keeps) lists.board)
+    (λ w. some_weaker (IsMarked world) R (reference_in w) keeps) lists.board)
 helper_board world number view (event.LoadLayout n) R sizes lists may grey keeps =
     subst (All (λ (w : ℕ). IfSome (reference_in w) R)) (sym (load_board world (helper_spot view (event.LoadLayout n))
     (word_at world (helper_spot view (event.LoadLayout n))) (loads_layout view.snap))) (board_stays world R lists keeps)
@@ -215,34 +215,34 @@ helper_coloured world number view _ cells lists has born may at coloured = lists
 -- what a helper shades is reached then
 helper_shades : (world : World) (number : ℕ) (view : HelperView) (of : Event) → HasSizes world → HasCells world
     → AreIn world.main.born view.visit → MayHelper view of → (n a : ℕ) → of ≡ event.ShadeHelper n a
-    → IsReached (after_helper world number of (Some view)) a
+    → IsMarked (after_helper world number of (Some view)) a
 helper_shades world number view of sizes cells born may n a is =
     let visits : Contains view.visit a = subst (λ (e : Event). MayHelper view e) is may in
     let start = All-contains (Contains world.main.starts) world.main.born a cells.born
     (All-contains (Contains world.main.born) view.visit a born visits) in
-    subst (λ (e : Event). IsReached (after_helper world number e (Some view)) a) (sym is)
+    subst (λ (e : Event). IsMarked (after_helper world number e (Some view)) a) (sym is)
     (shaded_reached world number view n a start (start_old world sizes cells a start))
 
 -- a step of a helper leaves the lists right
 helper_lists : (world : World) (number : ℕ) (view : HelperView) (of : Event) → HasSizes world → HasCells world
     → HasLists world
     → HasViewLists world view → AreIn world.main.born view.visit → MayStep world of view
-    → ((a : ℕ) → IsReached world a → IsReached (after_helper world number of (Some view)) a)
+    → ((a : ℕ) → IsMarked world a → IsMarked (after_helper world number of (Some view)) a)
     → HasLists (after_helper world number of (Some view))
 helper_lists world number view of sizes cells lists has born may keeps =
     let later : World = after_helper world number of (Some view) in
     let spot : Option Spot = helper_spot view of in
     let same = with_word_main world spot (becomes of (word_at world spot)) in
     record {
-      main = subst (λ (main : MainView). All (IsReached later) main.grey) (sym same)
-          (all_weaker (IsReached world) (IsReached later) world.main.grey keeps lists.main);
+      main = subst (λ (main : MainView). All (IsMarked later) main.grey) (sym same)
+          (all_weaker (IsMarked world) (IsMarked later) world.main.grey keeps lists.main);
       helpers = All-set (HasViewLists later) world.helpers number (helper_learns world.old view of (word_at world spot))
           (helper_view_lists world number view of later sizes lists may (view_lists_stay world later view keeps has)
           (with_word_old world spot (becomes of (word_at world spot)))
           (helper_shades world number view of sizes cells born may.may) keeps)
           (all_weaker (HasViewLists world) (HasViewLists later) world.helpers (λ v. view_lists_stay world later v keeps)
           lists.helpers);
-      board = helper_board world number view of (IsReached later) sizes lists may.may has.grey keeps;
+      board = helper_board world number view of (IsMarked later) sizes lists may.may has.grey keeps;
       coloured = λ at coloured. subst (λ (main : MainView). Contains main.starts at) (sym same)
           (helper_coloured world number view of cells lists has born may.may at coloured);
     }
@@ -260,5 +260,5 @@ step_of_helper world number of sizes cells lists born may =
     (helper_lists world number view of sizes cells lists
     (of_get (HasViewLists world) world.helpers number view v.1 lists.helpers)
     (of_get (λ (w : HelperView). AreIn world.main.born w.visit) world.helpers number view v.1 born.visits) v.2
-    (subst (λ (o : Option HelperView). (a : ℕ) → IsReached world a → IsReached (after_helper world number of o) a) v.1
+    (subst (λ (o : Option HelperView). (a : ℕ) → IsMarked world a → IsMarked (after_helper world number of o) a) v.1
     keeps))

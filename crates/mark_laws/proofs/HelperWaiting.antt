@@ -11,13 +11,13 @@ use Rattle.std.proofs.lemmas.Option.{slice_get_within}
 use Rattle.tagged_word.specs.Cells.{length_offset}
 use Rattle.tagged_word.specs.Readings.{reference_in}
 use Rattle.page_space.specs.Extents.{board_words}
-use Rattle.seat_steps.proofs.Leaving.{left_keeps}
+use Rattle.core_parts.proofs.Leaving.{left_keeps}
 use Rattle.mark_laws.specs.Types.{Event, Spot, Snap, HelperView, MainView, World}
 use Rattle.mark_world.specs.declared.event.Event.TheVariants as event
 use Rattle.mark_world.specs.Steps.{becomes, grey, helper_learns, helper_spot, joined_if_white, settled, snap_settled}
 use Rattle.mark_world.specs.Steps.{white, with_layout, with_length, with_slot}
 use Rattle.mark_world.specs.Conditions.{MayHelper}
-use Rattle.mark_world.specs.AfterEvents.{after_helper, IsReached, with_word, word_at}
+use Rattle.mark_world.specs.AfterEvents.{after_helper, IsMarked, with_word, word_at}
 use Rattle.mark_world.specs.Coverage.{colour_of}
 use Rattle.mark_world.specs.Soundness.{HasGrey, HasLists, HasSizes, HasViewLists, Waits}
 use Rattle.mark_laws.proofs.Colours.{helper_rises}
@@ -29,7 +29,7 @@ use Rattle.mark_laws.proofs.Waiting.{OnBoard, one_or_other, white_keeps, white_t
 use Rattle.mark_laws.proofs.Waiting.{take_waits, grey_not_white, InView, grey_waits}
 
 -- a reached cell has a colour
-reached_within : (world : World) (at : ℕ) → IsReached world at → at < length world.colours
+reached_within : (world : World) (at : ℕ) → IsMarked world at → at < length world.colours
 reached_within world at reached = elim (cases_lt at (length world.colours)) [
   | inl within ↦ within
   | inr past ↦ absurd (reached.coloured (get_or_past world.colours at 0 past))
@@ -40,7 +40,7 @@ settled_not_grey : (colour : ℕ) → settled colour ≡ grey → ⊥
 settled_not_grey colour e = grind (arith, nat_tests)
 
 -- a cell whose snap was settled is not grey
-settle_not_grey : (world : World) (at : ℕ) (snap : Snap) → HasLists world → IsReached world snap.cell → snap.cell ≡ at
+settle_not_grey : (world : World) (at : ℕ) (snap : Snap) → HasLists world → IsMarked world snap.cell → snap.cell ≡ at
     → slice_index (slice_set world.colours snap.cell (settled (slice_index world.colours snap.cell))) at ≡ grey → ⊥
 settle_not_grey world at snap lists reached same is_grey =
     let there : slice_index (slice_set world.colours snap.cell (settled (slice_index world.colours snap.cell)))
@@ -54,7 +54,7 @@ settle_not_grey world at snap lists reached same is_grey =
 
 -- a cell that waits in a view goes on so when its snap ends, where it is grey still
 settle_waits : (world : World) (view : HelperView) (snap : Option Snap) → view.snap ≡ snap → HasLists world
-    → IfSome snap (λ s. IsReached world s.cell)
+    → IfSome snap (λ s. IsMarked world s.cell)
     → (at : ℕ) → colour_of (with_word world (option_map (λ s. Spot.Colour s.cell) snap)
     (settled (word_at world (option_map (λ s. Spot.Colour s.cell) snap)))) at ≡ grey → InView at view
     → InView at (snap_settled world.old view (word_at world (option_map (λ s. Spot.Colour s.cell) snap)) snap)
@@ -108,7 +108,7 @@ view_waits world number view (event.Give n place a) sizes lists has may at is_gr
     elim (give_waits view.grey world.board place a at
     (let many : length world.board ≡ board_words = sizes.board.count in
     omega (arith, many, may.on_board))
-    (reached_fits world sizes a (All-contains (IsReached world) view.grey a has.grey may.had)) main) [
+    (reached_fits world sizes a (All-contains (IsMarked world) view.grey a has.grey may.had)) main) [
       | inl still ↦ inl (inl still)
       | inr given ↦ inr given
     ]
@@ -150,7 +150,7 @@ load_not_grey world spot word at is was is_grey =
     omega (arith, was, is_grey, same)
 
 -- nor by the end of a snap
-settle_not_new : (world : World) (snap : Option Snap) → IfSome snap (λ s. IsReached world s.cell) → (word at : ℕ)
+settle_not_new : (world : World) (snap : Option Snap) → IfSome snap (λ s. IsMarked world s.cell) → (word at : ℕ)
     → colour_of world at ≡ white
     → colour_of (with_word world (option_map (λ s. Spot.Colour s.cell) snap) word) at ≡ grey → ⊥
 settle_not_new world None has word at was is_grey = omega (arith, was, is_grey)

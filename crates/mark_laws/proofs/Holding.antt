@@ -6,8 +6,8 @@ use Rattle.std.proofs.Common.{◌∙◌, ◌+◌, ◌&&◌, nat_le, nat_lt, arit
 use Rattle.std.proofs.lemmas.List.{get_or-set_same}
 use Rattle.std.proofs.lemmas.List.Elements.{All-contains}
 use Rattle.mark_laws.specs.Types.{Reading, Event, Actor, HelperView, MainView, World}
-use Rattle.seat_steps.specs.Lists.{joined}
-use Rattle.seat_steps.proofs.Joining.{joined_in}
+use Rattle.core_parts.specs.Lists.{joined}
+use Rattle.core_parts.proofs.Joining.{joined_in}
 use Rattle.mark_world.specs.declared.event.Event.TheVariants as event
 use Rattle.mark_world.specs.Pages.{EachFree, is_free, is_inside}
 use Rattle.mark_world.specs.Steps.{actor, black}

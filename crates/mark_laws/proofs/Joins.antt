@@ -10,9 +10,9 @@ use Rattle.tagged_word.proofs.Cells.{some_same}
 use Rattle.std.proofs.lemmas.List.Elements.{All-contains, Contains-get_or}
 use Rattle.mark_laws.specs.Types.{Reading, HelperView, World}
 use Rattle.tagged_word.proofs.Members.{first_in, in_cases, rest_in}
-use Rattle.seat_steps.specs.Lists.{joined}
-use Rattle.seat_steps.specs.Boards.{joined_by}
-use Rattle.seat_steps.proofs.Joining.{decided, joined_from, joined_in, joined_keeps}
+use Rattle.core_parts.specs.Lists.{joined}
+use Rattle.core_parts.specs.Boards.{joined_by}
+use Rattle.core_parts.proofs.Joining.{decided, joined_from, joined_in, joined_keeps}
 use Rattle.mark_world.specs.Coverage.{EachSlot, cell_of}
 use Rattle.mark_world.specs.Pages.{OfTarget, slots_of, target, targets_joined}
 use Rattle.mark_world.specs.Steps.{all_joined}

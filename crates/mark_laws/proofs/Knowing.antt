@@ -5,7 +5,7 @@ use Rattle.tagged_word.specs.declared.layout.Kind.TheVariants as kind
 use Rattle.mark_laws.specs.Types.{Reading, Event, Actor, HelperView, MainView, World}
 use Rattle.tagged_word.specs.Readings.{reference_in}
 use Rattle.tagged_word.proofs.Members.{first_in, in_cases, rest_in}
-use Rattle.seat_steps.proofs.Joining.{joined_from}
+use Rattle.core_parts.proofs.Joining.{joined_from}
 use Rattle.std.proofs.lemmas.List.Elements.{All-contains}
 use Rattle.mark_world.specs.declared.event.Event.TheVariants as event
 use Rattle.mark_world.specs.Pages.{OfTarget, target}
@@ -15,7 +15,7 @@ use Rattle.mark_world.specs.AfterEvents.{after, after_helper, after_main, after_
 use Rattle.mark_world.specs.AfterEvents.{PossibleStep}
 use Rattle.mark_world.specs.Soundness.{AreIn}
 use Rattle.mark_world.specs.BornCells.{HasBorn}
-use Rattle.mark_world.specs.BetweenCommands.{HasSureTarget, IsYoungOrBorn, any_cell, key_word, value_word}
+use Rattle.mark_world.specs.BetweenCommands.{IsYoungOrBorn, any_cell, key_word, value_word}
 use Rattle.mark_world.specs.Unfinished.{made_after}
 use Rattle.mark_world.specs.Knowing.{IsKnownCell, KnownBut, SparesKnown, SparesTables, key_place}
 use Rattle.mark_laws.specs.Growing.{Grows}
@@ -44,12 +44,6 @@ born_later : (world later : World) (word : ℕ) → later.old ≡ world.old → 
 born_later world later word same grown =
     target_in world.old later.old word world.main.born later.main.born same grown.born
 
--- and so has one with a sure target
-sure_later : (world later : World) (word : ℕ) → later.old ≡ world.old → Grows world.main later.main
-    → HasSureTarget world word → HasSureTarget later word
-sure_later world later word same grown =
-    target_in world.old later.old word world.main.sure later.main.sure same grown.sure
-
 -- the root words' targets are born once the lists have grown
 roots_later : (world later : World) (roots : List ℕ) → later.old ≡ world.old → Grows world.main later.main
     → All (HasBorn world) roots → All (HasBorn later) roots
@@ -66,9 +60,9 @@ grown_known : (world later : World) (young more reached : List ℕ) (count at : 
     → IsKnownCell world young reached count at → IsKnownCell later more reached count at
 grown_known world later young more reached count at pages grown fewer new known =
     carry_known world later young more reached count at (λ cell e. any_same world later pages at ∙ e)
-    (λ is_young cell e offset c. subst (λ (ws : List ℕ). HasSureTarget later (slice_index ws (at + offset)))
+    (λ is_young cell e offset c. subst (λ (ws : List ℕ). HasBorn later (slice_index ws (at + offset)))
     (sym pages.words)
-    (sure_later world later (slice_index world.words (at + offset)) pages.old grown
+    (born_later world later (slice_index world.words (at + offset)) pages.old grown
     (known.slots (fewer is_young) cell e offset c)))
     (λ table e is_table born pair key within refers kept.
     let was : reference_in (key_word world at pair) ≡ Some key =

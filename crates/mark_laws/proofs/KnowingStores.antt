@@ -11,10 +11,9 @@ use Rattle.tagged_word.proofs.Cells.{made, slot_within, some_same, tagged_is_sca
 use Rattle.tagged_word.proofs.CellReadings.{cell_from}
 use Rattle.mark_world.specs.Pages.{OfTarget, is_head_of, slots_of, target}
 use Rattle.mark_world.specs.Safety.{IsSafe, IsSafeChange, laid_in, slots_by}
-use Rattle.mark_world.specs.Conditions.{AreSureAfter}
 use Rattle.mark_world.specs.BornCells.{HasBorn}
-use Rattle.mark_world.specs.BetweenCommands.{HasBornValues, HasSureTarget, IsBornObject, IsYoungOrBorn, any_cell}
-use Rattle.mark_world.specs.Knowing.{IsKnownCell, SparesCell, SparesHead, key_place}
+use Rattle.mark_world.specs.BetweenCommands.{HasBornValues, IsBornObject, IsYoungOrBorn, any_cell}
+use Rattle.mark_world.specs.Knowing.{IsKnownCell, SparesCell, SparesHead, key_place, AreBornAfter}
 use Rattle.mark_laws.proofs.AnyCells.{any_changed, any_read, any_stays, bound_by, header_no_reference, put_either}
 use Rattle.mark_laws.proofs.KnownCells.{carry_known}
 use Rattle.mark_laws.proofs.Laid.{laid_from, laid_of, plain_any, read_laid, safe_from}
@@ -47,11 +46,11 @@ stored_young : (world : World) (at word : ℕ) (owed young reached : List ℕ) (
     → SparesCell world young at word start → IsKnownCell world young reached count start
     → Contains young start → (cell : Reading) → any_cell world start ≡ Some cell → (offset : ℕ)
     → Contains (slots_of cell) offset
-    → HasSureTarget (stored world at word owed) (slice_index (slice_set world.words at word) (start + offset))
+    → HasBorn (stored world at word owed) (slice_index (slice_set world.words at word) (start + offset))
 stored_young world at word owed young reached count start spares known is_young cell e offset c =
     elim (put_either world.words at word (start + offset)) [
-      | inl put ↦ subst (HasSureTarget world) (sym put.1) (spares.slot is_young cell e offset c put.0)
-      | inr stays ↦ subst (HasSureTarget world) (sym stays) (known.slots is_young cell e offset c)
+      | inl put ↦ subst (HasBorn world) (sym put.1) (spares.slot is_young cell e offset c put.0)
+      | inr stays ↦ subst (HasBorn world) (sym stays) (known.slots is_young cell e offset c)
     ]
 
 -- a cell that a store spares is known after it
@@ -78,7 +77,7 @@ header_spares world young at word start is_safe no_head =
     record {
       no_head = no_head;
       slot = λ is_young cell e offset c same.
-          subst (λ (o : Option ℕ). IfSome o (Contains world.main.sure)) (sym none) tt;
+          subst (λ (o : Option ℕ). IfSome o (Contains world.main.born)) (sym none) tt;
       key = λ table pair key e is_table within same refers kept.
           absurd (let both : None ≡ Some key = sym nothing ∙ refers in cc);
       value = λ table pair key e is_table within same refers kept.
@@ -102,15 +101,15 @@ plain_no_table k plain table = let both : kind.Plain ≡ kind.Table = sym plain 
 changed_young : (world : World) (at word : ℕ) (owed : List ℕ) (cell : Reading) (new : Laid) (offset : ℕ)
     → laid_in world.layouts (slice_index world.words at) ≡ Some (laid_of cell)
     → laid_in world.layouts word ≡ Some new → cell.layout.kind ≡ kind.Plain
-    → AreSureAfter world.old world.words world.layouts world.main at word
-    → ((o : ℕ) → Contains (slots_of cell) o → HasSureTarget world (slice_index world.words (at + o)))
+    → AreBornAfter world at word
+    → ((o : ℕ) → Contains (slots_of cell) o → HasBorn world (slice_index world.words (at + o)))
     → Contains (tagged_offsets new.layout 0) offset
-    → HasSureTarget world (slice_index world.words (at + offset))
+    → HasBorn world (slice_index world.words (at + offset))
 changed_young world at word owed cell new offset was is plain are_sure before there =
     let tagged : Contains (slots_by (laid_in world.layouts word) 0) offset =
     subst (λ (o : Option Laid). Contains (slots_by o 0) offset) (sym is) there in
     elim (All-contains (λ (o : ℕ). Contains (slots_by (laid_in world.layouts (slice_index world.words at)) 0) o
-    ⊎ OfTarget world.old (slice_index world.words (at + o)) (λ to. Contains world.main.sure to))
+    ⊎ HasBorn world (slice_index world.words (at + o)))
     (slots_by (laid_in world.layouts word) 0) offset are_sure tagged) [
       | inl had ↦ before offset (subst (λ (xs : List ℕ). Contains xs offset)
           (plain_any cell.layout 0 cell.length plain)
@@ -133,7 +132,7 @@ plain_object k plain = subst (λ (k : Kind). IsTrue (is_object_kind k)) (sym pla
 -- a cell whose own header changes is known after it
 own_head_known : (world : World) (at word : ℕ) (young reached : List ℕ) (count : ℕ)
     → IsSafe world.layouts (slice_index world.words at) word
-    → (Contains young at → AreSureAfter world.old world.words world.layouts world.main at word)
+    → (Contains young at → AreBornAfter world at word)
     → IsKnownCell world young reached count at
     → IsKnownCell (stored world at word world.main.owed) young reached count at
 own_head_known world at word young reached count is_safe are_sure known =
@@ -153,7 +152,7 @@ own_head_known world at word young reached count is_safe are_sure known =
       slots = λ is_young other f offset c.
           let there : Contains (tagged_offsets safe.new.layout 0) offset =
           subst (λ (r : Reading). Contains (slots_of r) offset) (some_same f e) c in
-          subst (HasSureTarget world)
+          subst (HasBorn world)
           (sym (slot_word_stays world at word offset
           (any_slot_behind later at now offset e there)))
           (changed_young world at word world.main.owed cell safe.new offset was safe.is change.old_plain

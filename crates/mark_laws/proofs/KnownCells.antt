@@ -8,7 +8,7 @@ use Rattle.tagged_word.proofs.Cells.{some_same}
 use Rattle.tagged_word.proofs.Members.{in_cases}
 use Rattle.mark_world.specs.Pages.{slots_of}
 use Rattle.mark_world.specs.BornCells.{HasBorn}
-use Rattle.mark_world.specs.BetweenCommands.{HasBornValues, HasSureTarget, IsYoungOrBorn, Known, any_cell}
+use Rattle.mark_world.specs.BetweenCommands.{HasBornValues, IsYoungOrBorn, Known, any_cell}
 use Rattle.mark_world.specs.Soundness.{AreIn}
 use Rattle.mark_world.specs.Knowing.{IsKnownCell, KeptAreRead, KnownBut}
 use Rattle.mark_laws.proofs.Joins.{all_from}
@@ -26,7 +26,7 @@ each_known world roots young reached count known at kept = elim (known.cells at 
 -- the slots of each young cell hold sure targets
 abbrev young_slots : World → ℕ → Reading → Type 0
 young_slots world at cell =
-    All (λ offset. HasSureTarget world (slice_index world.words (at + offset))) (slots_of cell)
+    All (λ offset. HasBorn world (slice_index world.words (at + offset))) (slots_of cell)
 
 -- with no cell to make what is known but of it is known
 known_of_none : (world : World) (roots young reached : List ℕ) (count : ℕ)
@@ -36,7 +36,7 @@ known_of_none world roots young reached count known = (
     from_roots = known.from_roots;
     from_young = all_from (λ at. IfSome (any_cell world at) (young_slots world at)) young (λ at c.
         some_from (young_slots world at) (any_cell world at) (λ cell e.
-        all_from (λ offset. HasSureTarget world (slice_index world.words (at + offset))) (slots_of cell)
+        all_from (λ offset. HasBorn world (slice_index world.words (at + offset))) (slots_of cell)
         ((each_known world roots young reached count known at (inl c)).slots c cell e)));
     from_pairs = λ at table kept e is_table.
         (each_known world roots young reached count known at kept).pairs table e is_table;
@@ -54,7 +54,7 @@ known_back world roots young reached count both = record {
   cells = λ at kept. inr record {
     reads = both.1 at kept;
     slots = λ is_young cell e offset c.
-        All-contains (λ (o : ℕ). HasSureTarget world (slice_index world.words (at + o))) (slots_of cell) offset
+        All-contains (λ (o : ℕ). HasBorn world (slice_index world.words (at + o))) (slots_of cell) offset
         (some_at (young_slots world at) (any_cell world at) cell e
         (All-contains (λ (a : ℕ). IfSome (any_cell world a) (young_slots world a)) young at both.0.from_young is_young))
         c;
@@ -106,7 +106,7 @@ roots_may_change world made roots others young reached count born known =
 pub carry_known : (world later : World) (young fewer reached : List ℕ) (count at : ℕ)
     → ((cell : Reading) → any_cell world at ≡ Some cell → any_cell later at ≡ Some cell)
     → (Contains fewer at → (cell : Reading) → any_cell world at ≡ Some cell → (offset : ℕ)
-    → Contains (slots_of cell) offset → HasSureTarget later (slice_index later.words (at + offset)))
+    → Contains (slots_of cell) offset → HasBorn later (slice_index later.words (at + offset)))
     → ((table : Reading) → any_cell world at ≡ Some table → table.layout.kind ≡ kind.Table
     → HasBornValues world young at table → HasBornValues later fewer at table)
     → IsKnownCell world young reached count at → IsKnownCell later fewer reached count at

@@ -3,7 +3,7 @@ use Rattle.std.proofs.Common.{ℕ, ◌≡◌, ◌≢◌, List, All}
 use Rattle.std.proofs.lemmas.List.Elements.{All-contains}
 use Rattle.mark_laws.specs.Types.{World}
 use Rattle.mark_world.specs.Steps.{black, white}
-use Rattle.mark_world.specs.AfterEvents.{IsReached}
+use Rattle.mark_world.specs.AfterEvents.{IsMarked}
 use Rattle.mark_world.specs.Coverage.{IsCovered, colour_of}
 use Rattle.mark_world.specs.Soundness.{Sound}
 use Rattle.mark_world.specs.BetweenCommands.{IsDrained, Settled}
@@ -13,7 +13,7 @@ use Rattle.mark_laws.proofs.Joins.{all_from, of_target}
 
 -- each cell that such words lead to is published and not white
 led_reached : (world : World) (words : List ℕ) → Sound world → Settled world → IsDrained world
-    → All (HasColouredTarget world) words → (at : ℕ) → LedTo world words at → IsReached world at
+    → All (HasColouredTarget world) words → (at : ℕ) → LedTo world words at → IsMarked world at
 led_reached world words sound settled drained each _ (LedTo.root from at there refers) =
     let coloured = of_target world.old from at (λ (to : ℕ). colour_of world to ≢ white) refers
     (All-contains (HasColouredTarget world) words from each there) in

@@ -9,13 +9,13 @@ use Rattle.mark_laws.specs.Types.{Header, Event, Actor, Spot, Snap, HelperView, 
 use Rattle.tagged_word.specs.Words.{bits_of}
 use Rattle.tagged_word.specs.Readings.{header_in, reference_in}
 use Rattle.tagged_word.proofs.Readings.{reference_from}
-use Rattle.seat_steps.specs.Lists.{joined, left}
-use Rattle.seat_steps.specs.Boards.{given_word}
-use Rattle.seat_steps.proofs.Joining.{joined_keeps}
-use Rattle.seat_steps.proofs.Leaving.{left_from}
+use Rattle.core_parts.specs.Lists.{joined, left}
+use Rattle.core_parts.specs.Boards.{given_word}
+use Rattle.core_parts.proofs.Joining.{joined_keeps}
+use Rattle.core_parts.proofs.Leaving.{left_from}
 use Rattle.mark_world.specs.declared.event.Event.TheVariants as event
 use Rattle.mark_world.specs.Steps.{all_joined, layout_spot, white}
-use Rattle.mark_world.specs.AfterEvents.{after_main, after_return, after_step, IsReached, with_word, word_at}
+use Rattle.mark_world.specs.AfterEvents.{after_main, after_return, after_step, IsMarked, with_word, word_at}
 use Rattle.mark_world.specs.Coverage.{colour_of}
 use Rattle.mark_world.specs.Soundness.{HasLists, HasSizes, HasViewLists}
 use Rattle.mark_laws.proofs.Colours.{put_or_stays, step_rises}
@@ -73,8 +73,8 @@ starts_stay world of Actor.Lends at c = c
 starts_stay world of (Actor.Returns number) at c = return_starts world number (slice_get world.helpers number) at c
 
 -- what is reached stays so
-pub reached_stays : (world : World) (of : Event) (by : Actor) → HasSizes world → (at : ℕ) → IsReached world at
-    → IsReached (after_step world of by) at
+pub reached_stays : (world : World) (of : Event) (by : Actor) → HasSizes world → (at : ℕ) → IsMarked world at
+    → IsMarked (after_step world of by) at
 reached_stays world of by sizes at reached = record {
   start = starts_stay world of by at reached.start;
   coloured = λ is_white. reached.coloured (let rise = step_rises world of by sizes at in
@@ -106,11 +106,11 @@ put_colour colours a word at coloured = elim (put_or_stays colours a word at) [
 ]
 
 -- the lists of a helper whose view is as before
-pub view_lists_stay : (world later : World) (view : HelperView) → ((a : ℕ) → IsReached world a → IsReached later a)
+pub view_lists_stay : (world later : World) (view : HelperView) → ((a : ℕ) → IsMarked world a → IsMarked later a)
     → HasViewLists world view → HasViewLists later view
 view_lists_stay world later view keeps has = record {
-  grey = all_weaker (IsReached world) (IsReached later) view.grey keeps has.grey;
-  snap = some_weaker (λ (s : Snap). IsReached world s.cell) (λ (s : Snap). IsReached later s.cell) view.snap
+  grey = all_weaker (IsMarked world) (IsMarked later) view.grey keeps has.grey;
+  snap = some_weaker (λ (s : Snap). IsMarked world s.cell) (λ (s : Snap). IsMarked later s.cell) view.snap
       (λ s. keeps s.cell) has.snap;
   one_at_once = has.one_at_once;
   in_hand = has.in_hand;
@@ -173,11 +173,11 @@ settle_board world word None = refl
 settle_board world word (Some snap) = refl
 
 -- words of the board that stay
-pub board_stays : (world : World) (R : ℕ → Type 0) → HasLists world → ((a : ℕ) → IsReached world a → R a)
+pub board_stays : (world : World) (R : ℕ → Type 0) → HasLists world → ((a : ℕ) → IsMarked world a → R a)
     → All (λ word. IfSome (reference_in word) R) world.board
 board_stays world R lists keeps =
-    all_weaker (λ (w : ℕ). IfSome (reference_in w) (IsReached world)) (λ (w : ℕ). IfSome (reference_in w) R) world.board
-    (λ w. some_weaker (IsReached world) R (reference_in w) keeps) lists.board
+    all_weaker (λ (w : ℕ). IfSome (reference_in w) (IsMarked world)) (λ (w : ℕ). IfSome (reference_in w) R) world.board
+    (λ w. some_weaker (IsMarked world) R (reference_in w) keeps) lists.board
 
 -- a word that is put leaves the number of old words
 pub with_word_old : (world : World) (spot : Option Spot) (word : ℕ) → (with_word world spot word).old ≡ world.old

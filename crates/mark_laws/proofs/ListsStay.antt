@@ -6,7 +6,7 @@ use Rattle.std.proofs.lemmas.List.Elements.{All-append, All-set}
 use Rattle.tagged_word.specs.Readings.{reference_in}
 use Rattle.mark_laws.specs.Types.{Event, Actor, Snap, HelperView, World}
 use Rattle.mark_world.specs.Steps.{actor, all_joined, lent, returned}
-use Rattle.mark_world.specs.AfterEvents.{after, after_return, after_step, IsReached, Possible, PossibleStep}
+use Rattle.mark_world.specs.AfterEvents.{after, after_return, after_step, IsMarked, Possible, PossibleStep}
 use Rattle.mark_world.specs.Soundness.{HasCells, HasLists, HasSizes, HasViewLists}
 use Rattle.mark_world.specs.BornCells.{Born}
 use Rattle.mark_laws.proofs.Joins.{of_get, some_and}
@@ -19,9 +19,9 @@ use Rattle.mark_laws.proofs.HelperListing.{step_of_helper}
 lend_lists : (world : World) (of : Event) → HasSizes world → HasLists world → HasLists (after_step world of Actor.Lends)
 lend_lists world of sizes lists =
     let later : World = after_step world of Actor.Lends in
-    let keeps : (a : ℕ) → IsReached world a → IsReached later a = reached_stays world of Actor.Lends sizes in
+    let keeps : (a : ℕ) → IsMarked world a → IsMarked later a = reached_stays world of Actor.Lends sizes in
     record {
-      main = all_weaker (IsReached world) (IsReached later) world.main.grey keeps lists.main;
+      main = all_weaker (IsMarked world) (IsMarked later) world.main.grey keeps lists.main;
       helpers = All-append (HasViewLists later) world.helpers (lent ∷ [])
           (all_weaker (HasViewLists world) (HasViewLists later) world.helpers
           (λ view. view_lists_stay world later view keeps) lists.helpers)
@@ -31,9 +31,9 @@ lend_lists world of sizes lists =
             one_at_once = λ some. refl;
             in_hand = λ out. cc;
           });
-      board = all_weaker (λ (w : ℕ). IfSome (reference_in w) (IsReached world))
-          (λ (w : ℕ). IfSome (reference_in w) (IsReached later)) world.board
-          (λ w. some_weaker (IsReached world) (IsReached later) (reference_in w) keeps) lists.board;
+      board = all_weaker (λ (w : ℕ). IfSome (reference_in w) (IsMarked world))
+          (λ (w : ℕ). IfSome (reference_in w) (IsMarked later)) world.board
+          (λ w. some_weaker (IsMarked world) (IsMarked later) (reference_in w) keeps) lists.board;
       coloured = lists.coloured;
     }
 
@@ -54,25 +54,25 @@ snap_joins R (Some snap) h = h
 
 -- taking a seat back leaves them right
 return_lists : (world : World) (number : ℕ) (view : HelperView) → HasLists world → HasViewLists world view
-    → ((a : ℕ) → IsReached world a → IsReached (after_return world number (Some view)) a)
+    → ((a : ℕ) → IsMarked world a → IsMarked (after_return world number (Some view)) a)
     → HasLists (after_return world number (Some view))
 return_lists world number view lists has keeps =
     let later : World = after_return world number (Some view) in
     record {
-      main = target_joins (IsReached later) (all_joined world.main.grey view.grey)
+      main = target_joins (IsMarked later) (all_joined world.main.grey view.grey)
           (option_map (λ (s : Snap). s.cell) view.snap)
-          (all_join (IsReached later) world.main.grey view.grey
-          (all_weaker (IsReached world) (IsReached later) world.main.grey keeps lists.main)
-          (all_weaker (IsReached world) (IsReached later) view.grey keeps has.grey))
-          (snap_joins (IsReached later) view.snap
-          (some_weaker (λ (s : Snap). IsReached world s.cell) (λ (s : Snap). IsReached later s.cell) view.snap
+          (all_join (IsMarked later) world.main.grey view.grey
+          (all_weaker (IsMarked world) (IsMarked later) world.main.grey keeps lists.main)
+          (all_weaker (IsMarked world) (IsMarked later) view.grey keeps has.grey))
+          (snap_joins (IsMarked later) view.snap
+          (some_weaker (λ (s : Snap). IsMarked world s.cell) (λ (s : Snap). IsMarked later s.cell) view.snap
           (λ s. keeps s.cell) has.snap));
       helpers = All-set (HasViewLists later) world.helpers number returned (returned_lists later)
           (all_weaker (HasViewLists world) (HasViewLists later) world.helpers (λ v. view_lists_stay world later v keeps)
           lists.helpers);
-      board = all_weaker (λ (w : ℕ). IfSome (reference_in w) (IsReached world))
-          (λ (w : ℕ). IfSome (reference_in w) (IsReached later)) world.board
-          (λ w. some_weaker (IsReached world) (IsReached later) (reference_in w) keeps) lists.board;
+      board = all_weaker (λ (w : ℕ). IfSome (reference_in w) (IsMarked world))
+          (λ (w : ℕ). IfSome (reference_in w) (IsMarked later)) world.board
+          (λ w. some_weaker (IsMarked world) (IsMarked later) (reference_in w) keeps) lists.board;
       coloured = lists.coloured;
     }
 
@@ -85,7 +85,7 @@ step_of_return world number of sizes lists may =
     let keeps = reached_stays world of (Actor.Returns number) sizes in
     subst (λ (o : Option HelperView). HasLists (after_return world number o)) (sym v.1)
     (return_lists world number v.0 lists (of_get (HasViewLists world) world.helpers number v.0 v.1 lists.helpers)
-    (subst (λ (o : Option HelperView). (a : ℕ) → IsReached world a → IsReached (after_return world number o) a) v.1
+    (subst (λ (o : Option HelperView). (a : ℕ) → IsMarked world a → IsMarked (after_return world number o) a) v.1
     keeps))
 
 -- every step

@@ -12,16 +12,16 @@ use Rattle.std.proofs.lemmas.List.Elements.{All-contains, All-nil, All-replicate
 use Rattle.tagged_word.specs.Readings.{reference_in}
 use Rattle.page_space.specs.Extents.{board_words}
 use Rattle.mark_laws.specs.Types.{Note, Event, Actor, HelperView, MainView, World}
-use Rattle.seat_steps.specs.declared.note.Note.TheVariants.{Coloured, Gave, Took}
-use Rattle.seat_steps.specs.Boards.{empty_board, giver_left, joined_by, taker_joined}
-use Rattle.seat_steps.specs.Lists.{is_in, left}
-use Rattle.seat_steps.proofs.Handing.{empty_is_board}
-use Rattle.seat_steps.proofs.Joining.{decided, found_in, in_found}
+use Rattle.core_parts.specs.declared.note.Note.TheVariants.{Coloured, Gave, Took}
+use Rattle.core_parts.specs.Boards.{empty_board, giver_left, joined_by, taker_joined}
+use Rattle.core_parts.specs.Lists.{is_in, left}
+use Rattle.core_parts.proofs.Handing.{empty_is_board}
+use Rattle.core_parts.proofs.Joining.{decided, found_in, in_found}
 use Rattle.mark_world.specs.declared.event.Event.TheVariants as event
 use Rattle.mark_world.specs.Pages.{target, targets_joined}
 use Rattle.mark_world.specs.Steps.{actor, black, free_slot_words, grey, joined_if_white, noted, white}
 use Rattle.mark_world.specs.Conditions.{MayMain}
-use Rattle.mark_world.specs.AfterEvents.{IsReached, Possible, PossibleStep, after, after_main, after_step}
+use Rattle.mark_world.specs.AfterEvents.{IsMarked, Possible, PossibleStep, after, after_main, after_step}
 use Rattle.mark_world.specs.Coverage.{HasCovered, IsCovered, cell_of, colour_of}
 use Rattle.mark_world.specs.Soundness.{AreIn, HasCells, HasLists, HasSizes, HasSure, HasViewLists}
 use Rattle.mark_world.specs.Soundness.{IsTrueSnap, Sound, Waits}
@@ -140,9 +140,9 @@ cells_there world sound = record {
 -- and the lists
 lists_there : (world : World) → HasMainSound world → HasLists (standing world)
 lists_there world sound = record {
-  main = All-nil (IsReached (standing world));
+  main = All-nil (IsMarked (standing world));
   helpers = All-nil (HasViewLists (standing world));
-  board = All-replicate (λ word. IfSome (reference_in word) (IsReached (standing world))) board_words 0 tt;
+  board = All-replicate (λ word. IfSome (reference_in word) (IsMarked (standing world))) board_words 0 tt;
   coloured = λ at coloured. All-contains (Contains world.main.starts) world.main.born at sound.born
       (coloured_born world sound at coloured);
 }

@@ -5,12 +5,12 @@ use Rattle.std.proofs.lemmas.Bool.{cases_lt}
 use Rattle.std.proofs.lemmas.List.Elements.{All-contains}
 use Rattle.tagged_word.specs.Readings.{reference_in}
 use Rattle.page_space.specs.Extents.{board_words}
-use Rattle.seat_steps.proofs.Leaving.{left_keeps}
+use Rattle.core_parts.proofs.Leaving.{left_keeps}
 use Rattle.mark_laws.specs.Types.{Event, Actor, World}
 use Rattle.mark_world.specs.declared.event.Event.TheVariants as event
 use Rattle.mark_world.specs.Steps.{becomes, grey, joined_if_white, white}
 use Rattle.mark_world.specs.Conditions.{MayMain}
-use Rattle.mark_world.specs.AfterEvents.{after_main, IsReached}
+use Rattle.mark_world.specs.AfterEvents.{after_main, IsMarked}
 use Rattle.mark_world.specs.Coverage.{colour_of}
 use Rattle.mark_world.specs.Soundness.{HasCells, HasGrey, HasLists, HasSizes, Waits}
 use Rattle.mark_laws.proofs.Colours.{step_rises}
@@ -38,7 +38,7 @@ main_waits world (event.GiveMain place a) sizes cells lists may at is_grey (inl 
     elim (give_waits world.main.grey world.board place a at
     (let many : length world.board ≡ board_words = sizes.board.count in
     omega (arith, many, may.on_board))
-    (reached_fits world sizes a (All-contains (IsReached world) world.main.grey a lists.main may.had)) main) [
+    (reached_fits world sizes a (All-contains (IsMarked world) world.main.grey a lists.main may.had)) main) [
       | inl still ↦ inl still
       | inr given ↦ inr (inr given)
     ]

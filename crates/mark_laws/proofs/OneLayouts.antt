@@ -6,13 +6,13 @@ use Rattle.std.proofs.lemmas.Option.{slice_get_within}
 use Rattle.mark_laws.specs.Types.{Reading, Event, Laid, Snap, SnapSlot, HelperView, World}
 use Rattle.tagged_word.specs.Cells.{marks_by_length, tagged_offsets}
 use Rattle.tagged_word.proofs.Members.{in_map}
-use Rattle.seat_steps.proofs.Joining.{decided}
+use Rattle.core_parts.proofs.Joining.{decided}
 use Rattle.mark_world.specs.declared.event.Event.TheVariants as event
 use Rattle.mark_world.specs.Pages.{is_free, slots_of}
 use Rattle.mark_world.specs.Safety.{slots_by}
 use Rattle.mark_world.specs.Naming.{IsReadOut, Named, named, read_offsets}
 use Rattle.mark_world.specs.Steps.{grey, white}
-use Rattle.mark_world.specs.AfterEvents.{IsReached, MayStep, WerePossible, moment}
+use Rattle.mark_world.specs.AfterEvents.{IsMarked, MayStep, WerePossible, moment}
 use Rattle.mark_world.specs.Coverage.{EachSlot, HasCovered, cell_of, colour_of}
 use Rattle.mark_world.specs.Soundness.{IsTrueSnap, Sound, header_slots}
 use Rattle.mark_world.specs.OneLayouts.{HasOneLayout, KeepsSlots, OneLayout, WasLoaded}
@@ -69,7 +69,7 @@ grey_start world sound at is_grey =
 
 -- the load of a header finds its cell reached
 load_reached : (world : World) (number cell : ℕ)
-    → IsSomeAnd (slice_get world.helpers number) (MayStep world (event.LoadHeader number cell)) → IsReached world cell
+    → IsSomeAnd (slice_get world.helpers number) (MayStep world (event.LoadHeader number cell)) → IsMarked world cell
 load_reached world number cell may =
     (some_and (MayStep world (event.LoadHeader number cell)) (slice_get world.helpers number) may).2.asks
 

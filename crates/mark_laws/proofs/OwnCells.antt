@@ -4,9 +4,9 @@ use Rattle.std.proofs.Common.{IfSome, if◌then◌else◌, sym, subst, arith}
 use Rattle.std.specs.Option.{option_map}
 use Rattle.std.proofs.lemmas.List.Elements.{All-contains}
 use Rattle.tagged_word.specs.Readings.{reference_in}
-use Rattle.seat_steps.specs.Boards.{joined_by}
-use Rattle.seat_steps.specs.Lists.{joined, left}
-use Rattle.seat_steps.proofs.Leaving.{left_from}
+use Rattle.core_parts.specs.Boards.{joined_by}
+use Rattle.core_parts.specs.Lists.{joined, left}
+use Rattle.core_parts.proofs.Leaving.{left_from}
 use Rattle.mark_laws.specs.Types.{Event, Snap, HelperView}
 use Rattle.mark_world.specs.declared.event.Event.TheVariants as event
 use Rattle.mark_world.specs.Pages.{target, targets_joined}

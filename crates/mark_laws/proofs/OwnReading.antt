@@ -5,10 +5,10 @@ use Rattle.std.specs.Option.{option_map}
 use Rattle.std.proofs.lemmas.List.{map-append}
 use Rattle.std.proofs.lemmas.List.Elements.{All-push, Contains-get_or}
 use Rattle.std.proofs.lemmas.List.Quantifiers.{all_pairs_push}
-use Rattle.seat_steps.specs.Lists.{HasNoRepeats}
-use Rattle.seat_steps.specs.Boards.{joined_by}
-use Rattle.seat_steps.proofs.Joining.{joined_no_repeats}
-use Rattle.seat_steps.proofs.Leaving.{left_no_repeats}
+use Rattle.core_parts.specs.Lists.{HasNoRepeats}
+use Rattle.core_parts.specs.Boards.{joined_by}
+use Rattle.core_parts.proofs.Joining.{joined_no_repeats}
+use Rattle.core_parts.proofs.Leaving.{left_no_repeats}
 use Rattle.mark_laws.specs.Types.{Event, Snap, SnapSlot, HelperView}
 use Rattle.mark_world.specs.declared.event.Event.TheVariants as event
 use Rattle.mark_world.specs.Pages.{target, targets_joined}

@@ -10,7 +10,7 @@ use Rattle.mark_world.specs.declared.event.Event.TheVariants as event
 use Rattle.mark_world.specs.Naming.{Named, named}
 use Rattle.mark_world.specs.Steps.{actor, black, grey}
 use Rattle.mark_world.specs.Conditions.{MayHelper}
-use Rattle.mark_world.specs.AfterEvents.{AsksWorld, IsReached, MayStep, Possible, PossibleStep}
+use Rattle.mark_world.specs.AfterEvents.{AsksWorld, IsMarked, MayStep, Possible, PossibleStep}
 use Rattle.mark_world.specs.Coverage.{colour_of}
 use Rattle.mark_world.specs.Soundness.{HasViewLists, IsTrueSnap, Sound}
 use Rattle.mark_laws.specs.OwnViews.{AsksOwnView, HasSnap}
@@ -24,9 +24,9 @@ use Rattle.mark_laws.proofs.Starts.{start_old}
 
 -- the cell of a helper's snap is reached
 pub snap_reached : (world : World) (view : HelperView) (snap : Snap) → Sound world → HasSnap world view snap
-    → IsReached world snap.cell
+    → IsMarked world snap.cell
 snap_reached world view snap sound has =
-    some_at (λ (s : Snap). IsReached world s.cell) view.snap snap has.has
+    some_at (λ (s : Snap). IsMarked world s.cell) view.snap snap has.has
     (All-contains (HasViewLists world) world.helpers view sound.lists.helpers has.there).snap
 
 -- the snap of a grey cell is true
@@ -68,7 +68,7 @@ nameless_black world view snap sound has none =
 asks_on : (world : World) (view : HelperView) (of : Event) → HasViewLists world view → AsksOwnView view of
     → AsksWorld world of
 asks_on world view (event.LoadHeader n cell) lists asks =
-    All-contains (IsReached world) view.grey cell lists.grey asks
+    All-contains (IsMarked world) view.grey cell lists.grey asks
 asks_on world view _ lists asks = tt
 
 -- a step that the view of a seat allows is possible
@@ -85,20 +85,20 @@ allowed_possible world number view of sound there out by may asks =
     })
 
 -- what is reached is old
-pub reached_old : (world : World) (at : ℕ) → Sound world → IsReached world at → at < world.old
+pub reached_old : (world : World) (at : ℕ) → Sound world → IsMarked world at → at < world.old
 reached_old world at sound reached =
     let within = start_old world sound.sizes sound.cells at reached.start in
     omega (arith, within, sound.sizes.colours)
 
 -- a reference that is reached refers to an old cell
-old_of : (world : World) (o : Option ℕ) → Sound world → IsSome o → IfSome o (IsReached world)
+old_of : (world : World) (o : Option ℕ) → Sound world → IsSome o → IfSome o (IsMarked world)
     → IsSomeAnd o (λ at. at < world.old)
 old_of world None sound is reached = cc
 old_of world (Some at) sound is reached = reached_old world at sound reached
 
 -- a word of the board refers to an old cell
 refers_old : (world : World) (word : ℕ) → Sound world → (word ≡ 0) ⊎ IsSome (reference_in word)
-    → IfSome (reference_in word) (IsReached world)
+    → IfSome (reference_in word) (IsMarked world)
     → (word ≡ 0) ⊎ IsSomeAnd (reference_in word) (λ at. at < world.old)
 refers_old world word sound (inl none) reached = inl none
 refers_old world word sound (inr refers) reached = inr (old_of world (reference_in word) sound refers reached)

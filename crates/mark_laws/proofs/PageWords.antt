@@ -6,7 +6,7 @@ use Rattle.mark_laws.specs.Types.{Reading, Note, Snap, HelperView, World}
 use Rattle.tagged_word.specs.Readings.{reference_in}
 use Rattle.tagged_word.proofs.CellReadings.{cell_from}
 use Rattle.mark_world.specs.Pages.{is_inside, page_end}
-use Rattle.mark_world.specs.AfterEvents.{IsReached}
+use Rattle.mark_world.specs.AfterEvents.{IsMarked}
 use Rattle.mark_world.specs.Coverage.{EachSlot, cell_of}
 use Rattle.mark_world.specs.Soundness.{HasCells, HasLists, HasSizes, HasViewLists}
 use Rattle.mark_laws.proofs.Alike.{page_cells, same_index}
@@ -41,8 +41,8 @@ each_on world words log same at P each =
     (of_slot world at offset cell P e c each))
 
 -- what is reached is reached in the other world
-pub reached_on : (world : World) (words : List ℕ) (log : List Note) (at : ℕ) → IsReached world at
-    → IsReached (paged world words log) at
+pub reached_on : (world : World) (words : List ℕ) (log : List Note) (at : ℕ) → IsMarked world at
+    → IsMarked (paged world words log) at
 reached_on world words log at reached = record { start = reached.start; coloured = reached.coloured }
 
 -- the words of the pages are there
@@ -87,7 +87,7 @@ view_on : (world : World) (words : List ℕ) (log : List Note) (view : HelperVie
     → HasViewLists (paged world words log) view
 view_on world words log view has = record {
   grey = λ k d l. reached_on world words log (get_or view.grey k d) (has.grey k d l);
-  snap = some_weaker (λ (s : Snap). IsReached world s.cell) (λ s. IsReached (paged world words log) s.cell) view.snap
+  snap = some_weaker (λ (s : Snap). IsMarked world s.cell) (λ s. IsMarked (paged world words log) s.cell) view.snap
       (λ s r. reached_on world words log s.cell r) has.snap;
   one_at_once = has.one_at_once;
   in_hand = has.in_hand;
@@ -98,7 +98,7 @@ pub lists_on : (world : World) (words : List ℕ) (log : List Note) → HasLists
 lists_on world words log lists = record {
   main = λ k d l. reached_on world words log (get_or world.main.grey k d) (lists.main k d l);
   helpers = λ k d l. view_on world words log (get_or world.helpers k d) (lists.helpers k d l);
-  board = λ k d l. some_weaker (IsReached world) (IsReached (paged world words log))
+  board = λ k d l. some_weaker (IsMarked world) (IsMarked (paged world words log))
       (reference_in (get_or world.board k d)) (reached_on world words log) (lists.board k d l);
   coloured = lists.coloured;
 }

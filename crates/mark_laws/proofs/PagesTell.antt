@@ -11,7 +11,7 @@ use Rattle.tagged_word.proofs.CellReadings.{cell_from}
 use Rattle.mark_world.specs.Pages.{is_inside, page_end}
 use Rattle.mark_world.specs.Safety.{IsSafe, laid_in}
 use Rattle.mark_world.specs.Steps.{grey}
-use Rattle.mark_world.specs.AfterEvents.{IsReached}
+use Rattle.mark_world.specs.AfterEvents.{IsMarked}
 use Rattle.mark_world.specs.Coverage.{EachSlot, HasCovered, cell_of, colour_of}
 use Rattle.mark_world.specs.Soundness.{HasSnaps, HasSure, IsFreshSlot, IsTrueSnap, Sound, header_slots}
 use Rattle.mark_world.specs.BornCells.{Born, HasBorn}
@@ -78,7 +78,7 @@ KnownSlot world snap long offset word =
 
 -- a true snap of a grey cell is true in the other world
 snap_on : (world : World) (words : List ℕ) (log : List Note) → Agree world words → Sound world → (snap : Snap)
-    → IsReached world snap.cell → colour_of world snap.cell ≡ grey → IsTrueSnap world snap
+    → IsMarked world snap.cell → colour_of world snap.cell ≡ grey → IsTrueSnap world snap
     → IsTrueSnap (paged world words log) snap
 snap_on world words log same sound snap reached is_grey is_true =
     let read = free_cell world sound.cells snap.cell (grey_free world sound.cells snap.cell reached.start is_grey) in
@@ -101,7 +101,7 @@ snap_on world words log same sound snap reached is_grey is_true =
 
 -- a snap, if there is one
 some_snap_on : (world : World) (words : List ℕ) (log : List Note) → Agree world words → Sound world
-    → (snap : Option Snap) → IfSome snap (λ s. IsReached world s.cell)
+    → (snap : Option Snap) → IfSome snap (λ s. IsMarked world s.cell)
     → IfSome snap (λ s. colour_of world s.cell ≡ grey → IsTrueSnap world s)
     → IfSome snap (λ s. colour_of world s.cell ≡ grey → IsTrueSnap (paged world words log) s)
 some_snap_on world words log same sound None reached is_true = tt

@@ -7,11 +7,11 @@ use Rattle.std.proofs.lemmas.List.Elements.{All-contains}
 use Rattle.mark_laws.specs.Types.{Reading, Snap, HelperView, MainView, World}
 use Rattle.tagged_word.specs.Readings.{reference_in}
 use Rattle.tagged_word.proofs.Cells.{some_same}
-use Rattle.seat_steps.specs.Lists.{is_in}
-use Rattle.seat_steps.proofs.Joining.{decided, in_found, out_not_found}
+use Rattle.core_parts.specs.Lists.{is_in}
+use Rattle.core_parts.proofs.Joining.{decided, in_found, out_not_found}
 use Rattle.mark_world.specs.Pages.{OfTarget, is_free, is_inside, slots_of}
 use Rattle.mark_world.specs.Steps.{black, white}
-use Rattle.mark_world.specs.AfterEvents.{IsReached}
+use Rattle.mark_world.specs.AfterEvents.{IsMarked}
 use Rattle.mark_world.specs.Coverage.{EachSlot, IsCovered, cell_of, colour_of}
 use Rattle.mark_world.specs.Soundness.{AreIn, HasCells, HasLists, HasSizes, HasViewLists, Sound}
 use Rattle.mark_world.specs.BornCells.{Born}
@@ -74,8 +74,8 @@ coloured_on world promoted words colours main r at coloured is_white =
 
 -- what was reached is reached
 pub reached_on : (world : World) (promoted words colours : List ℕ) (main : MainView)
-    → Restart world promoted words colours main → (at : ℕ) → IsReached world at
-    → IsReached (renewed world words colours main) at
+    → Restart world promoted words colours main → (at : ℕ) → IsMarked world at
+    → IsMarked (renewed world words colours main) at
 reached_on world promoted words colours main r at reached = record {
   start = r.is.starts.kept at reached.start;
   coloured = coloured_on world promoted words colours main r at reached.coloured;
@@ -202,7 +202,7 @@ view_on : (world : World) (promoted words colours : List ℕ) (main : MainView)
     → HasViewLists (renewed world words colours main) view
 view_on world promoted words colours main r view has = record {
   grey = λ k d l. reached_on world promoted words colours main r (get_or view.grey k d) (has.grey k d l);
-  snap = some_weaker (λ (s : Snap). IsReached world s.cell) (λ s. IsReached (renewed world words colours main) s.cell)
+  snap = some_weaker (λ (s : Snap). IsMarked world s.cell) (λ s. IsMarked (renewed world words colours main) s.cell)
       view.snap (λ s reached. reached_on world promoted words colours main r s.cell reached) has.snap;
   one_at_once = has.one_at_once;
   in_hand = has.in_hand;
@@ -214,10 +214,10 @@ pub lists_on : (world : World) (promoted words colours : List ℕ) (main : MainV
 lists_on world promoted words colours main r =
     let lists = r.sound.lists in
     record {
-      main = subst (λ (xs : List ℕ). All (IsReached (renewed world words colours main)) xs) (sym r.is.grey)
+      main = subst (λ (xs : List ℕ). All (IsMarked (renewed world words colours main)) xs) (sym r.is.grey)
           (λ k d l. reached_on world promoted words colours main r (get_or world.main.grey k d) (lists.main k d l));
       helpers = λ k d l. view_on world promoted words colours main r (get_or world.helpers k d) (lists.helpers k d l);
-      board = λ k d l. some_weaker (IsReached world) (IsReached (renewed world words colours main))
+      board = λ k d l. some_weaker (IsMarked world) (IsMarked (renewed world words colours main))
           (reference_in (get_or world.board k d)) (reached_on world promoted words colours main r)
           (lists.board k d l);
       coloured = λ at coloured. elim (colour_cases world promoted words colours main r at) [

@@ -4,8 +4,8 @@ use Rattle.std.proofs.Common.{Contains, IsSome, length, slice_index, refl, sym, 
 use Rattle.std.proofs.Common.{arith, slice_get}
 use Rattle.std.proofs.lemmas.List.Elements.{All-contains}
 use Rattle.tagged_word.proofs.Members.{first_in, in_cases}
-use Rattle.seat_steps.specs.Lists.{left}
-use Rattle.seat_steps.proofs.Leaving.{left_from, left_out}
+use Rattle.core_parts.specs.Lists.{left}
+use Rattle.core_parts.proofs.Leaving.{left_from, left_out}
 use Rattle.mark_laws.specs.Types.{Event, Actor, MainView, World}
 use Rattle.mark_world.specs.declared.event.Event.TheVariants as event
 use Rattle.mark_world.specs.Pages.{target}

@@ -5,9 +5,9 @@ use Rattle.std.proofs.Common.{Contains, IfSome, slice_get, refl, sym, ap, subst}
 use Rattle.std.proofs.lemmas.List.Elements.{All-contains}
 use Rattle.mark_laws.specs.Types.{Reading, Event, Actor, HelperView, MainView, World}
 use Rattle.tagged_word.proofs.Members.{first_in, in_map, rest_in}
-use Rattle.seat_steps.specs.Lists.{joined}
-use Rattle.seat_steps.proofs.Joining.{joined_in, joined_keeps}
-use Rattle.seat_steps.proofs.Leaving.{left_keeps}
+use Rattle.core_parts.specs.Lists.{joined}
+use Rattle.core_parts.proofs.Joining.{joined_in, joined_keeps}
+use Rattle.core_parts.proofs.Leaving.{left_keeps}
 use Rattle.mark_world.specs.declared.event.Event.TheVariants as event
 use Rattle.mark_world.specs.Pages.{is_free, is_head_of, page_end, slots_of, target}
 use Rattle.mark_world.specs.Steps.{actor, black, free_slot_words, words_in_slots}

@@ -11,14 +11,14 @@ use Rattle.mark_laws.specs.Types.{Header, Event, Actor, Spot, Snap, HelperView, 
 use Rattle.tagged_word.specs.Cells.{length_offset}
 use Rattle.tagged_word.specs.Readings.{header_in}
 use Rattle.page_space.specs.Extents.{board_words}
-use Rattle.seat_steps.specs.Boards.{IsBoardWord}
-use Rattle.seat_steps.proofs.Handing.{board_with, given_is_board_word}
+use Rattle.core_parts.specs.Boards.{IsBoardWord}
+use Rattle.core_parts.proofs.Handing.{board_with, given_is_board_word}
 use Rattle.mark_world.specs.declared.event.Event.TheVariants as event
 use Rattle.mark_world.specs.Steps.{actor, becomes, black, helper_learns, helper_spot, layout_spot, main_learns}
 use Rattle.mark_world.specs.Steps.{main_spot}
 use Rattle.mark_world.specs.Steps.{settled, shaded}
 use Rattle.mark_world.specs.Conditions.{MayHelper, MayMain}
-use Rattle.mark_world.specs.AfterEvents.{after, after_helper, after_return, after_step, IsReached, MayStep, Possible}
+use Rattle.mark_world.specs.AfterEvents.{after, after_helper, after_return, after_step, IsMarked, MayStep, Possible}
 use Rattle.mark_world.specs.AfterEvents.{PossibleStep, with_word, word_at}
 use Rattle.mark_world.specs.Soundness.{HasLists, HasSizes, HasViewLists}
 use Rattle.mark_laws.proofs.Colours.{each_colour}
@@ -93,7 +93,7 @@ settled_three : (colour : ℕ) → colour ≤ black → settled colour ≤ black
 settled_three colour three = grind (arith, nat_tests)
 
 -- a reached cell has an address of 32 bits
-pub reached_fits : (world : World) → HasSizes world → (at : ℕ) → IsReached world at → at < 2 ^ 32
+pub reached_fits : (world : World) → HasSizes world → (at : ℕ) → IsMarked world at → at < 2 ^ 32
 reached_fits world sizes at reached = elim (cases_lt at (length world.colours)) [
   | inl within ↦ omega (arith, sizes.colours, sizes.addresses)
   | inr past ↦ absurd (reached.coloured (get_or_past world.colours at 0 past))
@@ -101,7 +101,7 @@ reached_fits world sizes at reached = elim (cases_lt at (length world.colours)) 
 
 -- a word of the board to which a reached cell is given is one of a board
 given_sized : (world : World) → HasSizes world → (place at : ℕ) → place < board_words
-    → IsReached world at
+    → IsMarked world at
     → IsBoardWord (becomes (event.GiveMain place at) (slice_index world.board place))
 given_sized world sizes place at on_board reached =
     given_is_board_word (slice_index world.board place) at (reached_fits world sizes at reached)
@@ -116,7 +116,7 @@ main_sized world (event.ShadeMain at) sizes lists may = shaded_three (slice_inde
 main_sized world (event.Blacken at) sizes lists may = omega arith
 main_sized world (event.NewBlack at) sizes lists may = omega arith
 main_sized world (event.GiveMain place at) sizes lists may =
-    given_sized world sizes place at may.on_board (All-contains (IsReached world) world.main.grey at lists.main may.had)
+    given_sized world sizes place at may.on_board (All-contains (IsMarked world) world.main.grey at lists.main may.had)
 main_sized world (event.TakeMain place) sizes lists may = inl refl
 main_sized world _ sizes lists may = tt
 
@@ -151,7 +151,7 @@ helper_sized world view (event.ShadeHelper number at) sizes lists may = shaded_t
     (each_colour world sizes at)
 helper_sized world view (event.Settle number) sizes lists may = settle_sized world sizes view.snap
 helper_sized world view (event.Give number place at) sizes lists may =
-    given_sized world sizes place at may.on_board (All-contains (IsReached world) view.grey at lists.grey may.had)
+    given_sized world sizes place at may.on_board (All-contains (IsMarked world) view.grey at lists.grey may.had)
 helper_sized world view (event.Take number place) sizes lists may = inl refl
 helper_sized world view (event.LoadLayout number) sizes lists may =
     layout_of_sized (word_at world (option_and_then layout_spot view.snap)) view.snap

@@ -9,7 +9,7 @@ use Rattle.tagged_word.proofs.Cells.{slot_within, tagged_is_scavenged}
 use Rattle.tagged_word.proofs.CellReadings.{cell_from}
 use Rattle.mark_world.specs.Pages.{is_free, is_head, is_head_of, is_inside, offset_in, page_end, slots_of}
 use Rattle.mark_world.specs.Steps.{black, grey, white}
-use Rattle.mark_world.specs.AfterEvents.{IsReached}
+use Rattle.mark_world.specs.AfterEvents.{IsMarked}
 use Rattle.mark_world.specs.Coverage.{EachSlot, cell_of, colour_of}
 use Rattle.mark_world.specs.Soundness.{HasCells}
 use Rattle.mark_laws.proofs.Starts.{free_or_mine, value_of}
@@ -91,7 +91,7 @@ free_cell world cells start free = value_of (cell_of world start) (cells.read st
 
 -- a cell that is reached and grey later was grey
 abbrev pub WereGrey : World → World → Type 0
-WereGrey world later = (at : ℕ) → IsReached world at → colour_of later at ≡ grey → colour_of world at ≡ grey
+WereGrey world later = (at : ℕ) → IsMarked world at → colour_of later at ≡ grey → colour_of world at ≡ grey
 
 -- a reached cell was grey if it is after a step that makes no colour lighter
 pub grey_before : (was is : ℕ) → was ≢ white → was ≤ is → is ≡ grey → was ≡ grey

@@ -9,7 +9,7 @@ use Rattle.std.specs.Option.{option_map}
 use Rattle.mark_laws.specs.Types.{Header, Event, Snap, SnapSlot, Actor, Spot, HelperView, World}
 use Rattle.tagged_word.specs.Readings.{header_in}
 use Rattle.tagged_word.proofs.Cells.{some_same}
-use Rattle.seat_steps.specs.Lists.{HasNoRepeats}
+use Rattle.core_parts.specs.Lists.{HasNoRepeats}
 use Rattle.mark_world.specs.declared.event.Event.TheVariants as event
 use Rattle.mark_world.specs.Naming.{IsReadOut, IsToRead, Named, is_shape, named, named_headed, named_shaped}
 use Rattle.mark_world.specs.Naming.{read_offsets}

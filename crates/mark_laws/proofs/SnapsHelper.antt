@@ -14,7 +14,7 @@ use Rattle.mark_world.specs.Naming.{IsToRead, is_shape, named, read_offsets}
 use Rattle.mark_world.specs.Steps.{helper_learns, helper_spot, layout_spot, snap_settled, with_layout, with_length}
 use Rattle.mark_world.specs.Steps.{with_slot}
 use Rattle.mark_world.specs.Conditions.{AwaitsLayout, AwaitsLength, MayHelper}
-use Rattle.mark_world.specs.AfterEvents.{after_helper, IsReached, word_at}
+use Rattle.mark_world.specs.AfterEvents.{after_helper, IsMarked, word_at}
 use Rattle.mark_world.specs.Coverage.{colour_of}
 use Rattle.mark_world.specs.Soundness.{HasCells, HasLists, HasSizes, HasSnaps, HasViewLists}
 use Rattle.mark_laws.proofs.Helped.{helped, helper_helped, views_after}
@@ -30,7 +30,7 @@ view_kept : (world : World) (colours board : List ℕ) (helpers : List HelperVie
 view_kept world colours board helpers view covers were has is_true =
     let later : World = helped world colours board helpers in
     some_from (GreyTrue later) view.snap (λ snap e is_grey.
-    let reached = some_at (λ (s : Snap). IsReached world s.cell) view.snap snap e has.snap in
+    let reached = some_at (λ (s : Snap). IsMarked world s.cell) view.snap snap e has.snap in
     kept_true world colours board world.main helpers snap covers
     (some_at (GreyTrue world) view.snap snap e is_true (were snap.cell reached is_grey)))
 
@@ -75,7 +75,7 @@ reads_length world colours board helpers view cells were has kept may =
     o)
     (GreyTrue later)) (sym s.1)
     (λ is_grey.
-    let reached = some_at (λ (t : Snap). IsReached world t.cell) view.snap s.0 s.1 has.snap in
+    let reached = some_at (λ (t : Snap). IsMarked world t.cell) view.snap s.0 s.1 has.snap in
     let read = free_cell world cells s.0.cell (grey_free world cells s.0.cell reached.start
     (were s.0.cell reached is_grey)) in
     length_read_true later s.0 read.0 read.1 (some_at (GreyTrue later) view.snap s.0 s.1 kept is_grey))

@@ -3,13 +3,13 @@ use Rattle.std.proofs.Common.{ℕ, ◌≡◌, ◌≢◌, ◌==◌, inl, inr, fal
 use Rattle.std.proofs.Common.{All, Contains, get_or, sym, subst, eqb-true}
 use Rattle.std.proofs.lemmas.Bool.{eqb-false}
 use Rattle.mark_laws.specs.Types.{Reading, Event, Snap, Actor, HelperView, World}
-use Rattle.seat_steps.specs.Boards.{joined_by}
-use Rattle.seat_steps.proofs.Joining.{decided}
+use Rattle.core_parts.specs.Boards.{joined_by}
+use Rattle.core_parts.proofs.Joining.{decided}
 use Rattle.mark_world.specs.declared.event.Event.TheVariants as event
 use Rattle.mark_world.specs.Pages.{is_free, is_head_of, target}
 use Rattle.mark_world.specs.Steps.{becomes, main_spot}
 use Rattle.mark_world.specs.Conditions.{MayMain, MayStoreHeader, MayStoreOwned, MayStoreSlot}
-use Rattle.mark_world.specs.AfterEvents.{after_main, IsReached, word_at}
+use Rattle.mark_world.specs.AfterEvents.{after_main, IsMarked, word_at}
 use Rattle.mark_world.specs.Coverage.{HasCovered, IsCovered, cell_of, colour_of}
 use Rattle.mark_world.specs.Soundness.{HasCells, HasLists, HasSizes, HasSnaps, HasSure, HasViewLists, IsTrueSnap}
 use Rattle.mark_laws.proofs.Cells.{owned_no_head}
@@ -106,7 +106,7 @@ main_view : (world : World) (of : Event) (view : HelperView) → HasCells world 
 main_view world of view cells sure may covers were has is_true =
     let later : World = after_main world of in
     some_from (GreyTrue later) view.snap (λ snap e is_grey.
-    let reached = some_at (λ (s : Snap). IsReached world s.cell) view.snap snap e has.snap in
+    let reached = some_at (λ (s : Snap). IsMarked world s.cell) view.snap snap e has.snap in
     let was = were snap.cell reached is_grey in
     let free = grey_free world cells snap.cell reached.start was in
     let read = free_cell world cells snap.cell free in

@@ -8,8 +8,8 @@ use Rattle.std.proofs.lemmas.List.Elements.{All-contains}
 use Rattle.mark_laws.specs.Types.{Reading, World}
 use Rattle.tagged_word.proofs.Cells.{size_bounds}
 use Rattle.tagged_word.proofs.CellReadings.{cell_from}
-use Rattle.seat_steps.specs.Lists.{is_in}
-use Rattle.seat_steps.proofs.Joining.{decided, found_in, in_found}
+use Rattle.core_parts.specs.Lists.{is_in}
+use Rattle.core_parts.proofs.Joining.{decided, found_in, in_found}
 use Rattle.mark_world.specs.Pages.{is_free, page_end}
 use Rattle.mark_world.specs.Steps.{black}
 use Rattle.mark_world.specs.Coverage.{cell_of, colour_of}

@@ -6,8 +6,8 @@ use Rattle.std.proofs.lemmas.List.{get_or-set_other, get_or-set_same}
 use Rattle.std.proofs.lemmas.List.Elements.{All-contains}
 use Rattle.mark_laws.specs.Types.{Reading, Event, World}
 use Rattle.tagged_word.proofs.Cells.{some_same}
-use Rattle.seat_steps.specs.Boards.{joined_by}
-use Rattle.seat_steps.proofs.Joining.{joined_in}
+use Rattle.core_parts.specs.Boards.{joined_by}
+use Rattle.core_parts.proofs.Joining.{joined_in}
 use Rattle.mark_world.specs.declared.event.Event.TheVariants as event
 use Rattle.mark_world.specs.Pages.{OfTarget, is_free, slots_of, target}
 use Rattle.mark_world.specs.Conditions.{MayMain, MayStoreHeader}

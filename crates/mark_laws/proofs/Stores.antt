@@ -8,8 +8,8 @@ use Rattle.tagged_word.specs.declared.layout.Kind.TheVariants as kind
 use Rattle.mark_laws.specs.Types.{Reading, Laid, MainView, World}
 use Rattle.tagged_word.proofs.Cells.{size_bounds, some_same}
 use Rattle.tagged_word.proofs.CellReadings.{cell_from}
-use Rattle.seat_steps.specs.Lists.{is_in}
-use Rattle.seat_steps.proofs.Joining.{found_in, in_found, not_found, out_not_found}
+use Rattle.core_parts.specs.Lists.{is_in}
+use Rattle.core_parts.proofs.Joining.{found_in, in_found, not_found, out_not_found}
 use Rattle.mark_world.specs.Pages.{EachFree, OfTarget, cell_at, is_free, is_head, is_inside, leaves_alone}
 use Rattle.mark_world.specs.Pages.{offset_in, page_end, slots_of}
 use Rattle.mark_world.specs.Safety.{IsSafe, laid_in, slots_by}

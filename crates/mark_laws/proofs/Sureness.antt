@@ -6,10 +6,10 @@ use Rattle.std.proofs.Common.{if◌then◌else◌, eqb-true}
 use Rattle.std.proofs.lemmas.List.Elements.{All-contains}
 use Rattle.mark_laws.specs.Types.{Reading, Event, Actor, HelperView, MainView, World}
 use Rattle.tagged_word.proofs.Members.{map_from}
-use Rattle.seat_steps.specs.Lists.{joined, left}
-use Rattle.seat_steps.specs.Boards.{joined_by}
-use Rattle.seat_steps.proofs.Joining.{joined_keeps}
-use Rattle.seat_steps.proofs.Leaving.{left_from}
+use Rattle.core_parts.specs.Lists.{joined, left}
+use Rattle.core_parts.specs.Boards.{joined_by}
+use Rattle.core_parts.proofs.Joining.{joined_keeps}
+use Rattle.core_parts.proofs.Leaving.{left_from}
 use Rattle.mark_world.specs.declared.event.Event.TheVariants as event
 use Rattle.mark_world.specs.Pages.{is_free, slots_of, target, targets_joined}
 use Rattle.mark_world.specs.Steps.{actor, all_joined, becomes, black, free_slot_words, helper_spot, words_in_slots}

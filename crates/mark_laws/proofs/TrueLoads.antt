@@ -11,7 +11,7 @@ use Rattle.tagged_word.specs.Readings.{header_in}
 use Rattle.tagged_word.specs.Shapes.{shapes_most}
 use Rattle.tagged_word.proofs.Cells.{some_same}
 use Rattle.tagged_word.proofs.Members.{in_map, map_from}
-use Rattle.seat_steps.proofs.Joining.{decided}
+use Rattle.core_parts.proofs.Joining.{decided}
 use Rattle.mark_world.specs.Safety.{laid_in, slots_by}
 use Rattle.mark_world.specs.Naming.{read_offsets}
 use Rattle.mark_world.specs.Steps.{snap_begun, with_layout, with_length, with_slot}

@@ -8,10 +8,10 @@ use Rattle.tagged_word.specs.declared.word.Class.TheVariants.{Ref}
 use Rattle.tagged_word.specs.Words.{bits_of}
 use Rattle.tagged_word.specs.Readings.{reference_in}
 use Rattle.tagged_word.proofs.Readings.{reference_to}
-use Rattle.seat_steps.specs.Lists.{joined, left}
-use Rattle.seat_steps.specs.Boards.{given_word, giver_left, joined_by, taker_joined}
-use Rattle.seat_steps.proofs.Joining.{decided, joined_in, joined_keeps}
-use Rattle.seat_steps.proofs.Leaving.{left_keeps}
+use Rattle.core_parts.specs.Lists.{joined, left}
+use Rattle.core_parts.specs.Boards.{given_word, giver_left, joined_by, taker_joined}
+use Rattle.core_parts.proofs.Joining.{decided, joined_in, joined_keeps}
+use Rattle.core_parts.proofs.Leaving.{left_keeps}
 use Rattle.mark_laws.specs.Types.{HelperView, World}
 use Rattle.mark_world.specs.Steps.{black, grey, white}
 use Rattle.mark_world.specs.Coverage.{colour_of}

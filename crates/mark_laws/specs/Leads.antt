@@ -6,6 +6,7 @@ use Rattle.mark_world.specs.Steps.{white, black}
 use Rattle.mark_world.specs.Coverage.{cell_of, colour_of}
 use Rattle.mark_world.specs.Soundness.{Sound}
 use Rattle.mark_world.specs.BetweenCommands.{IsDrained, Settled}
+use Rattle.mark_laws.specs.Runs.{HasNoneOut}
 
 -- words lead to an old cell: one of them refers to it, or a tagged slot of a cell that they lead to
 pub data LedTo (world : World) (words : List ℕ) : ℕ → Type 0 where
@@ -30,3 +31,13 @@ abbrev pub SureIsBlack : Type 0
 SureIsBlack =
     (world : World) → Sound world → Settled world → IsDrained world
     → All (λ at. colour_of world at ≡ black) world.main.sure
+
+-- In a sound world with no seat out, where the mutator's part is done, what a tagged slot of a published black cell
+-- refers to is not white. Grey cells may wait anywhere: so a pause may end a cycle with a marking of its own, which looks
+-- at no slot of a black cell.
+abbrev pub BlackLeadsOn : Type 0
+BlackLeadsOn =
+    (world : World) (from at offset : ℕ) (cell : Reading) → Sound world → Settled world → HasNoneOut world
+    → Contains world.main.starts from → colour_of world from ≡ black → cell_of world from ≡ Some cell
+    → Contains (slots_of cell) offset → target world.old (slice_index world.words (from + offset)) ≡ Some at
+    → colour_of world at ≢ white

@@ -4,12 +4,12 @@ use Rattle.std.specs.Prelude.{Some, IfSome, IsSomeAnd}
 use Rattle.mark_laws.specs.Types.{Header, LayoutWord, Event, Snap, Actor, HelperView, World}
 use Rattle.tagged_word.specs.Cells.{marks_by_length, tagged_offsets}
 use Rattle.tagged_word.specs.Readings.{header_in, layout_in, reference_in}
-use Rattle.seat_steps.specs.Lists.{HasNoRepeats}
+use Rattle.core_parts.specs.Lists.{HasNoRepeats}
 use Rattle.mark_world.specs.declared.event.Event.TheVariants as event
 use Rattle.mark_world.specs.Naming.{IsReadOut, Named, named, read_offsets}
 use Rattle.mark_world.specs.Steps.{actor, black, grey, helper_learns, lent, returned}
 use Rattle.mark_world.specs.Conditions.{MayHelper}
-use Rattle.mark_world.specs.AfterEvents.{IsReached, Possible}
+use Rattle.mark_world.specs.AfterEvents.{IsMarked, Possible}
 use Rattle.mark_world.specs.Coverage.{colour_of}
 use Rattle.mark_world.specs.Soundness.{Sound}
 
@@ -92,7 +92,7 @@ AllowedIsPossible =
 
 -- in a sound world what is reached is old
 abbrev pub ReachedIsOld : Type 0
-ReachedIsOld = (world : World) (at : ℕ) → Sound world → IsReached world at → at < world.old
+ReachedIsOld = (world : World) (at : ℕ) → Sound world → IsMarked world at → at < world.old
 
 -- in a sound world each word of the board is 0, or refers to an old cell
 abbrev pub BoardRefersToOld : Type 0

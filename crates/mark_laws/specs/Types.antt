@@ -3,8 +3,8 @@ pub use Rattle.tagged_word.specs.declared.header.Header.{Header}
 pub use Rattle.tagged_word.specs.declared.layout.Kind.{Kind}
 pub use Rattle.tagged_word.specs.declared.layout.LayoutWord.{LayoutWord}
 pub use Rattle.tagged_word.specs.declared.reading.Reading.{Reading}
-pub use Rattle.seat_steps.specs.declared.note.Note.{Note}
-pub use Rattle.seat_steps.specs.declared.stop.StepStop.{StepStop}
+pub use Rattle.core_parts.specs.declared.note.Note.{Note}
+pub use Rattle.core_parts.specs.declared.stop.StepStop.{StepStop}
 pub use Rattle.mark_world.specs.declared.event.Event.{Event}
 pub use Rattle.mark_world.specs.declared.laid.Laid.{Laid}
 pub use Rattle.mark_world.specs.declared.snap.Snap.{Snap}

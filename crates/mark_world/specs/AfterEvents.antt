@@ -74,13 +74,13 @@ abbrev pub seats_out : World → ℕ
 seats_out world = count_by (λ view. view.out) world.helpers
 
 -- the cell is published and not white
-pub record IsReached (world : World) (at : ℕ) : Type 0 where
+pub record IsMarked (world : World) (at : ℕ) : Type 0 where
   pub start : Contains world.main.starts at
   pub coloured : slice_index world.colours at ≢ white
 
 -- what an event asks of the world beside the view of its seat: only of a cell whose header is to be loaded
 abbrev pub AsksWorld : World → Event → Type 0
-AsksWorld world (event.LoadHeader number cell) = IsReached world cell
+AsksWorld world (event.LoadHeader number cell) = IsMarked world cell
 AsksWorld world _ = Unit {0}
 
 -- a helper that is out may make the step

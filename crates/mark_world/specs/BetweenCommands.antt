@@ -8,7 +8,7 @@ use Rattle.tagged_word.specs.Readings.{read_cell, reference_in}
 use Rattle.mark_world.specs.declared.world.World.{World}
 use Rattle.mark_world.specs.Pages.{OfTarget, slots_of, target}
 use Rattle.mark_world.specs.Steps.{white, black}
-use Rattle.mark_world.specs.AfterEvents.{IsReached}
+use Rattle.mark_world.specs.AfterEvents.{IsMarked}
 use Rattle.mark_world.specs.Coverage.{EachSlot, cell_of, colour_of}
 use Rattle.mark_world.specs.Soundness.{Sound}
 use Rattle.mark_world.specs.BornCells.{Born, HasBorn}
@@ -51,13 +51,13 @@ abbrev pub IsBornObject : List ℕ → ℕ → ℕ → Type 0
 IsBornObject reached made object = Contains reached object ⊎ (made ≤ object)
 
 -- Known, by the first root word of each variable, the young cells, the numbers of the objects that were reached when
--- the cycle began, and the number of objects then. Each target of a root word is born. The mutator is sure of each
--- target of a tagged slot of a young cell. A kept table with a kept key has a born value. Each kept object cell has a
--- born object's number.
+-- the cycle began, and the number of objects then. Each target of a root word is born, and so is each target of a tagged
+-- slot of a young cell: the pause at the end of the cycle visits young cells as it visits roots. A kept table with a kept
+-- key has a born value. Each kept object cell has a born object's number.
 pub record Known (world : World) (roots young reached : List ℕ) (made : ℕ) : Type 0 where
   pub from_roots : All (HasBorn world) roots
   pub from_young : All (λ at. IfSome (any_cell world at) (λ cell.
-      All (λ offset. HasSureTarget world (slice_index world.words (at + offset))) (slots_of cell))) young
+      All (λ offset. HasBorn world (slice_index world.words (at + offset))) (slots_of cell))) young
   pub from_pairs : (at : ℕ) (table : Reading) → IsYoungOrBorn world young at → any_cell world at ≡ Some table →
       table.layout.kind ≡ kind.Table → HasBornValues world young at table
   pub objects : (at : ℕ) (cell : Reading) → IsYoungOrBorn world young at → any_cell world at ≡ Some cell →
@@ -78,11 +78,11 @@ pub record Fresh (world : World) : Type 0 where
   pub log : world.main.log ≡ []
 
 -- an old cell is a published one that is not white, or a tagged slot of such a cell refers to it, and so on
-pub data IsReachable (world : World) : ℕ → Type 0 where
-  start : (at : ℕ) → IsReached world at → IsReachable world at
-  slot : (from at offset : ℕ) (cell : Reading) → IsReachable world from → cell_of world from ≡ Some cell
+pub data IsReachedByMarking (world : World) : ℕ → Type 0 where
+  start : (at : ℕ) → IsMarked world at → IsReachedByMarking world at
+  slot : (from at offset : ℕ) (cell : Reading) → IsReachedByMarking world from → cell_of world from ≡ Some cell
       → Contains (slots_of cell) offset → target world.old (slice_index world.words (from + offset)) ≡ Some at
-      → IsReachable world at
+      → IsReachedByMarking world at
 
 -- nothing waits: no seat is out, no grey cell waits with the mutator or on the board, and nothing is owed
 pub record IsDrained (world : World) : Type 0 where
@@ -93,4 +93,4 @@ pub record IsDrained (world : World) : Type 0 where
 
 -- each old cell that is reached is black
 abbrev pub MarksAll : World → Type 0
-MarksAll world = (at : ℕ) → IsReachable world at → colour_of world at ≡ black
+MarksAll world = (at : ℕ) → IsReachedByMarking world at → colour_of world at ≡ black

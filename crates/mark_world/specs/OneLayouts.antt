@@ -2,7 +2,7 @@
 use Rattle.std.specs.Prelude.{◌≡◌, ℕ, ◌+◌, ◌<◌, ◌≤◌, List, All, Contains, slice_get, slice_index, Some}
 use Rattle.std.specs.Prelude.{IsSomeAnd, ◌↔◌}
 use Rattle.tagged_word.specs.declared.reading.Reading.{Reading}
-use Rattle.seat_steps.specs.Lists.{HasNoRepeats}
+use Rattle.core_parts.specs.Lists.{HasNoRepeats}
 use Rattle.mark_world.specs.declared.event.Event.{Event}
 use Rattle.mark_world.specs.declared.event.Event.TheVariants as event
 use Rattle.mark_world.specs.declared.snap.Snap.{Snap}

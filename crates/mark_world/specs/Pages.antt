@@ -6,8 +6,8 @@ use Rattle.tagged_word.specs.declared.reading.Reading.{Reading}
 use Rattle.tagged_word.specs.Cells.{has_length, length_offset, tagged_offsets}
 use Rattle.tagged_word.specs.Readings.{given, reference_in, read_cell}
 use Rattle.page_space.specs.Sizes.{page_words}
-use Rattle.seat_steps.specs.Lists.{is_in}
-use Rattle.seat_steps.specs.Boards.{joined_by}
+use Rattle.core_parts.specs.Lists.{is_in}
+use Rattle.core_parts.specs.Boards.{joined_by}
 use Rattle.mark_world.specs.declared.views.MainView.{MainView}
 
 -- the address behind the page that an address lies in

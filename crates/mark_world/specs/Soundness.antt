@@ -6,7 +6,7 @@ use Rattle.tagged_word.specs.Cells.{length_offset, marks_by_length}
 use Rattle.tagged_word.specs.Readings.{header_in, reference_in}
 use Rattle.tagged_word.specs.Shapes.{shapes_most}
 use Rattle.page_space.specs.Sizes.{page_words}
-use Rattle.seat_steps.specs.Boards.{IsBoard}
+use Rattle.core_parts.specs.Boards.{IsBoard}
 use Rattle.mark_world.specs.declared.snap.Snap.{Snap}
 use Rattle.mark_world.specs.declared.views.HelperView.{HelperView}
 use Rattle.mark_world.specs.declared.world.World.{World}
@@ -14,7 +14,7 @@ use Rattle.mark_world.specs.Pages.{EachFree, is_inside}
 use Rattle.mark_world.specs.Safety.{IsSafe, laid_in, slots_by}
 use Rattle.mark_world.specs.Naming.{read_offsets}
 use Rattle.mark_world.specs.Steps.{white, grey, black}
-use Rattle.mark_world.specs.AfterEvents.{IsReached}
+use Rattle.mark_world.specs.AfterEvents.{IsMarked}
 use Rattle.mark_world.specs.Coverage.{EachSlot, HasCovered, IsCovered, cell_of, colour_of}
 
 -- each address of a list is in the other
@@ -54,17 +54,17 @@ pub record IsEmptyView (view : HelperView) : Type 0 where
 -- Lists of one helper: grey cells that wait with it, and that of its snap, are reached. It has a snap or cells to
 -- visit, not both. It has nothing while it is not out.
 pub record HasViewLists (world : World) (view : HelperView) : Type 0 where
-  pub grey : All (IsReached world) view.grey
-  pub snap : IfSome view.snap (λ snap. IsReached world snap.cell)
+  pub grey : All (IsMarked world) view.grey
+  pub snap : IfSome view.snap (λ snap. IsMarked world snap.cell)
   pub one_at_once : IsSome view.snap → view.visit ≡ []
   pub in_hand : view.out ≡ false → IsEmptyView view
 
 -- Lists: each cell that waits, is on the board or is read is published and not white. Only published cells are not
 -- white.
 pub record HasLists (world : World) : Type 0 where
-  pub main : All (IsReached world) world.main.grey
+  pub main : All (IsMarked world) world.main.grey
   pub helpers : All (HasViewLists world) world.helpers
-  pub board : All (λ word. IfSome (reference_in word) (IsReached world)) world.board
+  pub board : All (λ word. IfSome (reference_in word) (IsMarked world)) world.board
   pub coloured : (at : ℕ) → colour_of world at ≢ white → Contains world.main.starts at
 
 -- Sure: what the mutator is sure of is covered; that, and what it owes, is born.

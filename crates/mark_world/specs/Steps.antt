@@ -5,10 +5,10 @@ use Rattle.std.specs.Option.{option_map, option_and_then}
 use Rattle.tagged_word.specs.declared.reading.Reading.{Reading}
 use Rattle.tagged_word.specs.Cells.{length_offset}
 use Rattle.tagged_word.specs.Readings.{header_in}
-use Rattle.seat_steps.specs.declared.note.Note.{Note}
-use Rattle.seat_steps.specs.declared.note.Note.TheVariants.{Loaded, Coloured, Gave, Took}
-use Rattle.seat_steps.specs.Lists.{joined, left}
-use Rattle.seat_steps.specs.Boards.{given_word, giver_left, taken_word, taker_joined, joined_by}
+use Rattle.core_parts.specs.declared.note.Note.{Note}
+use Rattle.core_parts.specs.declared.note.Note.TheVariants.{Loaded, Coloured, Gave, Took}
+use Rattle.core_parts.specs.Lists.{joined, left}
+use Rattle.core_parts.specs.Boards.{given_word, giver_left, taken_word, taker_joined, joined_by}
 use Rattle.mark_world.specs.declared.event.Event.{Event}
 use Rattle.mark_world.specs.declared.event.Event.TheVariants as event
 use Rattle.mark_world.specs.declared.step.Actor.{Actor}

@@ -1,7 +1,7 @@
 //! What a helper has read of one cell.
 ghost use Rattle.std.specs.Prelude.{◌≡◌, IfOk};
 
-use seat_steps::Items;
+use core_parts::Items;
 use std::alloc::Global;
 use tagged_word::NoMemory;
 

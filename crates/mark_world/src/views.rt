@@ -4,7 +4,7 @@ ghost use Rattle.std.specs.Prelude.{IfOk, OnOk, OnErr};
 ghost use Rattle.mark_world.specs.Steps.{lent, returned};
 
 use crate::snap::Snap;
-use seat_steps::{Items, Note};
+use core_parts::{Items, Note};
 use std::alloc::Global;
 use std::marker::Model;
 use tagged_word::NoMemory;

@@ -3,7 +3,7 @@
 ghost use Rattle.std.specs.Prelude.{◌≡◌, IfOk};
 
 use crate::views::{MainView, Views};
-use seat_steps::Items;
+use core_parts::Items;
 use std::alloc::Global;
 use tagged_word::NoMemory;
 

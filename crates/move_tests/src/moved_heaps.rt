@@ -1,9 +1,10 @@
 //! Whether a kept heap is another one moved: after scavenges, and with words changed by hand.
 use crate::copied_objects::OBJECTS;
 use crate::linked_cells::CELLS;
-use heap_judge::{Move, is_moved, is_whole_heap};
+use heap_check::check;
 use heap_model::{HeapImage, HeapWords};
 use heap_run::{MemSink, MemSource, OpenGate, run};
+use slow_check::{Move, is_moved};
 use std::alloc::Global;
 use std::process::Abort;
 use std::test::Fail;
@@ -77,12 +78,15 @@ fn moves_of(alloc: Global, pairs: &[(u32, u32)]) -> Result<Vec<Move>, Fail> {
     Ok(moves)
 }
 
-/// Whether the old heap is whole, and the new one is it moved.
-fn judged(old: &HeapImage, new: &HeapImage, moves: &[Move]) -> (bool, bool) {
-    if !is_whole_heap(old) {
-        return (false, false);
+/// Whether the new heap is the old one moved, which is whole.
+fn judged(alloc: Global, old: &HeapImage, new: &HeapImage, moves: &[Move]) -> Result<bool, Fail> {
+    let Ok(_counts) = check(alloc, old) else {
+        return Err(Fail::from("a flaw, or memory was refused"));
+    };
+    match is_moved(alloc, old, new, moves) {
+        Ok(answer) => Ok(answer),
+        Err(_) => Err(Fail::from("memory was refused")),
     }
-    (true, is_moved(old, new, moves))
 }
 
 /// Each of the cases is judged as it is to be.
@@ -92,7 +96,11 @@ fn are_judged<R: Threads + Sync + Abort + AllocGlobal>(rt: &R, pairs: &[Pair]) -
         for (changes, moves, what, expected) in pair.cases {
             let new = changed(kept(rt, pair.new)?, changes);
             let moves = moves_of(rt.alloc(), moves)?;
-            assert_eq!(rt; judged(&old, &new, &moves), (true, *expected), "{what}");
+            assert_eq!(rt;
+                judged(rt.alloc(), &old, &new, &moves)?,
+                *expected,
+                "{what}"
+            );
         }
     }
     Ok(())

@@ -14,7 +14,9 @@ use Rattle.heap_model.specs.Slots.{undefined_word, HoldsStore}
 use Rattle.heap_model.specs.Kinds.{HasTable, IsSoundOf}
 use Rattle.heap_model.specs.Showing.{ShowsObject}
 use Rattle.object_cells.proofs.RunCells.{bare_layout}
-use Rattle.mutator.specs.Making.{empty_counted}
+use Rattle.mutator.specs.Making.{empty_counted, shape_of_counted}
+use Rattle.mutator.specs.declared.making.Counted.{Counted}
+use Rattle.mutator.specs.declared.making.Counted.TheVariants as counted
 use Rattle.mutator.proofs.NewCells.{NewCell, cell_of, RefersNowhere, CountsNone}
 
 -- what such a cell is made of
@@ -38,7 +40,7 @@ pub record IsCountedKind (k : Kind) (shape : ℕ) (what : Object) : Type 0 where
   pub counts : (header : Header) → CountsNone (empty_counted header) what
 
 -- so it is with lists without elements
-pub list_is_counted : IsCountedKind kind.List list_shape (ListOf [])
+list_is_counted : IsCountedKind kind.List list_shape (ListOf [])
 list_is_counted = record {
   is_layout = record { cap = refl; used = refl; raw = refl };
   no_length = refl;
@@ -73,7 +75,7 @@ list_is_counted = record {
 }
 
 -- and with weak maps without entries
-pub weak_is_counted : IsCountedKind kind.Weak weak_shape (Weak [])
+weak_is_counted : IsCountedKind kind.Weak weak_shape (Weak [])
 weak_is_counted = record {
   is_layout = record { cap = refl; used = refl; raw = refl };
   no_length = refl;
@@ -100,6 +102,22 @@ weak_is_counted = record {
   };
   counts = λ header. refl;
 }
+
+-- the kind of the own cell of such an object
+abbrev pub kind_of_counted : Counted → Kind
+kind_of_counted counted.List = kind.List
+kind_of_counted counted.Weak = kind.Weak
+
+-- the object, without elements or entries
+abbrev pub object_of_counted : Counted → Object
+object_of_counted counted.List = ListOf []
+object_of_counted counted.Weak = Weak []
+
+-- its cell is one of these
+pub is_counted : (counted : Counted) → IsCountedKind (kind_of_counted counted) (shape_of_counted counted)
+    (object_of_counted counted)
+is_counted counted.List = list_is_counted
+is_counted counted.Weak = weak_is_counted
 
 -- then it is the cell of an object without a store or a table
 pub counted_fresh : {k : Kind} {shape : ℕ} {what : Object} (header : Header) → IsCountedKind k shape what

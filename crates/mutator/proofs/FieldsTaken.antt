@@ -12,7 +12,7 @@ use Rattle.object_graph.specs.declared.object.Object.TheVariants.{Plain}
 use Rattle.object_graph.specs.Objects.{field_value, without_field}
 use Rattle.object_graph.specs.Paths.{path_of, missing}
 use Rattle.object_graph.specs.Graphs.{Graph, PlainObject, as_plain}
-use Rattle.object_graph.specs.Meaning.{fault, reshape_if, does}
+use Rattle.object_graph.specs.Meaning.{fault, reshape_if, meaning}
 use Rattle.object_graph.specs.Invariants.{HasItsPath}
 use Rattle.object_graph.specs.Limits.{ideal_limits}
 use Rattle.shape_tree.proofs.GrownPaths.{missing-there}
@@ -123,7 +123,7 @@ del_carried names f same taking taken =
 stopped_by_paths : {main : Mutator} {graph : Graph} {x at : ℕ} (names : List (List ℕ)) (f : ℕ) (found : Option Value)
     → (taking : IsTaking main graph x at) → field_value taking.plain.fields f ≡ found
     → LacksPaths graph taking.plain (without_field taking.plain.fields f)
-    → does ideal_limits names graph (Del x f) ≡ fault word.ShapesFull
+    → meaning ideal_limits names graph (Del x f) ≡ fault word.ShapesFull
 stopped_by_paths {graph = graph} names f None taking is lacks =
     absurd (own_path_there taking.shows taking.stands
     (subst (LacksPaths graph taking.plain) (without_none taking.plain.fields f is) lacks))

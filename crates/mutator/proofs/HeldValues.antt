@@ -7,13 +7,13 @@ use Rattle.std.specs.FinMap.{get}
 use Rattle.heap_model.specs.Types.{Operand, Value, Held}
 use Rattle.heap_command.specs.declared.command.Operand.TheVariants as operand
 use Rattle.object_graph.specs.declared.value.Value.TheVariants.{Int, Undefined, Ref}
-use Rattle.object_graph.specs.Graphs.{Graph, value_of}
+use Rattle.object_graph.specs.Graphs.{Graph, value_of, plain_at}
 use Rattle.graph_laws.specs.GraphLaws.{FitsOperand}
 use Rattle.graph_laws.proofs.Reaches.{reach_has_bound}
 use Rattle.handle_roots.specs.declared.held.Held.TheVariants as held
 use Rattle.handle_roots.specs.declared.given.Given.{Given}
 use Rattle.handle_roots.specs.declared.given.Given.TheVariants as given
-use Rattle.handle_roots.specs.Givens.{Gives, has_slot_word}
+use Rattle.handle_roots.specs.Givens.{IsGivenFor, has_slot_word}
 use Rattle.handle_roots.specs.Roots.{FitsHeld, Holds, IsRoot}
 use Rattle.handle_roots.proofs.RootsHeld.{holds_one}
 use Rattle.heap_table.specs.Seats.{heap_words}
@@ -69,7 +69,7 @@ pub ref_bound : (at : ℕ) → held.Ref at ≡ held.Unbound → ⊥
 ref_bound at is = subst IsSomething is tt
 
 -- what is given is something
-pub given_bound : (given : Given) (one : Held) → Gives given one → (one ≡ held.Unbound → ⊥)
+pub given_bound : (given : Given) (one : Held) → IsGivenFor given one → (one ≡ held.Unbound → ⊥)
 given_bound (given.Word word) one gives is =
     true≢false (sym gives.is.1 ∙ ap has_slot_word is)
 given_bound (given.Int v) one gives is = subst IsSomething (sym gives.is ∙ is) tt
@@ -110,6 +110,18 @@ place_below held.Unbound number shows is = absurd is
 place_below held.Undefined number shows is = absurd is
 place_below (held.Int v) number shows is = absurd is
 place_below (held.Ref at) number shows is = shows.shows.made number at is
+
+-- what holds no reference shows no plain object
+pub no_plain_shown : (heap : Heap) (graph : Graph) (one : Held) (value : Value) → ((at : ℕ) → one ≡ held.Ref at → ⊥)
+    → ShowsByKind heap one (Some value) → plain_at graph.objects value ≡ None
+no_plain_shown heap graph held.Undefined Undefined apart shows = refl
+no_plain_shown heap graph held.Undefined (Int w) apart shows = absurd shows
+no_plain_shown heap graph held.Undefined (Ref number) apart shows = absurd shows
+no_plain_shown heap graph (held.Int v) (Int w) apart shows = refl
+no_plain_shown heap graph (held.Int v) Undefined apart shows = absurd shows
+no_plain_shown heap graph (held.Int v) (Ref number) apart shows = absurd shows
+no_plain_shown heap graph (held.Ref at) value apart shows = absurd (apart at refl)
+no_plain_shown heap graph held.Unbound value apart shows = absurd shows
 
 -- so is one that is held
 pub held_below : {main : Mutator} {graph : Graph} (one : Held) (value : Value) (number : ℕ) → MainShows main graph

@@ -11,7 +11,7 @@ use Rattle.object_cells.specs.Capacities.{ChangesObject}
 use Rattle.object_cells.specs.Uses.{UsesMore}
 use Rattle.object_graph.specs.Graphs.{Graph, found_at}
 use Rattle.object_graph.specs.Limits.{ideal_limits}
-use Rattle.object_graph.specs.Meaning.{done, does}
+use Rattle.object_graph.specs.Meaning.{done, meaning}
 use Rattle.write_barrier.specs.MutatorState.{Mutator, heap_of, MainShows}
 use Rattle.mutator.specs.Capacities.{KeepsStores}
 use Rattle.mutator.specs.CarriesOut.{Carries}
@@ -42,7 +42,7 @@ known_is {as_kind = as_kind} {graph} known =
 -- means, and takes the words that the command needs.
 pub change_carried : {old main new : Mutator} {graph after : Graph} {command : Command} {at capacity need : ℕ}
     (names : List (List ℕ)) → main ≡ old → MainShows main graph → MainShows new after
-    → does ideal_limits names graph command ≡ done after [] → made_for command ≡ None
+    → meaning ideal_limits names graph command ≡ done after [] → made_for command ≡ None
     → ChangesObject (heap_of main) (heap_of new) at capacity → HasRoom main.young need → UsesMore main new need
     → ((rooms : ℕ → Room) → HasRooms (heap_of main) graph rooms → need ≡ need_of graph rooms command)
     → ((rooms : ℕ → Room) → IsAfter main new graph after rooms → ReachesNoMore graph after

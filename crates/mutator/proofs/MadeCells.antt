@@ -2,7 +2,7 @@
 use Rattle.std.proofs.Common.{◌≡◌, ℕ, ◌+◌, ◌≤◌, ◌<◌, ◌^◌, [], length, refl, sym, subst, arith}
 use Rattle.heap_model.specs.Types.{Header, Kind, Object, Cell}
 use Rattle.tagged_word.specs.Headers.{IsHeader}
-use Rattle.object_graph.specs.declared.object.Object.TheVariants.{Plain, Weak, List as ListOf}
+use Rattle.object_graph.specs.declared.object.Object.TheVariants.{Plain}
 use Rattle.object_graph.specs.Graphs.{Graph, make}
 use Rattle.object_graph.specs.Reach.{reach}
 use Rattle.heap_command.specs.Commands.{cap_most}
@@ -15,7 +15,10 @@ use Rattle.nursery.specs.Young.{HasRoom}
 use Rattle.write_barrier.specs.MutatorState.{Mutator, MainShows}
 use Rattle.mutator.proofs.EmptyCells.{no_fields, plain_cell, plain_fresh, plain_laid, IsEmptyCell, empty_is_sound}
 use Rattle.mutator.proofs.EmptyCells.{empty_shows}
-use Rattle.mutator.proofs.EmptyCounted.{IsCountedKind, counted_cell, counted_fresh}
+use Rattle.mutator.proofs.EmptyCounted.{IsCountedKind, counted_cell, counted_fresh, object_of_counted}
+use Rattle.mutator.specs.Making.{making_of}
+use Rattle.mutator.specs.declared.making.Counted.{Counted}
+use Rattle.mutator.specs.declared.making.Counted.TheVariants as counted
 use Rattle.mutator.proofs.NewCells.{cell_of, CountsNone}
 use Rattle.object_cells.specs.Contents.{next_at}
 use Rattle.mutator.proofs.PutCells.{with_cell_words}
@@ -33,14 +36,12 @@ plain_making graph x cap few = record {
   gives = λ rooms number. refl;
 }
 
--- what `list` makes
-pub list_making : (graph : Graph) (x : ℕ) → IsMaking graph (command.List x) x 3 (ListOf [])
-list_making graph x =
+-- what `list` makes, or `weak`
+pub counted_making : (graph : Graph) (counted : Counted) (x : ℕ)
+    → IsMaking graph (making_of counted x) x 3 (object_of_counted counted)
+counted_making graph counted.List x =
     record { fits = tt; done = λ names. refl; need = λ rooms. refl; gives = λ rooms number. refl }
-
--- what `weak` makes
-pub weak_making : (graph : Graph) (x : ℕ) → IsMaking graph (command.Weak x) x 3 (Weak [])
-weak_making graph x =
+counted_making graph counted.Weak x =
     record { fits = tt; done = λ names. refl; need = λ rooms. refl; gives = λ rooms number. refl }
 
 -- the layout word of a shape of paths is that of plain cells, so the cell of a plain object without fields is made

@@ -5,7 +5,7 @@ use Rattle.heap_model.specs.Types.{Command, Object, Cell, Held, Run}
 use Rattle.tagged_word.proofs.Members.{one_in}
 use Rattle.object_graph.specs.declared.object.Object.TheVariants.{Weak}
 use Rattle.object_graph.specs.Graphs.{Graph, make}
-use Rattle.object_graph.specs.Meaning.{done, does}
+use Rattle.object_graph.specs.Meaning.{done, meaning}
 use Rattle.object_graph.specs.Limits.{ideal_limits}
 use Rattle.object_graph.specs.Invariants.{IsGraph, IsObject, IsEntry}
 use Rattle.graph_laws.specs.GraphLaws.{FitsCommand}
@@ -62,7 +62,7 @@ no_entry_key graph is holder at entries entry there stands same =
 -- what a command is that makes an object: it needs the words of its cell, and changes no store
 pub record IsMaking (graph : Graph) (command : Command) (x size : ℕ) (what : Object) : Type 0 where
   pub fits : FitsCommand command
-  pub done : (names : List (List ℕ)) → does ideal_limits names graph command ≡ done (make graph x what) []
+  pub done : (names : List (List ℕ)) → meaning ideal_limits names graph command ≡ done (make graph x what) []
   pub need : (rooms : ℕ → Room) → need_of graph rooms command ≡ size
   pub gives : (rooms : ℕ → Room) (number : ℕ)
       → rooms_after graph rooms command number ≡ with_room rooms (length graph.objects) bare_room number

@@ -1,11 +1,11 @@
 -- A heap in which a variable was bound anew shows the graph after the command.
 use Rattle.std.proofs.Common.{◌≡◌, ℕ, ◌+◌, ◌<◌, List, [], Some, None, Ok, inl, inr, sym, ◌∙◌, ap, subst}
-use Rattle.std.specs.Prelude.{Option, IsTrue, is_some}
+use Rattle.std.specs.Prelude.{Option, IsTrue, is_some, Result, OnOk}
 use Rattle.std.specs.FinMap.{get}
 use Rattle.std.proofs.lemmas.Bool.{false≢true}
 use Rattle.heap_model.specs.Types.{Command, Value, Held, Run}
 use Rattle.object_graph.specs.Graphs.{Graph, bind}
-use Rattle.object_graph.specs.Meaning.{done, does}
+use Rattle.object_graph.specs.Meaning.{done, meaning}
 use Rattle.object_graph.specs.Limits.{ideal_limits}
 use Rattle.graph_laws.specs.GraphLaws.{FitsCommand}
 use Rattle.graph_laws.specs.ReachAfter.{made_for}
@@ -57,6 +57,11 @@ binds_after {new = new} x one same held = record {
   is = subst (λ (main : Mutator). new ≡ with_variable main x one) same held;
 }
 
+-- so it is of one that is the same as another
+pub binds_still : {A E : Type 0} {old now : Mutator} (new : Mutator) (x : ℕ) (came : Result A E) → now ≡ old
+    → OnOk came (Binds now new x) → OnOk came (Binds old new x)
+binds_still new x came same binds = subst (λ main. OnOk came (Binds main new x)) same binds
+
 -- the heap is then the one with these root words
 pub heap_bound : {old new : Mutator} (x : ℕ) (one : Held) → HoldsAnew old new x one → heap_of new
     ≡ bound (heap_of old) x one
@@ -67,7 +72,7 @@ heap_bound {old} {new} x one holds =
 
 -- a command that makes no object lets nothing more be reached
 pub reaches_no_more : {graph after : Graph} {main : Mutator} (names : List (List ℕ)) (command : Command) (text : List ℕ)
-    → MainShows main graph → does ideal_limits names graph command ≡ done after text → made_for command ≡ None
+    → MainShows main graph → meaning ideal_limits names graph command ≡ done after text → made_for command ≡ None
     → ReachesNoMore graph after
 reaches_no_more {graph} {after} names command text shows carried none number marked =
     elim (only_made_is_new ideal_limits names graph command after text number shows.is_graph carried marked) [
@@ -105,7 +110,7 @@ bound_tied {old} {new} x one below shows holds = record {
 -- it shows the graph after the command
 pub rebound_shows : {old new : Mutator} {graph after : Graph} (names : List (List ℕ)) (command : Command)
     (text : List ℕ)
-    (x : ℕ) (one : Held) → MainShows old graph → does ideal_limits names graph command ≡ done after text
+    (x : ℕ) (one : Held) → MainShows old graph → meaning ideal_limits names graph command ≡ done after text
     → made_for command ≡ None → FitsCommand command → BindsAnew graph after x → x < old.seat.space.variables
     → FitsHeld one → ShowsHeld (heap_of old) one (get after.bindings x) → HoldsAnew old new x one → MainShows new after
 rebound_shows {old} {new} {graph} {after} names command text x one shows carried none fits anew below held_fits shown
@@ -144,7 +149,7 @@ NeedsNone graph command =
 
 -- so the command is carried out, if it is one that binds a variable and needs no words
 pub binding_carried : {old new : Mutator} {graph : Graph} (after : Graph) (names : List (List ℕ)) (command : Command)
-    (x : ℕ) (one : Held) → MainShows old graph → does ideal_limits names graph command ≡ done after []
+    (x : ℕ) (one : Held) → MainShows old graph → meaning ideal_limits names graph command ≡ done after []
     → made_for command ≡ None → FitsCommand command → BindsAnew graph after x → x < old.seat.space.variables
     → FitsHeld one → ShowsHeld (heap_of old) one (get after.bindings x) → HoldsAnew old new x one
     → NeedsNone graph command → Carries names old new graph command [] (Ok tt)
@@ -165,7 +170,7 @@ binding_carried {old} {new} after names command x one shows carried none fits an
 -- so is one that binds a variable to a value that is held, on a heap that is the same as before
 pub value_carried : {old now new : Mutator} {graph : Graph} {command : Command} {value : Value} (names : List (List ℕ))
     (y : ℕ) (one : Held) → now ≡ old → MainShows now graph
-    → does ideal_limits names graph command ≡ done (bind graph y value) [] → made_for command ≡ None
+    → meaning ideal_limits names graph command ≡ done (bind graph y value) [] → made_for command ≡ None
     → FitsCommand command → y < old.seat.space.variables → FitsHeld one → ShowsHeld (heap_of now) one (Some value)
     → HoldsAnew now new y one → NeedsNone graph command → Carries names old new graph command [] (Ok tt)
 value_carried {now = now} {new} {graph} {command} {value} names y one same shows carried none fits below held_fits shown

@@ -55,7 +55,7 @@ pub finds_small_sum : {main : Mutator} {graph : Graph} (names : List (List ℕ))
     → MainShows main graph → x < main.seat.space.variables → IsTrue (small a)
     → Holds main.seat.space (heap_words main.seat) x (held.Int a)
     → option_and_then integer_in (value_of graph v) ≡ Some b → SFits w64 b → sum ≡ int_wrapping_add w64 a b
-    → IsTrue (small sum) → FindsSum names graph x v (Some sum)
+    → IsTrue (small sum) → FindsSum names graph x v sum
 finds_small_sum {graph = graph} names x v a b sum shows known first holds is_second fits wrapped second =
-    finds_sum names graph x v a b (Some sum) (integer_held x a shows known holds) is_second
-    (small_sum_is a b sum first fits second wrapped)
+    let (whole, same) = small_sum_is a b sum first fits second wrapped in
+    finds_sum names graph x v a b sum (integer_held x a shows known holds) is_second whole same

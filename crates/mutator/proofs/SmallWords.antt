@@ -1,5 +1,5 @@
 -- Words of small integers, and what a command knows that finds the word of its value.
-use Rattle.std.proofs.Common.{◌≡◌, ℤ, false, to_z, of_z, w64, SFits, Some, None, Ok, refl, sym, ◌∙◌, ap, subst}
+use Rattle.std.proofs.Common.{◌≡◌, ℤ, false, to_z, of_z, w64, SFits, Some, None, refl, sym, ◌∙◌, ap, subst}
 use Rattle.std.specs.Prelude.{◌↔◌, Option, IfSome, IsNone, IsTrue}
 use Rattle.std.proofs.lemmas.Bool.{true_from_ne_false}
 use Rattle.std.proofs.lemmas.Int.{to_z-of_z}
@@ -11,7 +11,7 @@ use Rattle.object_graph.specs.declared.value.Value.TheVariants.{Int}
 use Rattle.object_graph.specs.Graphs.{Graph}
 use Rattle.handle_roots.specs.declared.held.Held.TheVariants as held
 use Rattle.handle_roots.specs.declared.given.Given.TheVariants.{Word as GivenWord}
-use Rattle.handle_roots.specs.Givens.{Gives}
+use Rattle.handle_roots.specs.Givens.{IsGivenFor}
 use Rattle.handle_roots.specs.Roots.{first_of}
 use Rattle.write_barrier.specs.MutatorState.{Mutator}
 use Rattle.mutator.specs.Reading.{FindsGiven, IsSmallWord}
@@ -22,7 +22,7 @@ MadeWord v made = IfSome made (λ word. word.0 ≡ bits_of (Small v)) × (IsNone
 
 -- the word of a small integer gives it
 small_gives : (v : ℤ) (word : Word) → SFits w64 v → word.0 ≡ bits_of (Small v) → IsTrue (small v)
-    → Gives (GivenWord word) (held.Int v)
+    → IsGivenFor (GivenWord word) (held.Int v)
 small_gives v word fits is few = record { fits = fits; is = (is ∙ ap (λ b. first_of b v) (sym few), few) }
 
 -- so an integer that has a word is a small one with that word
@@ -39,7 +39,7 @@ integer_word v made fits is = word_made v made fits (subst (λ n. MadeWord n mad
 
 -- what has such a word is given by it
 pub small_given : {main : Mutator} {graph : Graph} {sought : Option Value} {word : Word} → IsSmallWord sought word
-    → FindsGiven main graph sought (Ok (GivenWord word))
+    → FindsGiven main graph sought (Some (GivenWord word))
 small_given found = (
   held.Int found.v,
   found.gives,

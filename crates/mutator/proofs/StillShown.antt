@@ -1,12 +1,11 @@
 -- A heap that is the same as before shows the same.
 use Rattle.std.proofs.Common.{◌≡◌, ℕ, sym, subst}
-use Rattle.std.specs.Prelude.{Option, Ok}
+use Rattle.std.specs.Prelude.{Option}
 use Rattle.handle_roots.specs.declared.given.Given.{Given}
 use Rattle.heap_model.specs.Types.{Operand, Value, Held, Header}
 use Rattle.object_graph.specs.Graphs.{Graph, value_of}
 use Rattle.write_barrier.specs.MutatorState.{Mutator, MainShows}
-use Rattle.mutator.specs.Reading.{StandsFor, StandForBoth, IsShownValue, Finds, FindsGiven, FindsHeader}
-use Rattle.mutator.specs.Reading.{StandsWithGiven}
+use Rattle.mutator.specs.Reading.{StandsFor, StandForBoth, IsShownValue, FindsGiven, FindsHeader}
 
 -- it shows a graph where it showed one
 pub some_still : {old new : Mutator} → new ≡ old → (graph : Graph) × MainShows old graph
@@ -38,23 +37,11 @@ pub first_still : {old new : Mutator} {pair : Held × Held} (a b : Operand) → 
 first_still {pair = pair} a b same (graph, shows) found =
     let both = found graph shows in value_still graph both.first pair.0 same shows both.stands_first
 
--- what was found stands for two values where the first was found of the same heap as the second was given
-pub both_given : {old now : Mutator} {graph : Graph} {one other : Option Value} {first : Held} (given : Given)
-    → now ≡ old → Finds now graph one (Ok first) → FindsGiven old graph other (Ok given)
-    → StandsWithGiven old graph one other (first, given)
-both_given {old} {now} {graph} {first = first} given same (value, is, stands) (held, gives, (what, is_what, stands_what)) =
-    record {
-      second = held;
-      gives = gives;
-      both = record {
-        first = value;
-        is_first = is;
-        stands_first = subst (λ main. StandsFor main graph value first) same stands;
-        second = what;
-        is_second = is_what;
-        stands_second = stands_what;
-      };
-    }
+-- what was given is given
+pub given_still : {old new : Mutator} (graph : Graph) (sought : Option Value) (given : Option Given) → new ≡ old
+    → FindsGiven old graph sought given → FindsGiven new graph sought given
+given_still graph sought given same finds =
+    subst (λ main. FindsGiven main graph sought given) (sym same) finds
 
 -- the header that was found is that of the object
 pub header_still : {old new : Mutator} {graph : Graph} {sought : Option Value} {at : ℕ} {header : Header} → new ≡ old

@@ -1,5 +1,5 @@
 -- What a command stops with, where a call stopped.
-use Rattle.std.proofs.Common.{◌≡◌, ℕ, true, false, List, [], Result, Ok, Err, is_ok, ap, subst, sym}
+use Rattle.std.proofs.Common.{◌≡◌, ℕ, List, [], Result, Ok, Err, ap, subst, sym}
 use Rattle.std.specs.Result.{IsErrAnd}
 use Rattle.heap_model.specs.Types.{Command}
 use Rattle.object_graph.specs.Graphs.{Graph}
@@ -21,24 +21,9 @@ stopped_with {now = now} new graph names command answer stop same is carries =
     subst (λ main. Carries names main new graph command [] answer) same
     (subst (λ one. Carries names now new graph command [] one) (sym (stopped_by answer stop is)) carries)
 
--- a command that came through was carried out
-pub carried_through : (names : List (List ℕ)) (old new : Mutator) (graph : Graph) (command : Command)
-    (text : List ℕ) (result : Result Unit Stop) → is_ok result ≡ true → Carries names old new graph command text result
-    → Carries names old new graph command text (Ok tt)
-carried_through names old new graph command text (Ok done) well carries = carries
-carried_through names old new graph command text (Err stop) well carries = absurd (cc)
-
--- one that stopped left the heap as it was
+-- a command that stopped left the heap as it was
 pub same_stopped : (names : List (List ℕ)) (old new : Mutator) (graph : Graph) (command : Command) (text : List ℕ)
     (stop : Stop) → Carries names old new graph command text (Err stop) → new ≡ old
 same_stopped names old new graph command text (Fault word) (does-is, same) = same
 same_stopped names old new graph command text (NoRoom need) (after, written, does-is, needs, lacks, same) = same
 same_stopped names old new graph command text (NoClear entries) (full, same) = same
-
--- so did one that did not come through
-pub carried_nothing : (names : List (List ℕ)) (old new : Mutator) (graph : Graph) (command : Command)
-    (text : List ℕ) (result : Result Unit Stop) → is_ok result ≡ false
-    → Carries names old new graph command text result → new ≡ old
-carried_nothing names old new graph command text (Ok done) ill carries = absurd (cc)
-carried_nothing names old new graph command text (Err stop) ill carries =
-    same_stopped names old new graph command text stop carries

@@ -1,5 +1,5 @@
 -- The command `add` is carried out where the variable comes to hold the sum.
-use Rattle.std.proofs.Common.{◌≡◌, ◌<◌, ℕ, ℤ, to_z, of_z, w64, SFits, List, [], Ok, Some, refl, subst}
+use Rattle.std.proofs.Common.{◌≡◌, ◌<◌, ℕ, ℤ, to_z, of_z, w64, SFits, List, [], Ok, refl, subst}
 use Rattle.std.proofs.lemmas.Int.{to_z-of_z}
 use Rattle.heap_command.specs.declared.command.Command.TheVariants.{Add}
 use Rattle.heap_model.specs.Types.{Operand}
@@ -13,7 +13,7 @@ use Rattle.mutator.proofs.Rebinding.{HoldsAnew, holds_after, value_carried}
 
 -- so it is of a sum of 64 bits, told by these
 pub sum_carried : {old now new : Mutator} {graph : Graph} (names : List (List ℕ)) (x : ℕ) (v : Operand) (sum : ℤ)
-    → SFits w64 sum → MainShows old graph → x < old.seat.space.variables → FindsSum names graph x v (Some sum)
+    → SFits w64 sum → MainShows old graph → x < old.seat.space.variables → FindsSum names graph x v sum
     → now ≡ old → HoldsAnew now new x (held.Int (to_z w64 (of_z w64 sum)))
     → Carries names old new graph (Add x v) [] (Ok tt)
 sum_carried {old} {new = new} names x v sum fits shows below finds same holds =

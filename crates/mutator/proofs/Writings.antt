@@ -2,7 +2,7 @@
 use Rattle.std.proofs.Common.{◌≡◌, refl, ℕ, List, Ok, sym, ◌∙◌, ap, subst}
 use Rattle.heap_model.specs.Types.{Command}
 use Rattle.object_graph.specs.Graphs.{Graph}
-use Rattle.object_graph.specs.Meaning.{done, does}
+use Rattle.object_graph.specs.Meaning.{done, meaning}
 use Rattle.object_graph.specs.Limits.{ideal_limits}
 use Rattle.nursery.specs.Young.{HasRoom}
 use Rattle.write_barrier.specs.MutatorState.{Mutator, MainShows}
@@ -25,7 +25,7 @@ uses_none_still {old} same = record {
 
 -- so it is carried out, if it needs no words
 pub writing_carried : {old new : Mutator} {graph : Graph} (names : List (List ℕ)) (command : Command) (text : List ℕ)
-    → new ≡ old → MainShows old graph → does ideal_limits names graph command ≡ done graph text
+    → new ≡ old → MainShows old graph → meaning ideal_limits names graph command ≡ done graph text
     → NeedsNone graph command → Carries names old new graph command text (Ok tt)
 writing_carried {old} {new} {graph} names command text same shows carried no_need = (
   graph,

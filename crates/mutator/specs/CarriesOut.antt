@@ -2,7 +2,7 @@
 use Rattle.std.specs.Prelude.{◌≡◌, ℕ, ◌^◌, List, Result, Ok, Err}
 use Rattle.heap_model.specs.Types.{Command}
 use Rattle.object_graph.specs.Graphs.{Graph}
-use Rattle.object_graph.specs.Meaning.{done, fault, does}
+use Rattle.object_graph.specs.Meaning.{done, fault, meaning}
 use Rattle.object_graph.specs.Limits.{ideal_limits}
 use Rattle.nursery.specs.Young.{HasRoom}
 use Rattle.heap_model.specs.Rooms.{Room, HasRooms, need_of, FindsMapFull}
@@ -29,12 +29,12 @@ pub record TakesRoom (old new : Mutator) (graph after : Graph) (command : Comman
 -- meaning may be a fault or not. All three change nothing.
 abbrev pub Carries : List (List ℕ) → Mutator → Mutator → Graph → Command → List ℕ → Result Unit Stop → Type 0
 Carries names old new graph command text (Ok _) =
-    (after : Graph) × (does ideal_limits names graph command ≡ done after text) × MainShows new after
+    (after : Graph) × (meaning ideal_limits names graph command ≡ done after text) × MainShows new after
     × ((rooms : ℕ → Room) → HasRooms (heap_of old) graph rooms → TakesRoom old new graph after command rooms)
 Carries names old new graph command text (Err (Fault word)) =
-    (does ideal_limits names graph command ≡ fault word) × (new ≡ old)
+    (meaning ideal_limits names graph command ≡ fault word) × (new ≡ old)
 Carries names old new graph command text (Err (NoRoom need)) =
-    (after : Graph) × (written : List ℕ) × (does ideal_limits names graph command ≡ done after written)
+    (after : Graph) × (written : List ℕ) × (meaning ideal_limits names graph command ≡ done after written)
     × ((rooms : ℕ → Room) → HasRooms (heap_of old) graph rooms → need ≡ need_of graph rooms command)
     × (HasRoom old.young need → ⊥) × (new ≡ old)
 Carries names old new graph command text (Err (NoClear entries)) =

@@ -13,7 +13,7 @@ use Rattle.object_graph.specs.Paths.{path_of}
 use Rattle.object_graph.specs.Graphs.{Graph, PlainObject, ListObject, WeakObject, integer_in, object_in}
 use Rattle.object_graph.specs.Graphs.{plain_at, list_at, weak_at, bind}
 use Rattle.object_graph.specs.Limits.{ideal_limits}
-use Rattle.object_graph.specs.Meaning.{done, fault, does}
+use Rattle.object_graph.specs.Meaning.{done, meaning}
 use Rattle.object_graph.specs.Reach.{is_marked, reach}
 use Rattle.shape_tree.specs.Shapes.{IsShapeOf}
 use Rattle.handle_roots.specs.declared.given.Given.{Given}
@@ -21,11 +21,11 @@ use Rattle.handle_roots.specs.declared.given.Given.TheVariants as given
 use Rattle.handle_roots.specs.declared.held.Held.TheVariants as held
 use Rattle.tagged_word.specs.declared.word.Word.{Word}
 use Rattle.tagged_word.specs.Words.{small}
-use Rattle.handle_roots.specs.Givens.{Gives}
+use Rattle.handle_roots.specs.Givens.{IsGivenFor}
 use Rattle.handle_roots.specs.Roots.{FitsHeld}
 use Rattle.heap_model.specs.Slots.{IsPlace}
 use Rattle.write_barrier.specs.MutatorState.{Mutator, MainShows, heap_of}
-use Rattle.object_cells.specs.CellsAt.{IsHeaderAt}
+use Rattle.write_barrier.specs.Reading.{IsHeaderAt}
 use Rattle.object_cells.specs.PlainObjects.{IsPlainAt}
 use Rattle.object_cells.specs.ListObjects.{IsListAt}
 use Rattle.object_cells.specs.HeldValues.{IsValueHeld}
@@ -56,22 +56,17 @@ abbrev pub FindsBoth : Mutator → Graph → Option Value → Option Value → R
 FindsBoth main graph one other (Ok found) = StandForBoth main graph one other found
 FindsBoth main graph one other (Err word) = ((one ≡ None) ⊎ (other ≡ None)) × (word ≡ Unbound)
 
--- the value that is sought is given; where none is there, the word is `unbound`
-abbrev pub FindsGiven : Mutator → Graph → Option Value → Result Given FaultWord → Type 0
-FindsGiven main graph sought (Ok given) = (held : Held) × Gives given held × Finds main graph sought (Ok held)
-FindsGiven main graph sought (Err word) = Finds main graph sought (Err word)
+-- the value that is sought is given, or none is there
+abbrev pub FindsGiven : Mutator → Graph → Option Value → Option Given → Type 0
+FindsGiven main graph sought (Some given) = (held : Held) × IsGivenFor given held × Finds main graph sought (Ok held)
+FindsGiven main graph sought None = sought ≡ None
 
--- What was found stands for two values that are sought, the second of which is given.
-pub record StandsWithGiven (main : Mutator) (graph : Graph) (one other : Option Value) (found : Held × Given)
-    : Type 0 where
-  pub second : Held
-  pub gives : Gives found.1 second
-  pub both : StandForBoth main graph one other (found.0, second)
-
--- both were found; where one of them is not there, the word is `unbound`
-abbrev pub FindsWithGiven : Mutator → Graph → Option Value → Option Value → Result (Held × Given) FaultWord → Type 0
-FindsWithGiven main graph one other (Ok found) = StandsWithGiven main graph one other found
-FindsWithGiven main graph one other (Err word) = ((one ≡ None) ⊎ (other ≡ None)) × (word ≡ Unbound)
+-- the value that is sought is there and refers to no plain object, or is not there; this is the fault of a command that
+-- wants one
+abbrev pub LacksPlain : Graph → Option Value → FaultWord → Type 0
+LacksPlain graph sought word =
+    ((sought ≡ None) × (word ≡ Unbound))
+    ⊎ ((value : Value) × (sought ≡ Some value) × (plain_at graph.objects value ≡ None) × (word ≡ NotObject))
 
 -- what is held stands for a value of a graph that the heap shows
 pub record IsShownValue (main : Mutator) (held : Held) : Type 0 where
@@ -126,7 +121,7 @@ pub record FindsHeader (main : Mutator) (graph : Graph) (sought : Option Value) 
 pub record IsSmallWord (sought : Option Value) (word : Word) : Type 0 where
   pub v : ℤ
   pub small : IsTrue (small v)
-  pub gives : Gives (given.Word word) (held.Int v)
+  pub gives : IsGivenFor (given.Word word) (held.Int v)
   pub is : sought ≡ Some (Int v)
 
 -- the value that is sought refers to a plain object that stands here, and this is its cell's header
@@ -177,7 +172,6 @@ abbrev pub FindsInteger : Value → Result ℤ FaultWord → Type 0
 FindsInteger value (Ok v) = integer_in value ≡ Some v
 FindsInteger value (Err word) = (integer_in value ≡ None) × (word ≡ NotInt)
 
--- the sum that the command `add` binds was found; where there is none, what the command means is a fault
-abbrev pub FindsSum : List (List ℕ) → Graph → ℕ → Operand → Option ℤ → Type 0
-FindsSum names graph x v (Some sum) = does ideal_limits names graph (Add x v) ≡ done (bind graph x (Int sum)) []
-FindsSum names graph x v None = (word : FaultWord) × (does ideal_limits names graph (Add x v) ≡ fault word)
+-- this is the sum that the command `add` binds
+abbrev pub FindsSum : List (List ℕ) → Graph → ℕ → Operand → ℤ → Type 0
+FindsSum names graph x v sum = meaning ideal_limits names graph (Add x v) ≡ done (bind graph x (Int sum)) []

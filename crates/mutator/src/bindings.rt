@@ -1,6 +1,6 @@
 //! The commands `let`, `drop` and `add`, on what variables are bound to. How a variable is bound to
 //! a field is said in `fields.rt`, and to a new object in `making.rt`.
-ghost use Rattle.std.specs.Prelude.{◌≡◌, ℕ, ℤ, false, List, [], Ok, Err, Some, OnOk, IsTrue, IfSome};
+ghost use Rattle.std.specs.Prelude.{◌≡◌, ℕ, ℤ, false, List, [], Result, Some, OnOk, IsTrue, IfSome};
 ghost use Rattle.std.specs.Prelude.{option_and_then};
 ghost use Rattle.tagged_word.specs.Words.{small};
 ghost use Rattle.heap_command.specs.Commands.{IsWithin, NamesBelow};
@@ -9,11 +9,13 @@ ghost use Rattle.handle_roots.specs.declared.held.Held.TheVariants.{Int};
 ghost use Rattle.handle_roots.specs.Roots.{Holds};
 ghost use Rattle.object_graph.specs.Graphs.{Graph, value_of, integer_in};
 ghost use Rattle.write_barrier.specs.MutatorState.{MainShows};
+ghost use Rattle.mutator.specs.declared.stop.Stop.{Stop as Why};
 ghost use Rattle.mutator.specs.Binding.{Binds};
 ghost use Rattle.mutator.specs.Reading.{FindsSum};
 ghost use Rattle.mutator.specs.CarriesOut.{Carries, field_numbers};
 
 use crate::lookups::{bound, integer, integer_of, operands};
+use crate::outcome::Outcome;
 use crate::stop::Stop;
 use handle_roots::Held;
 use heap_command::{Command, FaultWord, Operand};
@@ -21,7 +23,7 @@ use tagged_word::is_small;
 use write_barrier::Main;
 
 /// An integer below this, and not below its negative, has a sum of 64 bits with each small one.
-const FAR: i64 = 1 << 62;
+const SUM_FITS: i64 = 1 << 62;
 
 /// Binds `x` to the value. What another variable is bound to is copied, whatever it is.
 ///
@@ -65,18 +67,56 @@ pub fn drop_var(main: &mut Main, x: u32) -> Result<(), Stop>
     Ok(())
 }
 
-/// Binds `x` to the sum of its integer and the value.
+/// Binds `x` to the sum of its integer and the value. A sum that is small where `x` held a small integer puts the first
+/// root word of `x` alone, and one that is wide where it held a wide integer the second.
 ///
 /// Stops with `unbound`, `notint`, or `overflow` where the sum is outside 64 bits.
 #[inline(always)]
-pub fn add(main: &mut Main, x: u32, v: Operand) -> Result<(), Stop>
+pub fn add<O: Outcome>(main: &mut Main, x: u32, v: &Operand) -> O
     requires shown { (graph : Graph) × MainShows main.old graph }
-    requires within { IsWithin main.old.seat.space.variables field_numbers (Command.Add x v) }
+    requires within { IsWithin main.old.seat.space.variables field_numbers (Command.Add x v.now) }
+    ensures carried { (came : Result Unit Why) × O.Says result came
+        × ((graph : Graph) (names : List (List ℕ)) → MainShows main.old graph →
+        Carries names main.old main.new graph (Command.Add x v.now) [] came)
+        × OnOk came (Binds main.old main.new x) }
+{
+    if let Some(sum) = small_sum(main, x, v) {
+        main.replace_small(x, sum);
+        return O::of(Ok(()));
+    }
+    if let Some(sum) = wide_sum(main, x, v) {
+        main.replace_wide(x, sum);
+        return O::of(Ok(()));
+    }
+    add_checked(main, x, v)
+}
+
+/// The same, whatever the variable and the operand are. Out of line: few additions come here, and what a `bool` says of
+/// them stays in a register.
+#[cold]
+#[inline(never)]
+fn add_checked<O: Outcome>(main: &mut Main, x: u32, v: &Operand) -> O
+    requires shown { (graph : Graph) × MainShows main.old graph }
+    requires within { IsWithin main.old.seat.space.variables field_numbers (Command.Add x v.now) }
+    ensures carried { (came : Result Unit Why) × O.Says result came
+        × ((graph : Graph) (names : List (List ℕ)) → MainShows main.old graph →
+        Carries names main.old main.new graph (Command.Add x v.now) [] came)
+        × OnOk came (Binds main.old main.new x) }
+{
+    O::of(bind_sum(main, x, v))
+}
+
+/// Binds `x` to the sum of its integer and the value.
+#[inline(always)]
+fn bind_sum(main: &mut Main, x: u32, v: &Operand) -> Result<(), Stop>
+    requires shown { (graph : Graph) × MainShows main.old graph }
+    requires within { IsWithin main.old.seat.space.variables field_numbers (Command.Add x v.now) }
     ensures carried { (graph : Graph) (names : List (List ℕ)) → MainShows main.old graph →
-        Carries names main.old main.new graph (Command.Add x v) [] result }
+        Carries names main.old main.new graph (Command.Add x v.now) [] result }
     ensures binds { OnOk result (Binds main.old main.new x) }
 {
-    let (bound, added) = operands(main, Operand::Var(x), v)?;
+    // Both are read before either is judged: `unbound` comes before `notint`.
+    let (bound, added) = operands(main, Operand::Var(x), *v)?;
     let first = integer(bound)?;
     let second = integer(added)?;
     let Some(sum) = first.checked_add(second) else {
@@ -86,75 +126,13 @@ pub fn add(main: &mut Main, x: u32, v: Operand) -> Result<(), Stop>
     Ok(())
 }
 
-/// The same as `add` where that comes through, and answers whether it does: nothing changes where it stops, and `add`
-/// tells why. A stop need not be judged in order here, so each operand is judged before the next is read.
-#[inline(always)]
-pub fn add_ahead(main: &mut Main, x: u32, v: &Operand) -> bool
-    requires shown { (graph : Graph) × MainShows main.old graph }
-    requires within { IsWithin main.old.seat.space.variables field_numbers (Command.Add x v.now) }
-    ensures carried { IsTrue result → (graph : Graph) (names : List (List ℕ)) → MainShows main.old graph →
-        Carries names main.old main.new graph (Command.Add x v.now) [] (Ok tt) }
-    ensures unchanged { result ≡ false → main.new ≡ main.old }
-    ensures faulted { result ≡ false → (graph : Graph) (names : List (List ℕ)) → MainShows main.old graph →
-        (word : FaultWord) × Carries names main.old main.new graph (Command.Add x v.now) [] (Err (Stop.Fault word)) }
-{
-    match small_sum(main, x, v) {
-        Some(sum) => {
-            main.replace_small(x, sum);
-            true
-        }
-        None => add_wide(main, x, v),
-    }
-}
-
-/// The same where `x` holds an integer that is not small. Where it stays so, its second root word alone is put.
-#[inline(always)]
-fn add_wide(main: &mut Main, x: u32, v: &Operand) -> bool
-    requires shown { (graph : Graph) × MainShows main.old graph }
-    requires within { IsWithin main.old.seat.space.variables field_numbers (Command.Add x v.now) }
-    ensures carried { IsTrue result → (graph : Graph) (names : List (List ℕ)) → MainShows main.old graph →
-        Carries names main.old main.new graph (Command.Add x v.now) [] (Ok tt) }
-    ensures unchanged { result ≡ false → main.new ≡ main.old }
-    ensures faulted { result ≡ false → (graph : Graph) (names : List (List ℕ)) → MainShows main.old graph →
-        (word : FaultWord) × Carries names main.old main.new graph (Command.Add x v.now) [] (Err (Stop.Fault word)) }
-{
-    match wide_sum(main, x, v) {
-        Some(sum) => {
-            main.replace_wide(x, sum);
-            true
-        }
-        None => add_any(main, x, v),
-    }
-}
-
-/// The same, whatever the integers are.
-#[cold]
-#[inline(never)]
-fn add_any(main: &mut Main, x: u32, v: &Operand) -> bool
-    requires shown { (graph : Graph) × MainShows main.old graph }
-    requires within { IsWithin main.old.seat.space.variables field_numbers (Command.Add x v.now) }
-    ensures carried { IsTrue result → (graph : Graph) (names : List (List ℕ)) → MainShows main.old graph →
-        Carries names main.old main.new graph (Command.Add x v.now) [] (Ok tt) }
-    ensures unchanged { result ≡ false → main.new ≡ main.old }
-    ensures faulted { result ≡ false → (graph : Graph) (names : List (List ℕ)) → MainShows main.old graph →
-        (word : FaultWord) × Carries names main.old main.new graph (Command.Add x v.now) [] (Err (Stop.Fault word)) }
-{
-    match sum(main, x, *v) {
-        Some(sum) => {
-            main.hold(x, Held::Int(sum));
-            true
-        }
-        None => false,
-    }
-}
-
 /// The sum of the small integer that `x` holds and the value, if `x` holds one and the sum is small too.
 #[inline(always)]
 fn small_sum(main: &mut Main, x: u32, v: &Operand) -> Option<i64>
     requires shown { (graph : Graph) × MainShows main.old graph }
     requires within { IsWithin main.old.seat.space.variables field_numbers (Command.Add x v.now) }
     ensures found { IfSome result (λ sum. (graph : Graph) (names : List (List ℕ)) → MainShows main.old graph →
-        FindsSum names graph x v.now (Some sum)) }
+        FindsSum names graph x v.now sum) }
     ensures was { IfSome result (λ sum. IsTrue (small sum) × ((was : ℤ) × IsTrue (small was)
         × Holds main.old.seat.space (heap_words main.old.seat) x (Int was))) }
     ensures same { main.new ≡ main.old }
@@ -173,14 +151,14 @@ fn wide_sum(main: &mut Main, x: u32, v: &Operand) -> Option<i64>
     requires shown { (graph : Graph) × MainShows main.old graph }
     requires within { IsWithin main.old.seat.space.variables field_numbers (Command.Add x v.now) }
     ensures found { IfSome result (λ sum. (graph : Graph) (names : List (List ℕ)) → MainShows main.old graph →
-        FindsSum names graph x v.now (Some sum)) }
+        FindsSum names graph x v.now sum) }
     ensures was { IfSome result (λ sum. (small sum ≡ false) × ((was : ℤ) × (small was ≡ false)
         × Holds main.old.seat.space (heap_words main.old.seat) x (Int was))) }
     ensures same { main.new ≡ main.old }
 {
     let first = main.wide(x)?;
     let second = small_integer(main, v)?;
-    if first < -FAR || first >= FAR {
+    if first < -SUM_FITS || first >= SUM_FITS {
         return None;
     }
     // Between these it does not wrap.
@@ -202,18 +180,4 @@ fn small_integer(main: &mut Main, v: &Operand) -> Option<i64>
         Operand::Int(_) | Operand::Undefined => None,
         Operand::Var(x) => main.small(*x),
     }
-}
-
-/// The sum of the integer that `x` holds and the value, if both are integers and it has 64 bits.
-#[inline(always)]
-fn sum(main: &mut Main, x: u32, v: Operand) -> Option<i64>
-    requires shown { (graph : Graph) × MainShows main.old graph }
-    requires within { IsWithin main.old.seat.space.variables field_numbers (Command.Add x v) }
-    ensures found { (graph : Graph) (names : List (List ℕ)) → MainShows main.old graph →
-        FindsSum names graph x v result }
-    ensures same { main.new ≡ main.old }
-{
-    let first = integer_of(main, Operand::Var(x))?;
-    let second = integer_of(main, v)?;
-    first.checked_add(second)
 }

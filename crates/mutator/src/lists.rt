@@ -8,11 +8,9 @@ ghost use Rattle.mutator.specs.Binding.{Binds, BindsMade};
 ghost use Rattle.mutator.specs.CarriesOut.{Carries, field_numbers};
 
 use crate::lookups::{find_list, integer, operand, operands};
-use crate::making::{COUNTED_WORDS, fill_counted};
+use crate::making::{Counted, new_counted};
 use crate::stop::Stop;
-use handle_roots::Held;
 use heap_command::{Command, Operand};
-use tagged_word::{Header, shape};
 use write_barrier::Main;
 
 /// Binds `x` to a new list without elements. `object` is the number of objects that were made, and
@@ -28,14 +26,7 @@ pub fn new_list(main: &mut Main, x: u32, object: u32) -> Result<(), Stop>
         Carries names main.old main.new graph (Command.List x) [] result }
     ensures binds { OnOk result (BindsMade main.old main.new x) }
 {
-    let run = main.reserve(COUNTED_WORDS)?;
-    let header = Header {
-        shape: shape::LIST,
-        object,
-    };
-    fill_counted(main, run.at, header);
-    main.hold(x, Held::Ref(run.at));
-    Ok(())
+    new_counted(main, x, Counted::List, object)
 }
 
 /// Makes the value the last element of the list `x`.

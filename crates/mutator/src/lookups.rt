@@ -1,18 +1,21 @@
 //! What a command reads: variables, operands, and the objects that values refer to. A read changes
 //! nothing. The fields of an object are read by `shape_change`.
-ghost use Rattle.std.specs.Prelude.{◌≡◌, ◌<◌, option_and_then};
+ghost use Rattle.std.specs.Prelude.{◌≡◌, ◌<◌, ℕ, IfSome, IsNone, option_and_then};
 ghost use Rattle.std.specs.FinMap.{get};
 ghost use Rattle.heap_command.specs.Commands.{NamesBelow};
 ghost use Rattle.object_graph.specs.Graphs.{Graph, value_of, integer_in};
 ghost use Rattle.object_graph.specs.declared.value.Value.{Value};
+ghost use Rattle.handle_roots.specs.declared.held.Held.TheVariants.{Ref};
+ghost use Rattle.handle_roots.specs.Roots.{Holds};
+ghost use Rattle.heap_table.specs.Seats.{heap_words};
 ghost use Rattle.write_barrier.specs.MutatorState.{Mutator, MainShows};
 ghost use Rattle.mutator.specs.Reading.{StandsFor, Finds, FindsBoth, IsShownValue, FindsObject, FindsPlain};
 ghost use Rattle.mutator.specs.Reading.{FindsInteger, FindsKey, FindsList, FindsWeak};
-ghost use Rattle.mutator.specs.Reading.{FindsGiven, FindsWithGiven};
+ghost use Rattle.mutator.specs.Reading.{FindsGiven, FindsHeader, IsSmallWord, LacksPlain};
 
 use handle_roots::{Given, Held};
 use heap_command::{FaultWord, Operand};
-use tagged_word::shape;
+use tagged_word::{Header, Word, shape};
 use write_barrier::Main;
 
 /// An object: where its cell stands, and its shape.
@@ -103,56 +106,70 @@ pub(crate) fn operands(main: &mut Main, a: Operand, b: Operand) -> Result<(Held,
     }
 }
 
-/// The value that the operand stands for, by the word that a slot has for it, where a slot has one.
+/// The value that the operand stands for, by the word that a slot has for it, where a slot has one. None where its
+/// variable is unbound.
 #[inline(always)]
-fn given(main: &mut Main, v: Operand) -> Result<Given, FaultWord>
+pub(crate) fn given(main: &mut Main, v: &Operand) -> Option<Given>
     requires shown { (graph : Graph) × MainShows main.old graph }
-    requires within { NamesBelow main.old.seat.space.variables v }
+    requires within { NamesBelow main.old.seat.space.variables v.now }
     ensures found { (graph : Graph) → MainShows main.old graph →
-        FindsGiven main.old graph (value_of graph v) result }
+        FindsGiven main.old graph (value_of graph v.now) result }
     ensures same { main.new ≡ main.old }
 {
     match v {
-        Operand::Int(v) => Ok(Given::integer(v)),
-        Operand::Undefined => Ok(Given::undefined()),
-        Operand::Var(x) => given_in(main, x),
+        Operand::Int(v) => Some(Given::integer(*v)),
+        Operand::Undefined => Some(Given::undefined()),
+        Operand::Var(x) => main.given(*x),
     }
 }
 
-/// What the variable is bound to, by the word that a slot has for it, where a slot has one.
+/// The word of the small integer that the operand stands for, if it stands for one.
 #[inline(always)]
-fn given_in(main: &mut Main, x: u32) -> Result<Given, FaultWord>
+pub(crate) fn small_word(main: &mut Main, v: &Operand) -> Option<Word>
+    requires shown { (graph : Graph) × MainShows main.old graph }
+    requires within { NamesBelow main.old.seat.space.variables v.now }
+    ensures found { IfSome result (λ word. (graph : Graph) → MainShows main.old graph →
+        IsSmallWord (value_of graph v.now) word) }
+    ensures same { main.new ≡ main.old }
+{
+    match v {
+        Operand::Var(x) => main.small_word(*x),
+        Operand::Int(v) => Word::small(*v),
+        Operand::Undefined => None,
+    }
+}
+
+/// Where the cell of the object stands that the variable is bound to, and its header, if it is bound to one.
+#[inline(always)]
+pub(crate) fn headed(main: &mut Main, x: u32) -> Option<(u32, Header)>
     requires shown { (graph : Graph) × MainShows main.old graph }
     requires within { x < main.old.seat.space.variables }
-    ensures found { (graph : Graph) → MainShows main.old graph →
-        FindsGiven main.old graph (get graph.bindings x) result }
+    ensures found { IfSome result (λ found. (graph : Graph) → MainShows main.old graph →
+        FindsHeader main.old graph (get graph.bindings x) found.0 found.1) }
+    ensures none { let words = heap_words main.old.seat in
+        IsNone result → (at : ℕ) → ¬ Holds main.old.seat.space words x (Ref at) }
     ensures same { main.new ≡ main.old }
 {
-    match main.given(x) {
-        Some(given) => Ok(given),
-        None => Err(FaultWord::Unbound),
-    }
+    let at = main.referred(x)?;
+    Some((at, main.header(at)))
 }
 
-/// What the variable is bound to, and the value that the operand stands for. Both are read before the first is
-/// judged: `unbound` comes before all other faults.
-#[inline(always)]
-pub(crate) fn target_and_given(
-    main: &mut Main,
-    x: u32,
-    v: Operand,
-) -> Result<(Held, Given), FaultWord>
+/// Why a command that wants an object stops, where the variable is bound to none.
+#[cold]
+#[inline(never)]
+pub(crate) fn why_no_object(main: &mut Main, x: u32) -> FaultWord
     requires shown { (graph : Graph) × MainShows main.old graph }
-    requires first { x < main.old.seat.space.variables }
-    requires second { NamesBelow main.old.seat.space.variables v }
-    ensures found { (graph : Graph) → MainShows main.old graph →
-        FindsWithGiven main.old graph (get graph.bindings x) (value_of graph v) result }
+    requires within { x < main.old.seat.space.variables }
+    requires none { let words = heap_words main.old.seat in
+        (at : ℕ) → ¬ Holds main.old.seat.space words x (Ref at) }
+    ensures lacks { (graph : Graph) → MainShows main.old graph →
+        LacksPlain graph (get graph.bindings x) result }
     ensures same { main.new ≡ main.old }
 {
-    // The object comes last: what is told of its word is known where its cell is read.
-    let second = given(main, v)?;
-    let first = target(main, x)?;
-    Ok((first, second))
+    match main.held(x) {
+        Held::Unbound => FaultWord::Unbound,
+        _ => FaultWord::NotObject,
+    }
 }
 
 /// The object that the value refers to.

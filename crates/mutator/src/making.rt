@@ -1,29 +1,50 @@
-//! The command `new`: a new cell. And the own cells of new lists and weak maps.
-ghost use Rattle.std.specs.Prelude.{◌≡◌, ℕ, ◌+◌, ◌≤◌, List, [], length, OnOk};
+//! The command `new`: a new cell. And how the commands `list` and `weak` make theirs.
+ghost use Rattle.std.specs.Prelude.{◌≡◌, ℕ, ◌+◌, ◌<◌, ◌≤◌, List, [], length, OnOk};
 ghost use Rattle.tagged_word.specs.Headers.{IsHeader};
 ghost use Rattle.page_space.specs.Extents.{marks_start};
 ghost use Rattle.heap_command.specs.Commands.{IsWithin};
 ghost use Rattle.object_graph.specs.Graphs.{Graph};
-ghost use Rattle.heap_table.specs.declared.phase.Phase.TheVariants.{Quiet};
 ghost use Rattle.heap_table.specs.Seats.{heap_words};
-ghost use Rattle.write_barrier.specs.MutatorState.{MainShows, with_table};
+ghost use Rattle.write_barrier.specs.MutatorState.{MayStore, MainShows, with_table};
 ghost use Rattle.write_barrier.specs.Values.{with_range};
 ghost use Rattle.mutator.specs.Binding.{BindsMade};
 ghost use Rattle.mutator.specs.CarriesOut.{Carries, field_numbers};
 ghost use Rattle.write_barrier.specs.Recording.{Touches};
-ghost use Rattle.mutator.specs.Making.{empty_counted, empty_plain, new_touch};
+ghost use Rattle.mutator.specs.Making.{empty_counted, empty_plain, making_of, new_touch, shape_of_counted};
 
 use crate::stop::Stop;
 use handle_roots::Held;
 use heap_command::Command;
 use heap_model::cells::COUNT;
 use tagged_word::cell::{PLAIN_HEAD, STORE_SLOT};
-use tagged_word::{Header, Word, odd};
+use tagged_word::{Header, Word, odd, shape};
 use write_barrier::Main;
 
 /// The words of a list's own cell, and of a weak map's: its header, the slot for its store or table, and
 /// its length or count.
-pub(crate) const COUNTED_WORDS: u32 = 3;
+const COUNTED_WORDS: u32 = 3;
+
+/// An object whose own cell has a count, and a slot for what stands in another cell.
+#[derive(Clone, Copy)]
+pub(crate) enum Counted {
+    /// A list: its length, and the store of its elements.
+    List,
+    /// A weak map: the count of its pairs, and their table.
+    Weak,
+}
+
+impl Counted {
+    /// The shape of its own cell.
+    #[inline(always)]
+    fn shape(self) -> u32
+        ensures { result ≡ shape_of_counted self }
+    {
+        match self {
+            Counted::List => shape::LIST,
+            Counted::Weak => shape::WEAK,
+        }
+    }
+}
 
 /// Binds `x` to a new plain object with `cap` slots of its own and no field. `object` is the number
 /// of objects that were made, and becomes the new one's number.
@@ -48,7 +69,7 @@ pub fn new_plain(main: &mut Main, x: u32, object: u32, cap: u32) -> Result<(), S
 /// Makes the words at an address the cell of a plain object without fields.
 #[inline(always)]
 fn fill_plain(main: &mut Main, at: u32, header: Header, cap: u32)
-    requires quiet { main.old.seat.phase ≡ Quiet }
+    requires may_store { MayStore main.old }
     requires is { IsHeader header }
     requires within { at + (PLAIN_HEAD + cap) ≤ marks_start main.old.seat.space }
     ensures filled { let words = empty_plain header cap in
@@ -66,10 +87,38 @@ fn fill_plain(main: &mut Main, at: u32, header: Header, cap: u32)
     main.made(at);
 }
 
+/// Binds `x` to a new list without elements, or to a new weak map without entries. `object` is the number of objects
+/// that were made, and becomes the new one's number.
+///
+/// Stops with `NoRoom` where there is no room for the cell's three words.
+#[inline(always)]
+pub(crate) fn new_counted(
+    main: &mut Main,
+    x: u32,
+    counted: Counted,
+    object: u32,
+) -> Result<(), Stop>
+    requires shown { (graph : Graph) × MainShows main.old graph × (object ≡ length graph.objects) }
+    requires within { x < main.old.seat.space.variables }
+    ensures carried { (graph : Graph) (names : List (List ℕ)) → MainShows main.old graph →
+        object ≡ length graph.objects →
+        Carries names main.old main.new graph (making_of counted x) [] result }
+    ensures binds { OnOk result (BindsMade main.old main.new x) }
+{
+    let run = main.reserve(COUNTED_WORDS)?;
+    let header = Header {
+        shape: counted.shape(),
+        object,
+    };
+    fill_counted(main, run.at, header);
+    main.hold(x, Held::Ref(run.at));
+    Ok(())
+}
+
 /// Makes the words at an address the cell of a list without elements, or of a weak map without entries.
 #[inline(always)]
-pub(crate) fn fill_counted(main: &mut Main, at: u32, header: Header)
-    requires quiet { main.old.seat.phase ≡ Quiet }
+fn fill_counted(main: &mut Main, at: u32, header: Header)
+    requires may_store { MayStore main.old }
     requires is { IsHeader header }
     requires within { at + COUNTED_WORDS ≤ marks_start main.old.seat.space }
     ensures filled { let words = empty_counted header in

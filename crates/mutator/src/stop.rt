@@ -49,6 +49,7 @@ impl From<FieldStop> for Stop {
 
     fn from(stop: FieldStop) -> Stop {
         match stop {
+            FieldStop::NotPlain => Stop::Fault(FaultWord::NotObject),
             FieldStop::FieldsFull => Stop::Fault(FaultWord::FieldsFull),
             FieldStop::ShapesFull(_) => Stop::Fault(FaultWord::ShapesFull),
             FieldStop::Full(room) => Stop::NoRoom { need: room.need },

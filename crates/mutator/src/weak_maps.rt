@@ -8,11 +8,10 @@ ghost use Rattle.mutator.specs.Binding.{Binds, BindsMade};
 ghost use Rattle.mutator.specs.CarriesOut.{AsksWhereFull, Carries, field_numbers};
 
 use crate::lookups::{find_weak_map, key, operand, operands};
-use crate::making::{COUNTED_WORDS, fill_counted};
+use crate::making::{Counted, new_counted};
 use crate::stop::Stop;
 use handle_roots::Held;
 use heap_command::{Command, Operand};
-use tagged_word::{Header, shape};
 use write_barrier::Main;
 
 /// Binds `x` to a new weak map without entries. `object` is the number of objects that were made, and
@@ -28,14 +27,7 @@ pub fn new_weak(main: &mut Main, x: u32, object: u32) -> Result<(), Stop>
         Carries names main.old main.new graph (Command.Weak x) [] result }
     ensures binds { OnOk result (BindsMade main.old main.new x) }
 {
-    let run = main.reserve(COUNTED_WORDS)?;
-    let header = Header {
-        shape: shape::WEAK,
-        object,
-    };
-    fill_counted(main, run.at, header);
-    main.hold(x, Held::Ref(run.at));
-    Ok(())
+    new_counted(main, x, Counted::Weak, object)
 }
 
 /// Gives the entry of the key `k` in the weak map `m` the value.

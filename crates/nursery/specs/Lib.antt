@@ -1,2 +1,2 @@
 pub mod Young
-pub mod Kept
+pub mod Model

@@ -35,7 +35,7 @@ impl Model for Nursery {
 
     ghost Value = { Young };
 
-    ghost use Rattle.nursery.specs.Kept.{young_of, IsValid};
+    ghost use Rattle.nursery.specs.Model.{young_of, IsValid};
 
     ghost view = { young_of };
 

@@ -1,19 +1,18 @@
 -- The cells that calls touch, by their addresses.
 use Rattle.std.specs.Prelude.{◌≡◌, ℕ, ◌<◌, List, length}
 use Rattle.std.specs.Prelude.{Some, slice_get, nat_lt}
-use Rattle.heap_model.specs.Types.{PathField, Value, Header, Cell, Held}
+use Rattle.heap_model.specs.Types.{PathField, Value, Cell, Held}
 use Rattle.shape_tree.specs.Shapes.{shape_path}
 use Rattle.heap_model.specs.Showing.{ShowsField, ShowsHeld}
 use Rattle.tagged_word.specs.declared.layout.Kind.TheVariants as kind
-use Rattle.heap_table.specs.declared.phase.Phase.TheVariants.{Quiet}
 use Rattle.heap_model.specs.Heaps.{Heap, HasCell}
 use Rattle.heap_model.specs.Kinds.{HasWord, HasSlots}
 use Rattle.heap_model.specs.Wholeness.{Whole}
-use Rattle.write_barrier.specs.MutatorState.{Mutator, heap_of}
+use Rattle.write_barrier.specs.MutatorState.{Mutator, heap_of, MayStore}
 
--- The heap is whole, and only the mutator runs.
+-- The heap is whole, and the mutator may store.
 pub record IsQuietWhole (main : Mutator) : Type 0 where
-  pub quiet : main.seat.phase ≡ Quiet
+  pub quiet : MayStore main
   pub whole : Whole (heap_of main)
 
 -- a cell of the heap stands at the address
@@ -22,11 +21,6 @@ pub record HasCellAt (heap : Heap) (at : ℕ) : Type 0 where
   pub words : List ℕ
   pub has : HasCell heap cell words
   pub stands : cell.at ≡ at
-
--- it is the header of the cell at the address
-abbrev pub IsHeaderAt : Heap → ℕ → Header → Type 0
-IsHeaderAt heap at header =
-    (cell : Cell) (words : List ℕ) → HasCell heap cell words → cell.at ≡ at → cell.header ≡ header
 
 -- the cell at the address has so many in-object slots
 abbrev pub IsCapAt : Heap → ℕ → ℕ → Type 0

@@ -2,10 +2,9 @@
 ghost use Rattle.std.specs.Prelude.{◌≡◌, ℕ, ℤ, ◌+◌, ◌<◌, ◌≤◌, Some, OnErr, IfOk, IfErr};
 ghost use Rattle.tagged_word.specs.Readings.{reference_in};
 ghost use Rattle.page_space.specs.Extents.{marks_start};
-ghost use Rattle.heap_table.specs.declared.phase.Phase.TheVariants.{Quiet};
 ghost use Rattle.heap_table.specs.Seats.{heap_words};
 ghost use Rattle.heap_model.specs.Needs.{box_words, word_at};
-ghost use Rattle.write_barrier.specs.MutatorState.{heap_of, IsTied};
+ghost use Rattle.write_barrier.specs.MutatorState.{MayStore, heap_of, IsTied};
 ghost use Rattle.write_barrier.specs.Recording.{Touches};
 ghost use Rattle.object_cells.specs.CellsAt.{IsQuietWhole};
 ghost use Rattle.object_cells.specs.Contents as contents;
@@ -32,7 +31,7 @@ pub fn need_of(content: SlotContent) -> u32
 
 /// The word that a slot of a store comes to hold; a box that it needs is made at an address.
 pub fn boxed_word(main: &mut Main, content: SlotContent, at: u32) -> Word
-    requires quiet { main.old.seat.phase ≡ Quiet }
+    requires may_store { MayStore main.old }
     requires within { (v : ℤ) → content ≡ SlotContent.Boxed v
         → at + 1 < marks_start main.old.seat.space }
     ensures made { let words = heap_words main.old.seat in
@@ -53,8 +52,7 @@ pub fn boxed_word(main: &mut Main, content: SlotContent, at: u32) -> Word
 
 /// The box to which the word of a slot refers.
 fn box_in(main: &Main, word: Word) -> Option<u32>
-    requires quiet { main.now.seat.phase ≡ Quiet }
-    requires within { (at : ℕ) → reference_in word.0 ≡ Some at
+    requires { (at : ℕ) → reference_in word.0 ≡ Some at
         → at < marks_start main.now.seat.space }
     ensures { result ≡ contents.box_in (heap_of main.now) word.0 }
 {
@@ -72,7 +70,7 @@ fn box_in(main: &Main, word: Word) -> Option<u32>
 /// There is no room for a box; nothing has changed.
 #[inline(never)]
 fn box_filling(main: &mut Main, word: Word, v: i64) -> Result<SlotWrite, NoRoom>
-    requires quiet { main.old.seat.phase ≡ Quiet }
+    requires may_store { MayStore main.old }
     requires tied { IsTied main.old }
     requires within { (at : ℕ) → reference_in word.0 ≡ Some at
         → at + box_words ≤ marks_start main.old.seat.space }
@@ -124,7 +122,7 @@ pub fn filling_of(main: &mut Main, at: u32, content: SlotContent) -> Result<Slot
 /// Fills the slot at an offset of a cell.
 #[inline(always)]
 pub fn fill(main: &mut Main, cell: u32, offset: u32, filling: SlotWrite)
-    requires quiet { main.old.seat.phase ≡ Quiet }
+    requires may_store { MayStore main.old }
     requires within { cell + offset < marks_start main.old.seat.space }
     requires room { IsBeforeMarks main.old.seat.space filling }
     ensures { main.new ≡ contents.filled main.old (cell + offset) filling }

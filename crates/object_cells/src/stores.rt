@@ -4,10 +4,9 @@ ghost use Rattle.tagged_word.specs.Cells.{store_head, store_slot, cell_words_mos
 ghost use Rattle.page_space.specs.Extents.{marks_start};
 ghost use Rattle.nursery.specs.Young.{HasRoom};
 ghost use Rattle.word_store.specs.Copies.{AreDisjoint};
-ghost use Rattle.heap_table.specs.declared.phase.Phase.TheVariants.{Quiet};
 ghost use Rattle.heap_table.specs.Seats.{heap_words};
 ghost use Rattle.heap_model.specs.Remembered.{Touch};
-ghost use Rattle.write_barrier.specs.MutatorState.{heap_of, IsTied, reserved};
+ghost use Rattle.write_barrier.specs.MutatorState.{MayStore, heap_of, IsTied, reserved};
 ghost use Rattle.write_barrier.specs.Recording.{Touches, touched_one, touched_then};
 ghost use Rattle.object_cells.specs.CellsAt.{IsQuietWhole};
 ghost use Rattle.object_cells.specs.Contents.{next_at};
@@ -69,7 +68,7 @@ pub fn room_for(main: &mut Main, need: u32) -> Result<u32, NoRoom>
 /// Makes the words at an address a store of so many slots, which is no object's. The slots of
 /// another one go to it, and holes stand behind them.
 pub fn begin_store(main: &mut Main, store: Store, capacity: u32, at: u32)
-    requires quiet { main.old.seat.phase ≡ Quiet }
+    requires may_store { MayStore main.old }
     requires more { store.capacity ≤ capacity }
     requires few { store_head + store.capacity ≤ cell_words_most }
     requires within { at + (store_head + capacity) ≤ marks_start main.old.seat.space }
@@ -87,7 +86,7 @@ pub fn begin_store(main: &mut Main, store: Store, capacity: u32, at: u32)
 /// Makes the words at an address a store of so many slots in place of another one of an object. The
 /// slots of the other go to it, and holes stand behind them.
 pub fn make_store(main: &mut Main, object: u32, store: Store, capacity: u32, at: u32)
-    requires quiet { main.old.seat.phase ≡ Quiet }
+    requires may_store { MayStore main.old }
     requires more { store.capacity ≤ capacity }
     requires few { store_head + store.capacity ≤ cell_words_most }
     requires within { at + (store_head + capacity) ≤ marks_start main.old.seat.space }

@@ -107,44 +107,44 @@ same_value _ _ = false
 
 -- The meaning of a command. `names` are the field names by number. Variables that the command reads are
 -- read from left to right, and the first that is unbound is the fault; then come the other faults, in order.
-abbrev pub does : Limits → List (List ℕ) → Graph → Command → Outcome
-does limits names graph (command.New x cap) = done (make graph x (Plain cap [])) []
-does limits names graph (command.List x) = done (make graph x (ListOf [])) []
-does limits names graph (command.Weak x) = done (make graph x (Weak [])) []
-does limits names graph (command.LetValue x v) =
+abbrev pub meaning : Limits → List (List ℕ) → Graph → Command → Outcome
+meaning limits names graph (command.New x cap) = done (make graph x (Plain cap [])) []
+meaning limits names graph (command.List x) = done (make graph x (ListOf [])) []
+meaning limits names graph (command.Weak x) = done (make graph x (Weak [])) []
+meaning limits names graph (command.LetValue x v) =
     given Unbound (value_of graph v) (λ value.
     done (bind graph x value) [])
-does limits names graph (command.DropVar x) =
+meaning limits names graph (command.DropVar x) =
     given Unbound (get graph.bindings x) (λ _.
     done (record graph { bindings = remove graph.bindings x }) [])
-does limits names graph (command.Add x v) =
+meaning limits names graph (command.Add x v) =
     given Unbound (get graph.bindings x) (λ first.
     given Unbound (value_of graph v) (λ second.
     given NotInt (integer_in first) (λ a.
     given NotInt (integer_in second) (λ b.
     unless Overflow (is_outside (a +ℤ b)) (
     done (bind graph x (Int (a +ℤ b))) [])))))
-does limits names graph (command.Set x f v) =
+meaning limits names graph (command.Set x f v) =
     given Unbound (get graph.bindings x) (λ target.
     given Unbound (value_of graph v) (λ value.
     given NotObject (plain_at graph.objects target) (λ plain.
     unless FieldsFull (no_room_for limits plain f) (
     reshape limits graph plain (with_field plain.fields f value)))))
-does limits names graph (command.Get y x f) =
+meaning limits names graph (command.Get y x f) =
     given Unbound (get graph.bindings x) (λ target.
     given NotObject (plain_at graph.objects target) (λ plain.
     done (bind graph y (unwrap_or (field_value plain.fields f) Undefined)) []))
-does limits names graph (command.Del x f) =
+meaning limits names graph (command.Del x f) =
     given Unbound (get graph.bindings x) (λ target.
     given NotObject (plain_at graph.objects target) (λ plain.
     reshape_if limits graph plain (field_value plain.fields f) (without_field plain.fields f)))
-does limits names graph (command.Push x v) =
+meaning limits names graph (command.Push x v) =
     given Unbound (get graph.bindings x) (λ target.
     given Unbound (value_of graph v) (λ value.
     given NotList (list_at graph.objects target) (λ list.
     unless ListFull (nat_le list_most (length list.elements)) (
     done (relist graph list (list.elements ++ value ∷ [])) []))))
-does limits names graph (command.Put x i v) =
+meaning limits names graph (command.Put x i v) =
     given Unbound (get graph.bindings x) (λ target.
     given Unbound (value_of graph i) (λ index.
     given Unbound (value_of graph v) (λ value.
@@ -152,28 +152,28 @@ does limits names graph (command.Put x i v) =
     given NotInt (integer_in index) (λ n.
     given Range (below (length list.elements) n) (λ at.
     done (relist graph list (slice_set list.elements at value)) []))))))
-does limits names graph (command.At y x i) =
+meaning limits names graph (command.At y x i) =
     given Unbound (get graph.bindings x) (λ target.
     given Unbound (value_of graph i) (λ index.
     given NotList (list_at graph.objects target) (λ list.
     given NotInt (integer_in index) (λ n.
     given Range (option_and_then (slice_get list.elements) (below (length list.elements) n)) (λ value.
     done (bind graph y value) [])))))
-does limits names graph (command.Shift x n) =
+meaning limits names graph (command.Shift x n) =
     given Unbound (get graph.bindings x) (λ target.
     given Unbound (value_of graph n) (λ count.
     given NotList (list_at graph.objects target) (λ list.
     given NotInt (integer_in count) (λ k.
     given Range (below (suc (length list.elements)) k) (λ gone.
     done (relist graph list (drop gone list.elements)) [])))))
-does limits names graph (command.Trunc x n) =
+meaning limits names graph (command.Trunc x n) =
     given Unbound (get graph.bindings x) (λ target.
     given Unbound (value_of graph n) (λ count.
     given NotList (list_at graph.objects target) (λ list.
     given NotInt (integer_in count) (λ k.
     given Range (below (suc (length list.elements)) k) (λ kept.
     done (relist graph list (take kept list.elements)) [])))))
-does limits names graph (command.WPut m k v) =
+meaning limits names graph (command.WPut m k v) =
     given Unbound (get graph.bindings m) (λ target.
     given Unbound (value_of graph k) (λ key.
     given Unbound (value_of graph v) (λ value.
@@ -181,37 +181,37 @@ does limits names graph (command.WPut m k v) =
     given BadKey (object_in key) (λ number.
     unless WeakFull (no_entry_for (reach graph) weak.entries number) (
     done (reweave graph weak (with_entry weak.entries number value)) []))))))
-does limits names graph (command.WGet y m k) =
+meaning limits names graph (command.WGet y m k) =
     given Unbound (get graph.bindings m) (λ target.
     given Unbound (value_of graph k) (λ key.
     given NotWeak (weak_at graph.objects target) (λ weak.
     given BadKey (object_in key) (λ number.
     done (bind graph y (unwrap_or (entry_value weak.entries number) Undefined)) []))))
-does limits names graph (command.WDel m k) =
+meaning limits names graph (command.WDel m k) =
     given Unbound (get graph.bindings m) (λ target.
     given Unbound (value_of graph k) (λ key.
     given NotWeak (weak_at graph.objects target) (λ weak.
     given BadKey (object_in key) (λ number.
     done (reweave graph weak (without_entry weak.entries number)) []))))
-does limits names graph (command.Print v) =
+meaning limits names graph (command.Print v) =
     given Unbound (value_of graph v) (λ value.
     done graph (line (value_text graph.objects value)))
-does limits names graph (command.Same a b) =
+meaning limits names graph (command.Same a b) =
     given Unbound (value_of graph a) (λ first.
     given Unbound (value_of graph b) (λ second.
     done graph (line (truth_text (same_value first second)))))
-does limits names graph (command.Alike x y) =
+meaning limits names graph (command.Alike x y) =
     given Unbound (get graph.bindings x) (λ first.
     given Unbound (get graph.bindings y) (λ second.
     given NotObject (plain_at graph.objects first) (λ a.
     given NotObject (plain_at graph.objects second) (λ b.
     done graph (line (truth_text (same_path (path_of a.cap a.fields) (path_of b.cap b.fields))))))))
-does limits names graph (command.Shape x) =
+meaning limits names graph (command.Shape x) =
     given Unbound (get graph.bindings x) (λ target.
     given NotObject (plain_at graph.objects target) (λ plain.
     done graph (line (shape_text names plain.cap plain.fields))))
-does limits names graph command.Scavenge = done graph []
-does limits names graph command.Mark = done graph []
-does limits names graph command.Finish = done graph []
-does limits names graph command.Gc = done graph []
-does limits names graph command.Census = done graph (line (census_text (reached_objects graph) (reached_entries graph)))
+meaning limits names graph command.Scavenge = done graph []
+meaning limits names graph command.Mark = done graph []
+meaning limits names graph command.Finish = done graph []
+meaning limits names graph command.Gc = done graph []
+meaning limits names graph command.Census = done graph (line (census_text (reached_objects graph) (reached_entries graph)))

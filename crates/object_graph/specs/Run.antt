@@ -5,7 +5,7 @@ use Rattle.heap_command.specs.declared.command.FaultWord.{FaultWord}
 use Rattle.heap_command.specs.declared.command.Command.{Command}
 use Rattle.heap_command.specs.Executed.{Executed}
 use Rattle.object_graph.specs.Graphs.{Graph, start}
-use Rattle.object_graph.specs.Meaning.{Limits, Outcome, done, fault, does}
+use Rattle.object_graph.specs.Meaning.{Limits, Outcome, done, fault, meaning}
 
 -- the graph and the bytes after some lines
 pub record Told : Type 0 where
@@ -24,18 +24,18 @@ told_with so_far (fault word) = None
 -- one executed line more
 abbrev pub tell : Limits → List (List ℕ) → Told → Option Command → Option Told
 tell limits names so_far None = Some so_far
-tell limits names so_far (Some command) = told_with so_far (does limits names so_far.graph command)
+tell limits names so_far (Some command) = told_with so_far (meaning limits names so_far.graph command)
 
 -- some executed lines more, in order; nothing where one of them faults
-abbrev pub told_from : Limits → List (List ℕ) → Told → List Executed → Option Told
-told_from limits names so_far [] = Some so_far
-told_from limits names so_far (line ∷ lines) =
-    option_and_then (λ next. told_from limits names next lines) (tell limits names so_far line.command)
+abbrev pub run_from : Limits → List (List ℕ) → Told → List Executed → Option Told
+run_from limits names so_far [] = Some so_far
+run_from limits names so_far (line ∷ lines) =
+    option_and_then (λ next. run_from limits names next lines) (tell limits names so_far line.command)
 
 -- The graph and the bytes after these executed lines, the first of a script's; nothing where one of them faults.
 -- A script's run after n lines is that of its first n.
-abbrev pub told : Limits → List (List ℕ) → List Executed → Option Told
-told limits names lines = told_from limits names untold lines
+abbrev pub run_of : Limits → List (List ℕ) → List Executed → Option Told
+run_of limits names lines = run_from limits names untold lines
 
 -- the most executed lines
 abbrev pub lines_most : ℕ
@@ -55,7 +55,7 @@ fault_in number (fault word) = Some (fault_at number word)
 -- the end at the line of this number: the fault of its command, if it runs one and that has a fault
 abbrev pub fault_of : Limits → List (List ℕ) → Graph → ℕ → Option Command → Option Ending
 fault_of limits names graph number None = None
-fault_of limits names graph number (Some command) = fault_in number (does limits names graph command)
+fault_of limits names graph number (Some command) = fault_in number (meaning limits names graph command)
 
 -- how a run ends at these lines, where no more than the most lines were executed
 abbrev pub ending_here : Limits → List (List ℕ) → Graph → ℕ → List Executed → Option Ending
@@ -74,5 +74,5 @@ pub record EndsAfter
     (limits : Limits) (names : List (List ℕ)) (lines : List Executed) (n : ℕ) (so_far : Told) (how : Ending)
     : Type 0 where
   pub within : n ≤ length lines
-  pub said : told limits names (take n lines) ≡ Some so_far
+  pub said : run_of limits names (take n lines) ≡ Some so_far
   pub ends : ending limits names so_far.graph n (drop n lines) ≡ Some how

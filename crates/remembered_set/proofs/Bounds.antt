@@ -6,8 +6,8 @@ use Rattle.std.proofs.lemmas.List.{length-set, get_or-set_same, get_or-set_other
 use Rattle.remembered_set.specs.declared.Remembered.TheInside.{Inside}
 use Rattle.page_space.specs.Sizes.{page_words, pages_most}
 use Rattle.remembered_set.specs.Bits.{flags_of}
-use Rattle.remembered_set.specs.Flags.{AreCounted}
-use Rattle.remembered_set.specs.Kept.{IsValid, recorded_of}
+use Rattle.remembered_set.specs.Flags.{CountsEachPage}
+use Rattle.remembered_set.specs.Model.{IsValid, recorded_of}
 use Rattle.remembered_set.specs.Recorded.{Recorded}
 use Rattle.remembered_set.proofs.Counts.{set_count_agrees}
 use Rattle.remembered_set.proofs.Words.{length-flags_of}
@@ -38,7 +38,7 @@ as_many_words old new place flag is =
 
 -- where a flag is set again, the pages count as before
 pub counted_again : (flags : List Bool) (counts : List ℕ) (slot : ℕ) → get_or flags slot false ≡ true
-    → slot < length flags → AreCounted flags counts → AreCounted (set flags slot true) counts
+    → slot < length flags → CountsEachPage flags counts → CountsEachPage (set flags slot true) counts
 counted_again flags counts slot was below counted = λ page inside.
     counted page inside
     ∙ sym (set_count_agrees flags (set flags slot true) (page_words * page) page_words

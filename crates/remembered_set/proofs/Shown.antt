@@ -5,7 +5,7 @@ use Rattle.std.proofs.Common.{◌∙◌}
 use Rattle.std.proofs.lemmas.Bool.{cases_lt, cases_eq}
 use Rattle.std.proofs.lemmas.List.{get_or_past, get_or-replicate, length-replicate, get_or-set_same, get_or-set_other}
 use Rattle.std.proofs.lemmas.List.Elements.{Contains-get_or}
-use Rattle.remembered_set.specs.Kept.{slots_of, shown}
+use Rattle.remembered_set.specs.Model.{slots_of, shown}
 use Rattle.remembered_set.specs.Flags.{AreClear, IsFirstSet, ClearsBetween}
 use Rattle.remembered_set.specs.Recorded.{IsBetween, HasNoneBetween, IsLeastBetween}
 use Rattle.remembered_set.proofs.Slots.{flag_of_slot, slot_of_flag}

@@ -8,7 +8,7 @@ use Rattle.std.proofs.lemmas.List.{get_or_past}
 use Rattle.std.proofs.lemmas.List.Elements.{All-from_get_or, All-filter}
 use Rattle.std.proofs.lemmas.List.FromFn.{length-range_with_len, get_or-range_with_len}
 use Rattle.std.proofs.lemmas.List.Kept.{AllPairs-from_increasing, IsStrictlyIncreasing-filter}
-use Rattle.remembered_set.specs.Kept.{slots_of, shown}
+use Rattle.remembered_set.specs.Model.{slots_of, shown}
 use Rattle.page_space.specs.Sizes.{page_words, pages_most}
 use Rattle.remembered_set.specs.Recorded.{IsRecorded, IsAscending}
 use Rattle.tagged_word.proofs.Members.{in_filter, filter_true, in_range}

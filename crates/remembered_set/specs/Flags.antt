@@ -36,6 +36,6 @@ CountsCleared old new from to count =
     (start n : ℕ) → start ≤ from → to ≤ start + n → set_count new start n + count ≡ set_count old start n
 
 -- for each page the number of its flags that are set
-abbrev pub AreCounted : List Bool → List ℕ → Type 0
-AreCounted flags counts =
+abbrev pub CountsEachPage : List Bool → List ℕ → Type 0
+CountsEachPage flags counts =
     (page : ℕ) → page < length counts → slice_index counts page ≡ set_count flags (page_words * page) page_words

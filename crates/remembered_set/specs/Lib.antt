@@ -1,4 +1,4 @@
 pub mod Recorded
 pub mod Flags
 pub mod Bits
-pub mod Kept
+pub mod Model

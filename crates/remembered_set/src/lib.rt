@@ -41,7 +41,7 @@ impl Model for Remembered {
 
     ghost Value = { Recorded };
 
-    ghost use Rattle.remembered_set.specs.Kept.{recorded_of, IsValid};
+    ghost use Rattle.remembered_set.specs.Model.{recorded_of, IsValid};
 
     ghost view = { recorded_of };
 

@@ -12,10 +12,10 @@ use Rattle.tagged_word.specs.Words.{bits_of}
 use Rattle.tagged_word.specs.Readings.{reference_in}
 use Rattle.tagged_word.proofs.Members.{first_in, rest_in, in_cases}
 use Rattle.tagged_word.proofs.Readings.{reference_to}
-use Rattle.seat_steps.specs.Lists.{joined, left}
-use Rattle.seat_steps.proofs.Joining.{joined_at_end}
-use Rattle.seat_steps.proofs.Leaving.{left_out}
-use Rattle.seat_steps.proofs.Tested.{not_equal}
+use Rattle.core_parts.specs.Lists.{joined, left}
+use Rattle.core_parts.proofs.Joining.{joined_at_end}
+use Rattle.core_parts.proofs.Leaving.{left_out}
+use Rattle.core_parts.proofs.Tested.{not_equal}
 use Rattle.scav_copy.specs.declared.places.Home.{Home}
 use Rattle.scav_copy.specs.Copies.{with_home}
 use Rattle.scav_copy.proofs.Ascending.{by_place}

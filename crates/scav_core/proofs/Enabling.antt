@@ -11,9 +11,9 @@ use Rattle.tagged_word.specs.Words.{bits_of}
 use Rattle.tagged_word.specs.Readings.{reference_in}
 use Rattle.tagged_word.proofs.Cells.{some_same}
 use Rattle.tagged_word.proofs.Readings.{reference_to}
-use Rattle.seat_steps.specs.Lists.{is_in}
-use Rattle.seat_steps.proofs.Joining.{found_in}
-use Rattle.seat_steps.proofs.Tested.{nat_lt-yes}
+use Rattle.core_parts.specs.Lists.{is_in}
+use Rattle.core_parts.proofs.Joining.{found_in}
+use Rattle.core_parts.proofs.Tested.{nat_lt-yes}
 use Rattle.scav_copy.specs.declared.places.Home.{Home}
 use Rattle.scav_copy.specs.Places.{size_of, offsets_of, StoodAt}
 use Rattle.scav_copy.proofs.Spots.{cell_ends, cell_within, home_fits, live_is_there}

@@ -10,16 +10,16 @@ use Rattle.std.proofs.lemmas.Option.{slice_get-get_or}
 use Rattle.std.proofs.lemmas.List.Elements.{Contains-push_cases, All-contains, All-replicate}
 use Rattle.std.proofs.lemmas.List.Sums.{sum_by-append}
 use Rattle.page_space.specs.Extents.{board_words}
-use Rattle.seat_steps.specs.declared.note.Note.{Note}
-use Rattle.seat_steps.specs.Boards.{IsBoard, empty_board}
-use Rattle.seat_steps.specs.Lists.{is_in}
+use Rattle.core_parts.specs.declared.note.Note.{Note}
+use Rattle.core_parts.specs.Boards.{IsBoard, empty_board}
+use Rattle.core_parts.specs.Lists.{is_in}
 use Rattle.tagged_word.specs.Readings.{reference_in}
 use Rattle.scav_copy.specs.declared.places.Home.{Home}
 use Rattle.scav_copy.specs.Copies.{Copying}
 use Rattle.scav_copy.proofs.Spots.{none_in}
 use Rattle.scav_core.proofs.Counting.{none_counted}
-use Rattle.seat_steps.proofs.Handing.{empty_is_board}
-use Rattle.seat_steps.proofs.Joining.{in_found}
+use Rattle.core_parts.proofs.Handing.{empty_is_board}
+use Rattle.core_parts.proofs.Joining.{in_found}
 use Rattle.scav_copy.proofs.Filling.{start_is_copying}
 use Rattle.scav_core.specs.declared.event.Event.{Event}
 use Rattle.scav_core.specs.declared.event.Event.TheVariants as event

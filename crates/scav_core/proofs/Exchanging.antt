@@ -8,9 +8,9 @@ use Rattle.std.proofs.lemmas.Bool.{and_parts, true≢false, false_from_ne_true}
 use Rattle.std.proofs.lemmas.List.{set-get_or}
 use Rattle.tagged_word.specs.declared.word.Class.TheVariants.{Ref}
 use Rattle.tagged_word.specs.Words.{bits_of}
-use Rattle.seat_steps.specs.declared.note.Note.{Note}
-use Rattle.seat_steps.specs.Lists.{joined}
-use Rattle.seat_steps.proofs.Tested.{not_equal}
+use Rattle.core_parts.specs.declared.note.Note.{Note}
+use Rattle.core_parts.specs.Lists.{joined}
+use Rattle.core_parts.proofs.Tested.{not_equal}
 use Rattle.scav_copy.specs.declared.places.Home.{Home}
 use Rattle.scav_copy.specs.Places.{size_of, IsInCopy, IsOfCell}
 use Rattle.scav_copy.specs.Copies.{HasHeader, HasNoHome, with_home}

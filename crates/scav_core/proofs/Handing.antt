@@ -8,12 +8,12 @@ use Rattle.std.specs.List.{Contains}
 use Rattle.tagged_word.specs.declared.word.Class.TheVariants.{Ref}
 use Rattle.tagged_word.specs.Words.{bits_of}
 use Rattle.tagged_word.specs.Readings.{reference_in}
-use Rattle.seat_steps.specs.declared.note.Note.{Note}
-use Rattle.seat_steps.specs.declared.note.Note.TheVariants as note
-use Rattle.seat_steps.specs.Lists.{left}
-use Rattle.seat_steps.specs.Boards.{IsBoard, given_word, taken_word, joined_by, taker_joined}
-use Rattle.seat_steps.proofs.Handing.{board_given, board_taken}
-use Rattle.seat_steps.proofs.Tested.{not_equal}
+use Rattle.core_parts.specs.declared.note.Note.{Note}
+use Rattle.core_parts.specs.declared.note.Note.TheVariants as note
+use Rattle.core_parts.specs.Lists.{left}
+use Rattle.core_parts.specs.Boards.{IsBoard, given_word, taken_word, joined_by, taker_joined}
+use Rattle.core_parts.proofs.Handing.{board_given, board_taken}
+use Rattle.core_parts.proofs.Tested.{not_equal}
 use Rattle.scav_copy.specs.declared.places.Home.{Home}
 use Rattle.scav_copy.proofs.Ending.{one_each}
 use Rattle.scav_copy.proofs.Redirecting.{equal_or_not}

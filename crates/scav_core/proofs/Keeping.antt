@@ -6,9 +6,9 @@ use Rattle.std.specs.List.{Contains}
 use Rattle.std.proofs.lemmas.List.{length-set, get_or-set_other, get_or-set_same}
 use Rattle.std.proofs.lemmas.List.Elements.{Contains-push_cases}
 use Rattle.std.proofs.lemmas.Option.{slice_get_within, get_or_from_slice_get}
-use Rattle.seat_steps.specs.declared.note.Note.{Note}
-use Rattle.seat_steps.specs.declared.note.Note.TheVariants.{Loaded}
-use Rattle.seat_steps.specs.Boards.{IsBoard}
+use Rattle.core_parts.specs.declared.note.Note.{Note}
+use Rattle.core_parts.specs.declared.note.Note.TheVariants.{Loaded}
+use Rattle.core_parts.specs.Boards.{IsBoard}
 use Rattle.scav_copy.specs.declared.places.Home.{Home}
 use Rattle.scav_copy.specs.declared.places.Room.{Room}
 use Rattle.scav_copy.specs.Places.{Fixed, size_of, IsInRoom, IsInCopies, StoodAt}

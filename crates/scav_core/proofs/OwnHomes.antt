@@ -8,8 +8,8 @@ use Rattle.std.proofs.lemmas.Bool.Decides.{nat_tests}
 use Rattle.tagged_word.specs.Readings.{reference_in}
 use Rattle.tagged_word.proofs.Cells.{some_same}
 use Rattle.tagged_word.proofs.Readings.{reference_to}
-use Rattle.seat_steps.specs.Lists.{is_in}
-use Rattle.seat_steps.proofs.Joining.{found_in}
+use Rattle.core_parts.specs.Lists.{is_in}
+use Rattle.core_parts.proofs.Joining.{found_in}
 use Rattle.scav_copy.specs.declared.places.Home.{Home}
 use Rattle.scav_copy.specs.declared.places.Room.{Room}
 use Rattle.scav_copy.specs.Places.{Fixed, size_of, IsInCopy}

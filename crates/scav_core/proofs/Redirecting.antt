@@ -10,7 +10,7 @@ use Rattle.tagged_word.specs.declared.word.Class.TheVariants.{Ref}
 use Rattle.tagged_word.specs.Words.{bits_of}
 use Rattle.tagged_word.specs.Readings.{reference_in}
 use Rattle.tagged_word.proofs.Readings.{reference_from}
-use Rattle.seat_steps.specs.declared.note.Note.{Note}
+use Rattle.core_parts.specs.declared.note.Note.{Note}
 use Rattle.scav_copy.specs.declared.places.Home.{Home}
 use Rattle.scav_copy.specs.Places.{size_of, StoodAt}
 use Rattle.scav_copy.specs.Renamings.{RefersToAddress}

@@ -6,7 +6,7 @@ use Rattle.std.proofs.Common.{arith, refl, sym, ap, subst, ◌∙◌}
 use Rattle.std.specs.List.{position, position_or_len}
 use Rattle.std.proofs.lemmas.Bool.{cases_lt}
 use Rattle.std.proofs.lemmas.List.Sums.{prefix_len-le-length}
-use Rattle.seat_steps.proofs.Tested.{nat_lt-yes}
+use Rattle.core_parts.proofs.Tested.{nat_lt-yes}
 use Rattle.scav_copy.specs.declared.places.Home.{Home}
 use Rattle.scav_copy.specs.Copies.{with_home}
 use Rattle.scav_core.specs.declared.event.Event.{Event}

@@ -11,9 +11,9 @@ use Rattle.std.proofs.lemmas.List.Folds.{list_all_at}
 use Rattle.std.proofs.lemmas.List.Sums.{list_all-from_AllPass}
 use Rattle.tagged_word.specs.declared.reading.Reading.{Reading}
 use Rattle.tagged_word.specs.Cells.{scavenge_offsets}
-use Rattle.seat_steps.specs.Lists.{is_in}
-use Rattle.seat_steps.proofs.Joining.{decided}
-use Rattle.seat_steps.proofs.Tested.{same_test}
+use Rattle.core_parts.specs.Lists.{is_in}
+use Rattle.core_parts.proofs.Joining.{decided}
+use Rattle.core_parts.proofs.Tested.{same_test}
 use Rattle.scav_copy.specs.declared.places.Home.{Home}
 use Rattle.scav_copy.specs.Places.{Fixed, cell_before, offsets_in, offsets_of}
 use Rattle.scav_core.specs.Possible.{is_copied_slot}

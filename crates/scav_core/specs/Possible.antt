@@ -8,7 +8,7 @@ use Rattle.tagged_word.specs.declared.layout.LayoutWord.{LayoutWord}
 use Rattle.tagged_word.specs.Cells.{has_length, cell_size, length_by}
 use Rattle.tagged_word.specs.Readings.{header_in, shape_layout, reference_in}
 use Rattle.page_space.specs.Extents.{board_words}
-use Rattle.seat_steps.specs.Lists.{is_in}
+use Rattle.core_parts.specs.Lists.{is_in}
 use Rattle.scav_copy.specs.declared.places.Home.{Home}
 use Rattle.scav_copy.specs.declared.places.Room.{Room}
 use Rattle.scav_copy.specs.Places.{Fixed, size_of, offsets_of}

@@ -7,8 +7,8 @@ use Rattle.std.specs.List.{sum_by, count_by}
 use Rattle.tagged_word.specs.declared.word.Class.TheVariants.{Ref}
 use Rattle.tagged_word.specs.Words.{bits_of}
 use Rattle.tagged_word.specs.Readings.{reference_in}
-use Rattle.seat_steps.specs.declared.note.Note.TheVariants.{Loaded}
-use Rattle.seat_steps.specs.Boards.{IsBoard}
+use Rattle.core_parts.specs.declared.note.Note.TheVariants.{Loaded}
+use Rattle.core_parts.specs.Boards.{IsBoard}
 use Rattle.scav_copy.specs.declared.places.Home.{Home}
 use Rattle.scav_copy.specs.Places.{Fixed, size_of, IsLaidOut, StoodAt}
 use Rattle.scav_copy.specs.Renamings.{RefersToAddress}

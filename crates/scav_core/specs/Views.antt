@@ -6,9 +6,9 @@ use Rattle.std.specs.Option.{option_and_then}
 use Rattle.tagged_word.specs.declared.word.Class.TheVariants.{Ref}
 use Rattle.tagged_word.specs.Words.{bits_of}
 use Rattle.tagged_word.specs.Readings.{given, reference_in}
-use Rattle.seat_steps.specs.declared.note.Note.TheVariants.{Loaded, Gave, Took}
-use Rattle.seat_steps.specs.Lists.{is_in, joined}
-use Rattle.seat_steps.specs.Boards.{given_word, giver_left, taken_word, taker_joined}
+use Rattle.core_parts.specs.declared.note.Note.TheVariants.{Loaded, Gave, Took}
+use Rattle.core_parts.specs.Lists.{is_in, joined}
+use Rattle.core_parts.specs.Boards.{given_word, giver_left, taken_word, taker_joined}
 use Rattle.scav_copy.specs.declared.places.Home.{Home}
 use Rattle.scav_core.specs.declared.event.Event.{Event}
 use Rattle.scav_core.specs.declared.event.Event.TheVariants as event

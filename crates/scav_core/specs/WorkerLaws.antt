@@ -3,7 +3,7 @@ use Rattle.std.specs.Prelude.{◌≡◌, ℕ, ◌+◌, ◌≤◌, true, List, le
 use Rattle.tagged_word.specs.declared.reading.Reading.{Reading}
 use Rattle.tagged_word.specs.Cells.{scavenge_offsets}
 use Rattle.tagged_word.specs.Readings.{read_cell, reference_in}
-use Rattle.seat_steps.specs.declared.note.Note.TheVariants.{Loaded}
+use Rattle.core_parts.specs.declared.note.Note.TheVariants.{Loaded}
 use Rattle.scav_copy.specs.declared.places.Home.{Home}
 use Rattle.scav_copy.specs.Places.{cell_before, size_of, offsets_of, IsLaidOut, StoodAt}
 use Rattle.scav_copy.specs.Renamings.{RefersToAddress}

@@ -1,6 +1,6 @@
 -- What holds after every list of events.
 use Rattle.std.specs.Prelude.{◌≡◌, ℕ, ◌+◌, ◌<◌, true, List, Contains, slice_index}
-use Rattle.seat_steps.specs.Boards.{IsBoard}
+use Rattle.core_parts.specs.Boards.{IsBoard}
 use Rattle.scav_copy.specs.declared.places.Home.{Home}
 use Rattle.scav_copy.specs.Places.{size_of, offsets_of, StoodAt}
 use Rattle.scav_copy.specs.Renamings.{RefersToAddress, IsReachable, HasOneHomeEach, Renaming, Outside}

@@ -1,6 +1,6 @@
 -- The world of a scavenge: what of it no event changes, and its workers.
 use Rattle.std.specs.Prelude.{◌≡◌, ℕ, true, List, [], length, filter, None}
-use Rattle.seat_steps.specs.Boards.{empty_board}
+use Rattle.core_parts.specs.Boards.{empty_board}
 use Rattle.scav_copy.specs.Places.{Fixed, IsLaidOut}
 use Rattle.scav_core.specs.declared.workers.WorkerView.{WorkerView}
 use Rattle.scav_core.specs.declared.world.World.{World}

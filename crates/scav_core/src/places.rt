@@ -7,8 +7,8 @@ ghost use Rattle.scav_core.specs.Possible.{is_copied_slot, is_live, is_disjoint,
 ghost use Rattle.scav_core.specs.Possible.{is_in_own_room};
 
 use crate::world::World;
+use core_parts::read_cell;
 use scav_copy::{Home, Room};
-use seat_steps::read_cell;
 use tagged_word::Reading;
 
 /// Whether the slot is one of `slots`, or one of a home copy.

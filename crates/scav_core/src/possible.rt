@@ -13,9 +13,9 @@ use crate::places::{is_free, is_in_own_room, is_live};
 use crate::step::{word_or_0, worker_of};
 use crate::workers::{Job, WorkerView};
 use crate::world::World;
+use core_parts::layout_of;
 use page_space::BOARD_WORDS;
 use scav_copy::Home;
-use seat_steps::layout_of;
 use tagged_word::{Header, LayoutWord, Word};
 
 /// The most workers that may be at work at a time.

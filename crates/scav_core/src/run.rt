@@ -10,7 +10,7 @@ use crate::event::Event;
 use crate::possible::is_possible;
 use crate::step::after;
 use crate::world::World;
-use seat_steps::StepStop;
+use core_parts::StepStop;
 use std::alloc::Global;
 
 /// The world after all of the events, one after the other, from this start. The first that is not

@@ -8,8 +8,8 @@ ghost use Rattle.scav_core.specs.Steps.{worker_of, after_main, stepped_by, after
 use crate::event::Event;
 use crate::touching::{home_made, touched, word_after};
 use crate::world::World;
+use core_parts::Items;
 use scav_copy::Home;
-use seat_steps::Items;
 use std::alloc::Global;
 use tagged_word::NoMemory;
 

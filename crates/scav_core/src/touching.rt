@@ -1,6 +1,6 @@
 //! The word that an event of a worker touches, and what it leaves there, by the worker's view.
 ghost use Rattle.std.specs.Prelude.{◌≡◌, ◌+◌, length};
-ghost use Rattle.seat_steps.specs.Boards.{given_word};
+ghost use Rattle.core_parts.specs.Boards.{given_word};
 ghost use Rattle.scav_core.specs.Views.{touched, touched_by, slot_after, word_after};
 ghost use Rattle.scav_core.specs.Views.{home_at, home_made};
 

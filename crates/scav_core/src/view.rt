@@ -5,7 +5,7 @@ ghost use Rattle.scav_core.specs.Views.{header_after, given_view, taken_view, lo
 
 use crate::event::Event;
 use crate::workers::{Job, WorkerView};
-use seat_steps::{Items, Note, join, leave};
+use core_parts::{Items, Note, join, leave};
 use std::alloc::Global;
 use tagged_word::{NoMemory, Word};
 

@@ -6,7 +6,7 @@ ghost use Rattle.scav_core.specs.Views.{view_after};
 
 use crate::event::Event;
 use crate::view::change_view;
-use seat_steps::{Items, Note};
+use core_parts::{Items, Note};
 use std::alloc::Global;
 use std::marker::Model;
 use tagged_word::NoMemory;

@@ -1,8 +1,8 @@
 //! The world of a scavenge.
 
 use crate::workers::Workers;
+use core_parts::Items;
 use scav_copy::{Home, Room};
-use seat_steps::Items;
 
 /// All that the workers of a scavenge read and change.
 #[derive(Drop)]

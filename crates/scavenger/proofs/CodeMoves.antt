@@ -19,10 +19,10 @@ use Rattle.scav_copy.specs.Copies.{with_home}
 use Rattle.scav_copy.proofs.Ascending.{new_in, old_in}
 use Rattle.scavenger.specs.declared.progress.Progress.{Progress}
 use Rattle.scavenger.specs.Starts.{Start, start_of}
-use Rattle.scavenger.specs.Filling.{ChangesWords, Front, IsFilled, IsToDo, OthersAreDone}
+use Rattle.scavenger.specs.Filling.{ChangesWords, Front, CopiesFillRooms, IsToDo, OthersAreDone}
 use Rattle.scavenger.specs.Following.{Copies, IsFreeAt, IsFromSpace, moved_words}
-use Rattle.scavenger.specs.Walking.{AreCounted, AreKept, CopiesCell, HasMoved, IsPlaced, IsToPromote, Places}
-use Rattle.scavenger.specs.Walking.{Scavenging, stays_young, stays_in_vain}
+use Rattle.scavenger.specs.Walking.{AreKept, CopiesCell, HasMoved, IsWellPlaced, IsToPromote, Places}
+use Rattle.scavenger.specs.Walking.{Scavenging, stays_young}
 use Rattle.scavenger.specs.Walking.{RefersToRoom, CutsFreeCell}
 use Rattle.scavenger.proofs.Sums.{one_home_more}
 use Rattle.scavenger.proofs.FollowTiles.{fill_above}
@@ -34,8 +34,6 @@ use Rattle.scavenger.proofs.KeptCopies.{Spares, live_spared, kept_copy}
 use Rattle.scavenger.proofs.KeptMoves.{spares_behind, fresh_behind, spares_in_run, fresh_in_run}
 use Rattle.scavenger.proofs.KeptMoves.{records_behind, records_in_run}
 use Rattle.scavenger.proofs.PlacedCopies.{placed_on, placed_refused, placed_in_page}
-use Rattle.scavenger.proofs.CountedCopies.{counts_nothing, counts_words, before_fill, page_not_in_vain}
-use Rattle.scavenger.proofs.CountedCopies.{not_to_promote, stays_in_vain_is}
 use Rattle.scavenger.proofs.CodeChanges.{changes_again}
 
 -- A cell was copied: what became of words, free runs, what is recorded and where copies are.
@@ -48,9 +46,7 @@ pub record Copied (start old new : Mutator) (all : Bool) (fixed : Fixed) (homes 
   pub spares : Spares fixed homes (heap_words old.seat) (heap_words new.seat) cell.at from end
   pub kept : AreKept (start_of start) fixed (heap_words new.seat) (with_home homes (home_at cell to))
       new.recorded.slots
-  pub placed : IsPlaced (start_of start) fixed new.free (with_home homes (home_at cell to)) all after.refused
-  pub counted : AreCounted start.seat.space all fixed (with_home homes (home_at cell to))
-      (record after { copied = after.copied + cell.size })
+  pub placed : IsWellPlaced (start_of start) fixed new.free (with_home homes (home_at cell to)) all after.refused
   pub changes : ChangesWords old new
   pub same : after.copied ≡ before.copied
 
@@ -92,13 +88,11 @@ module _ {start old : Mutator} {all : Bool} {before : Progress} {todo : List ℕ
 
   -- the copy in the segment
   copied_behind : (new : Mutator) (after : Progress) → CopiesCell old new cell before.fill
-      → IsPlaced (start_of start) state.fixed old.free (with_home state.homes (home_at cell before.fill)) all
+      → IsWellPlaced (start_of start) state.fixed old.free (with_home state.homes (home_at cell before.fill)) all
       after.refused
-      → AreCounted start.seat.space all state.fixed (with_home state.homes (home_at cell before.fill))
-      (record after { copied = after.copied + cell.size })
       → after.fill ≡ before.fill + cell.size → after.copied ≡ before.copied
       → Copied start old new all state.fixed state.homes before after cell before.fill
-  copied_behind new after copies placed counted behind same =
+  copied_behind new after copies placed behind same =
       let words : List ℕ = heap_words old.seat in
       let spares : Spares state.fixed state.homes words (heap_words new.seat) cell.at before.fill
       (before.fill + cell.size) =
@@ -118,9 +112,8 @@ module _ {start old : Mutator} {all : Bool} {before : Progress} {todo : List ℕ
         kept = kept_copy state.begun state.filled.copying spares
             (records_behind (eden_start start.seat.space) before.fill bound_is segment_young is_young copies)
             before.fill (fresh_behind state.begun state.filled is_new (heap_words new.seat)) state.kept;
-        placed = subst (λ (rows : List (List Run)). IsPlaced (start_of start) state.fixed rows
+        placed = subst (λ (rows : List (List Run)). IsWellPlaced (start_of start) state.fixed rows
             (with_home state.homes (home_at cell before.fill)) all after.refused) (sym copies.free) placed;
-        counted = counted;
         changes = copies.changes;
         same = same;
       }
@@ -157,39 +150,12 @@ module _ {start old : Mutator} {all : Bool} {before : Progress} {todo : List ℕ
             (λ offset visited of_page refers.
             fresh_in_run state.begun state.filled is_new free room offset visited of_page
             (subst (λ (one : List ℕ). RefersToRoom (start_of start) one (run.at + offset)) is refers)) state.kept;
-        placed = subst (λ (rows : List (List Run)). IsPlaced (start_of start) state.fixed rows
+        placed = subst (λ (rows : List (List Run)). IsWellPlaced (start_of start) state.fixed rows
             (with_home state.homes (home_at cell run.at)) all before.refused) (sym copies.free)
             (placed_in_page state.placed cell.at run.at mid.free cell.size run takes below promote);
-        counted = counts_nothing (home_at cell run.at) state.counted
-            (record before { copied = before.copied + cell.size })
-            (page_not_in_vain start.seat.space all (home_at cell run.at) below) refl refl (omega arith);
         changes = changes_again taken.changes copies.changes;
         same = refl;
       }
-
-  -- the copy in the segment counts nothing where its cell was not to be promoted
-  counted_young : (IsToPromote start.seat.space all cell.at → ⊥)
-      → AreCounted start.seat.space all state.fixed (with_home state.homes (home_at cell before.fill))
-      (record (stays_young before cell.size) { copied = before.copied + cell.size })
-  counted_young not_to =
-      counts_nothing (home_at cell before.fill) state.counted
-      (record (stays_young before cell.size) { copied = before.copied + cell.size })
-      (not_to_promote start.seat.space all (home_at cell before.fill) not_to) refl refl (omega arith)
-
-  -- and else its words
-  counted_in_vain : (refuses : ℕ) → IsToPromote start.seat.space all cell.at
-      → AreCounted start.seat.space all state.fixed (with_home state.homes (home_at cell before.fill))
-      (record (stays_in_vain (record before { refused = refuses }) cell.size) { copied = before.copied + cell.size })
-  counted_in_vain refuses promote =
-      counts_words (home_at cell before.fill) state.counted
-      (record (stays_in_vain (record before { refused = refuses }) cell.size) { copied = before.copied + cell.size })
-      cell.size is_new.size
-      (stays_in_vain_is start.seat.space all (home_at cell before.fill) promote segment_young)
-      (λ home there vain. before_fill all home state.filled there vain) refl refl (omega arith)
-
-  -- the cell is to be promoted as it was at the start
-  to_promote : IsToPromote old.seat.space all cell.at → IsToPromote start.seat.space all cell.at
-  to_promote promote = subst (λ (space : Space). IsToPromote space all cell.at) state.changes.seat.space promote
 
   -- the same of any copy
   pub copied_by : {mid : Mutator} (new : Mutator) (after : Progress) (to : ℕ)
@@ -200,23 +166,20 @@ module _ {start old : Mutator} {all : Bool} {before : Progress} {todo : List ℕ
       not_to (subst (λ (space : Space). IsToPromote space all cell.at) (sym state.changes.seat.space) promote) in
       copied_behind new (stays_young before cell.size)
       (subst (λ (main : Mutator). CopiesCell main new cell before.fill) same copies)
-      (placed_on state.placed cell.at before.fill segment_young (λ promote. absurd (not_at_start promote)))
-      (counted_young not_at_start) refl refl
+      (placed_on state.placed cell.at before.fill segment_young (λ promote. absurd (not_at_start promote))) refl refl
   copied_by new _ _ (Places.passes same promote many) copies =
-      copied_behind new (stays_in_vain before cell.size)
+      copied_behind new (stays_young before cell.size)
       (subst (λ (main : Mutator). CopiesCell main new cell before.fill) same copies)
-      (placed_on state.placed cell.at before.fill segment_young (λ is. omega (arith, many, is_new.size)))
-      (counted_in_vain before.refused (to_promote promote)) refl refl
+      (placed_on state.placed cell.at before.fill segment_young (λ is. omega (arith, many, is_new.size))) refl refl
   copied_by new _ _ (Places.refuses same promote less none) copies =
       let size : cell.size ≡ size_of state.fixed cell.at = is_new.size in
       let some = (cells_have_words start.seat.space (heap_words old.seat) cell is_new.is_cell).0 in
-      copied_behind new (stays_in_vain (record before { refused = cell.size }) cell.size)
+      copied_behind new (stays_young (record before { refused = cell.size }) cell.size)
       (subst (λ (main : Mutator). CopiesCell main new cell before.fill) same copies)
-      (subst (IsPlaced (start_of start) state.fixed old.free (with_home state.homes (home_at cell before.fill)) all)
+      (subst (IsWellPlaced (start_of start) state.fixed old.free (with_home state.homes (home_at cell before.fill)) all)
       (sym size)
       (placed_refused state.placed cell.at before.fill segment_young (omega (arith, some, size))
-      (omega (arith, less, size)) (subst (FitsNowhere old.free) size none)))
-      (counted_in_vain cell.size (to_promote promote)) refl refl
+      (omega (arith, less, size)) (subst (FitsNowhere old.free) size none))) refl refl
   copied_by new _ _ (Places.promotes run free promote takes is_free taken) copies =
       let space_is = state.changes.seat.space in
       copied_in_run new run free (subst (λ (space : Space). IsToPromote space all cell.at) space_is promote) takes
@@ -256,11 +219,11 @@ module _ {start old : Mutator} {all : Bool} {before : Progress} {todo : List ℕ
           bounded = state.bounded;
           quiet = copied.changes.seat.phase ∙ state.quiet;
           begun = state.begun;
-          filled = subst (λ (homes : List Home). IsFilled (start_of start) state.fixed (heap_words new.seat) new.free
+          filled = subst (λ (homes : List Home). CopiesFillRooms (start_of start) state.fixed (heap_words new.seat)
+              new.free
               homes after.fill) goes_on.are goes_on.filled;
           copied = omega (arith, copied.same, state.copied, more, is_new.size);
           placed = copied.placed;
-          counted = copied.counted;
           kept = copied.kept;
           listed = λ at there. elim (Contains-append_cases todo (to ∷ []) at there) [
             | inl among ↦

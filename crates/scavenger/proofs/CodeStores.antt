@@ -21,9 +21,9 @@ use Rattle.scav_copy.specs.Renamings.{RefersToAddress}
 use Rattle.scav_copy.proofs.Spots.{home_fits}
 use Rattle.scavenger.specs.declared.progress.Progress.{Progress}
 use Rattle.scavenger.specs.Starts.{start_of}
-use Rattle.scavenger.specs.Filling.{ChangesWords, Front, IsFilled}
+use Rattle.scavenger.specs.Filling.{ChangesWords, Front, CopiesFillRooms}
 use Rattle.scavenger.specs.Following.{IsFromSpace, HasRenamed}
-use Rattle.scavenger.specs.Walking.{AreKept, GoesOn, HasFollowed, HasMoved, IsPlaced, Scavenging}
+use Rattle.scavenger.specs.Walking.{AreKept, HasCopiedMore, HasFollowed, HasMoved, IsWellPlaced, Scavenging}
 use Rattle.scavenger.proofs.FollowSlots.{renaming_goes_on}
 use Rattle.scavenger.proofs.KeptSlots.{Judges, kept_slot}
 use Rattle.scavenger.proofs.CodeChanges.{changes_again}
@@ -75,7 +75,8 @@ store_changes {old} {new} slot word is heap below = record {
 
 -- nothing has changed, and the scavenge stands where it did
 abbrev pub goes_nowhere : {start old : Mutator} {all : Bool} {before : Progress} {todo : List ℕ} {front : Front}
-    (state : Scavenging start old all before todo front) → GoesOn start old old all before before todo todo front state
+    (state : Scavenging start old all before todo front)
+    → HasCopiedMore start old old all before before todo todo front state
 goes_nowhere state = record {
   next = state;
   same = refl;
@@ -86,7 +87,8 @@ goes_nowhere state = record {
 -- A slot that was live is live where the scavenge went on.
 still_live : {start old new : Mutator} {all : Bool} {before after : Progress} {todo more : List ℕ} {front : Front}
     {state : Scavenging start old all before todo front} (slot place : ℕ)
-    → (on : GoesOn start old new all before after todo more front state) → StoodAt state.fixed state.homes slot place
+    → (on : HasCopiedMore start old new all before after todo more front state)
+    → StoodAt state.fixed state.homes slot place
     → StoodAt on.next.fixed on.next.homes slot place
 still_live {state = state} slot place on stood =
     let Live : Fixed → Type 0 = λ fixed. StoodAt fixed on.next.homes slot place in
@@ -141,12 +143,12 @@ module _ {start mid new : Mutator} {all : Bool} {progress : Progress} {todo : Li
         bounded = state.bounded;
         quiet = changes.seat.phase ∙ state.quiet;
         begun = state.begun;
-        filled = subst (λ (rows : List (List Run)). IsFilled (start_of start) state.fixed (heap_words new.seat) rows
+        filled = subst (λ (rows : List (List Run)). CopiesFillRooms (start_of start) state.fixed (heap_words new.seat)
+            rows
             state.homes progress.fill) (sym free) renamed.filled;
         copied = state.copied;
-        placed = subst (λ (rows : List (List Run)). IsPlaced (start_of start) state.fixed rows state.homes all
+        placed = subst (λ (rows : List (List Run)). IsWellPlaced (start_of start) state.fixed rows state.homes all
             progress.refused) (sym free) state.placed;
-        counted = state.counted;
         kept = subst (λ (now : List ℕ). AreKept (start_of start) state.fixed now state.homes new.recorded.slots)
             (sym stored_words)
             (kept_slot state.begun state.filled.copying slot place home stood there judges state.kept);

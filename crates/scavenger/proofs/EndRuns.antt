@@ -14,7 +14,7 @@ use Rattle.heap_model.proofs.CellsApart.{IsOfCell, one_at, cells_apart}
 use Rattle.scav_copy.specs.Places.{Fixed}
 use Rattle.scavenger.specs.Starts.{Start, IsBegun, IsFreeRun}
 use Rattle.scavenger.specs.Scavenged.{begins_run, begins_free}
-use Rattle.scavenger.proofs.StartTargets.{StandsAt}
+use Rattle.heap_walk.proofs.SlotTargets.{IsUsedAt}
 use Rattle.scavenger.proofs.PagesRuns.{HasRun}
 
 -- a run of a row that begins at the address is found there
@@ -135,7 +135,7 @@ module _ {start : Start} {fixed : Fixed} (begun : IsBegun start fixed) where
       (sym free.stands ∙ ap (λ (one : Cell). one.at) same)
 
   -- no free run begins where a cell stands that is not free
-  pub used_is_no_run : {at : ℕ} → StandsAt start.heap at → begins_free start.rows at ≡ false
+  pub used_is_no_run : {at : ℕ} → IsUsedAt start.heap at → begins_free start.rows at ≡ false
   used_is_no_run {at} target =
       no_run_begins start.rows at (λ run is stands.
       let free = run_cell is in

@@ -2,14 +2,14 @@
 -- the end where it is young.
 use Rattle.std.proofs.Common.{◌≡◌, ℕ, ◌+◌, ◌<◌, ◌≤◌, ◌^◌, inl, inr, List, Contains, Some, slice_get, get_or}
 use Rattle.std.proofs.Common.{refl, sym, ◌∙◌, ap, subst, arith}
-use Rattle.std.proofs.lemmas.Option.{same_Some, slice_get-get_or, get_or_from_slice_get}
+use Rattle.std.proofs.lemmas.Option.{same_Some, get_or_from_slice_get}
 use Rattle.tagged_word.specs.Cells.{scavenge_offsets}
 use Rattle.tagged_word.proofs.Readings.{reference_from, reference_to}
 use Rattle.page_space.specs.Extents.{eden_start}
 use Rattle.handle_roots.specs.Roots.{root_at}
 use Rattle.cell_layout.proofs.OneCell.{slots_lie_within}
 use Rattle.heap_model.specs.Types.{Cell, Run}
-use Rattle.heap_model.specs.Heaps.{Heap, HasCell}
+use Rattle.heap_model.specs.Heaps.{HasCell}
 use Rattle.heap_model.specs.Slots.{reference_word}
 use Rattle.heap_model.specs.Kinds.{HasWord}
 use Rattle.heap_model.proofs.CellsApart.{has_is_cell, first_of_cell, used_few}
@@ -19,19 +19,12 @@ use Rattle.scav_copy.specs.Places.{Fixed, offsets_in, offsets_of}
 use Rattle.scav_copy.specs.Renamings.{RefersToAddress, IsReachable}
 use Rattle.scavenger.specs.Starts.{Start, IsYoungCell}
 use Rattle.scavenger.proofs.StartReadings.{low_within}
-use Rattle.scavenger.proofs.StartTargets.{StandsAt, kind_to_cell, word_reads, held_target}
+use Rattle.heap_walk.proofs.SlotTargets.{IsUsedAt, kind_to_cell, word_reads, word_found, held_target}
 use Rattle.scavenger.proofs.TargetCells.{before_is_young}
 use Rattle.scavenger.proofs.EndRuns.{used_is_no_run}
 use Rattle.scavenger.proofs.EndWords.{Ending}
 use Rattle.scavenger.proofs.EndCopies.{renaming}
 use Rattle.scavenger.proofs.EndPlaces.{RefersWell}
-
--- the word of a slot of a cell, as it is found at its address
-pub word_found : {heap : Heap} {cell : Cell} {words : List ℕ} (offset word : ℕ) → HasCell heap cell words
-    → offset < cell.size → HasWord words offset word → slice_get heap.words (cell.at + offset) ≡ Some word
-word_found {heap} {cell} offset word has within there =
-    slice_get-get_or heap.words (cell.at + offset) 0 (omega (arith, within, (has_is_cell has).reads.there))
-    ∙ ap (λ (n : ℕ). Some n) (word_reads offset word has there)
 
 module _ {start : Start} {left : ℕ} {fixed : Fixed} {homes : List Home} {rows : List (List Run)} {words now : List ℕ}
     {fill : ℕ} (ending : Ending start left fixed homes rows words now fill) where
@@ -46,7 +39,7 @@ module _ {start : Start} {left : ℕ} {fixed : Fixed} {homes : List Home} {rows 
   reached_home at reached = ((renaming ending).survivors at).1 reached
 
   -- where a young cell stands, one of the cells does
-  pub young_is : {at : ℕ} → StandsAt start.heap at → eden_start start.heap.space ≤ at → Contains fixed.cells at
+  pub young_is : {at : ℕ} → IsUsedAt start.heap at → eden_start start.heap.space ≤ at → Contains fixed.cells at
   young_is {at} target young =
       (ending.begun.begins.cells at).1 record {
         cell = target.cell;
@@ -62,15 +55,15 @@ module _ {start : Start} {left : ℕ} {fixed : Fixed} {homes : List Home} {rows 
       ap (λ (all : List ℕ). get_or all place 0) ending.begun.begins.before ∙ reads
 
   -- a word that is the reference to a cell reads as its address
-  pub target_reads : {at : ℕ} (place word : ℕ) → StandsAt start.heap at → word ≡ reference_word at
+  pub target_reads : {at : ℕ} (place word : ℕ) → IsUsedAt start.heap at → word ≡ reference_word at
       → get_or start.heap.words place 0 ≡ word → RefersToAddress fixed.before place at
   target_reads {at} place word target is reads =
       let fits : at < 2 ^ 32 = subst (λ n. n < 2 ^ 32) target.stands (cell_fits target.has) in
       reference_to (get_or fixed.before place 0) at fits (word_before place word reads ∙ is)
 
   -- A word refers well where what it refers to is a cell that is not free, and is reached where it is young.
-  refers_well : (word : ℕ) → ((at : ℕ) → word ≡ reference_word at → StandsAt start.heap at)
-      → ((at : ℕ) → word ≡ reference_word at → StandsAt start.heap at → eden_start start.heap.space ≤ at
+  refers_well : (word : ℕ) → ((at : ℕ) → word ≡ reference_word at → IsUsedAt start.heap at)
+      → ((at : ℕ) → word ≡ reference_word at → IsUsedAt start.heap at → eden_start start.heap.space ≤ at
       → IsReachable fixed at)
       → RefersWell start homes word
   refers_well word stands reached = record {
@@ -81,7 +74,7 @@ module _ {start : Start} {left : ℕ} {fixed : Fixed} {homes : List Home} {rows 
   -- what a slot of a cell refers to is a cell that is not free
   pub slot_target : {cell : Cell} {body : List ℕ} (offset word at : ℕ) → HasCell start.heap cell body
       → Contains (scavenge_offsets cell.layout cell.length) offset → HasWord body offset word
-      → word ≡ reference_word at → StandsAt start.heap at
+      → word ≡ reference_word at → IsUsedAt start.heap at
   slot_target {cell} {body} offset word at has slot stands refers =
       let whole = ending.begun.whole in
       kind_to_cell cell.layout.kind offset word at whole.sized has refl (whole.sound cell body has) slot stands refers

@@ -19,14 +19,14 @@ use Rattle.scav_copy.specs.Places.{Fixed, offsets_in, offsets_of}
 use Rattle.scav_copy.specs.Renamings.{IsRenamed}
 use Rattle.scavenger.specs.Starts.{Start, IsYoungCell}
 use Rattle.scavenger.specs.Scavenged.{place_after, begins_free}
-use Rattle.scavenger.proofs.StartTargets.{word_reads}
+use Rattle.heap_walk.proofs.SlotTargets.{word_reads, word_found}
 use Rattle.scavenger.proofs.TargetCells.{before_is_young}
 use Rattle.scavenger.proofs.EndRuns.{run_of_no_cell, used_is_no_run}
 use Rattle.scavenger.proofs.EndWords.{Ending, the_halves, outside_same}
 use Rattle.scavenger.proofs.EndCopies.{renaming, young_of, copy_size}
 use Rattle.scavenger.proofs.EndHeap.{end_heap, page_stays, copy_stands}
 use Rattle.scavenger.proofs.EndPlaces.{StaysAt, RefersWell, stays_at, young_or_not, renamed_is_moved, kept_is_moved}
-use Rattle.scavenger.proofs.EndSlots.{word_found, word_before, slot_target, slots_read, young_word, young_refers_well}
+use Rattle.scavenger.proofs.EndSlots.{word_before, slot_target, slots_read, young_word, young_refers_well}
 use Rattle.scavenger.proofs.EndSlots.{recorded_refers_well, recorded_is_young, young_is_recorded}
 
 module _ {start : Start} {left : ℕ} {fixed : Fixed} {homes : List Home} {rows : List (List Run)} {words now : List ℕ}

@@ -17,7 +17,7 @@ use Rattle.scav_copy.specs.Renamings.{Renaming, Outside}
 use Rattle.scav_copy.specs.Copies.{AreHoused, HomesDisjoint, LiesInRoom}
 use Rattle.scav_copy.proofs.Ending.{end_is_renaming}
 use Rattle.scavenger.specs.Starts.{Start, IsBegun, IsFreeRun, IsRootAt, room_start, room_of, room_of_run}
-use Rattle.scavenger.specs.Filling.{IsFilled, AllAreDone, IsEmptied}
+use Rattle.scavenger.specs.Filling.{CopiesFillRooms, AllAreDone, IsEmptied}
 use Rattle.scavenger.specs.Following.{half_start, half_end}
 use Rattle.scavenger.proofs.Sums.{few_filled}
 use Rattle.scavenger.proofs.TargetCells.{IsInSegment, young_size, recorded_below, run_ends}
@@ -31,7 +31,7 @@ pub record Ending (start : Start) (left : ℕ) (fixed : Fixed) (homes : List Hom
   pub limits : IsSpace start.heap.space
   pub halves : start.half + left ≡ 1
   pub begun : IsBegun start fixed
-  pub filled : IsFilled start fixed words rows homes fill
+  pub filled : CopiesFillRooms start fixed words rows homes fill
   pub done : AllAreDone fixed words homes
   pub emptied : IsEmptied start.heap.space left fill
       (room_start start.heap.space start.half + start.heap.space.sizes.young) words now

@@ -21,11 +21,9 @@ use Rattle.write_barrier.specs.MutatorState.{Mutator, heap_of, MainShows}
 use Rattle.scav_copy.specs.declared.places.Home.{Home}
 use Rattle.scav_copy.specs.Places.{Fixed, size_of}
 use Rattle.scavenger.specs.Starts.{IsRootAt, start_of}
-use Rattle.scavenger.specs.declared.progress.Progress.{Progress}
-use Rattle.scavenger.specs.declared.scavenging.Scavenged.{Scavenged}
-use Rattle.scavenger.specs.Walking.{IsToPromote, AreCounted, IsFirstInVain}
+use Rattle.scavenger.specs.Walking.{IsToPromote}
 use Rattle.scavenger.specs.Laws.{IsEnded, EndsAreScavenges}
-use Rattle.scavenger.specs.Scavenged.{Scavenges, Tells, place_after}
+use Rattle.scavenger.specs.Scavenged.{Scavenges, place_after}
 use Rattle.scavenger.proofs.PagesRuns.{word_of_run}
 use Rattle.scavenger.proofs.EndWords.{ended, outside_same}
 use Rattle.scavenger.proofs.EndCopies.{renaming, young_of, copy_size}
@@ -145,16 +143,3 @@ ends_are_scavenges old new graph all fixed homes words fill refused shows young 
       λ rooms. moves_keep_rooms (heap_of old) (heap_of new) to graph rooms (shows_for (Stays to) shows.shows)
           (left_is_moved young is),
     )
-
--- and it tells what was to be promoted and stays young, where that was counted
-pub ends_tell : (old new : Mutator) (all : Bool) (fixed : Fixed) (homes : List Home) (words : List ℕ)
-    (fill refused : ℕ) (progress : Progress) (told : Scavenged) → IsYoung old.young → AreFree new.free
-    → IsEnded old new all fixed homes words fill refused → AreCounted old.seat.space all fixed homes progress
-    → told.stayed ≡ progress.stayed → told.first_need ≡ progress.first_need → Tells old new all told
-unfolding scavenged
-ends_tell old new all fixed homes words fill refused progress told young free is counted stayed first =
-    record {
-      scavenges = scavenged young is free;
-      stayed = stayed ∙ counted.stayed;
-      first_need = subst (IsFirstInVain old.seat.space all fixed homes) (sym first) counted.first;
-    }

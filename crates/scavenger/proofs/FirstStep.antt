@@ -1,5 +1,5 @@
 -- A scavenge begins: nothing is copied, and all slots outside are to do.
-use Rattle.std.proofs.Common.{◌≡◌, ℕ, ◌+◌, inl, inr, Bool, List, [], None, refl, subst, arith}
+use Rattle.std.proofs.Common.{◌≡◌, ℕ, ◌+◌, inl, inr, Bool, List, [], refl, subst, arith}
 use Rattle.page_space.specs.Sizes.{page_words}
 use Rattle.page_space.specs.Extents.{roots_start}
 use Rattle.page_space.specs.RegionLaws.{IsSpace}
@@ -15,8 +15,8 @@ use Rattle.scav_copy.proofs.Filling.{start_is_copying}
 use Rattle.scav_copy.proofs.Spots.{none_in}
 use Rattle.scavenger.specs.declared.progress.Progress.{Progress}
 use Rattle.scavenger.specs.Starts.{Start, IsBegun, room_start}
-use Rattle.scavenger.specs.Filling.{Tiles, IsFilled, IsToDo}
-use Rattle.scavenger.specs.Walking.{IsPlaced, IsFirstInVain, AreKept, MayBegin, Scavenging, at_root}
+use Rattle.scavenger.specs.Filling.{Tiles, CopiesFillRooms, IsToDo}
+use Rattle.scavenger.specs.Walking.{IsWellPlaced, AreKept, MayBegin, Scavenging, at_root}
 use Rattle.scavenger.proofs.CodeChanges.{changes_nothing}
 use Rattle.scavenger.proofs.FirstPages.{first_pages}
 use Rattle.scavenger.proofs.Started.{shown_heaps_may_begin}
@@ -27,8 +27,6 @@ first_progress main = record {
   fill = room_start main.seat.space (other_half main.young.half);
   copied = 0;
   refused = page_words + 1;
-  stayed = 0;
-  first_need = None;
 }
 
 module _ {start : Start} {fixed : Fixed} (begun : IsBegun start fixed) where
@@ -37,7 +35,7 @@ module _ {start : Start} {fixed : Fixed} (begun : IsBegun start fixed) where
   first_copying = subst (λ (words : List ℕ). Copying fixed words []) begun.begins.before (start_is_copying fixed)
 
   -- no word is filled
-  first_filled : IsFilled start fixed start.heap.words start.rows [] (room_start start.heap.space start.half)
+  first_filled : CopiesFillRooms start fixed start.heap.words start.rows [] (room_start start.heap.space start.half)
   first_filled = record {
     copying = first_copying;
     stayed = [];
@@ -56,7 +54,7 @@ module _ {start : Start} {fixed : Fixed} (begun : IsBegun start fixed) where
   }
 
   -- no copy is placed, and no run is longer than its page
-  first_placed : (all : Bool) → IsPlaced start fixed start.rows [] all (page_words + 1)
+  first_placed : (all : Bool) → IsWellPlaced start fixed start.rows [] all (page_words + 1)
   first_placed all = record {
     promoted = λ home there. absurd (none_in home there);
     stayed = λ home there. absurd (none_in home there);
@@ -94,11 +92,6 @@ first_step main all quiet may = record {
   filled = first_filled may.begun;
   copied = refl;
   placed = first_placed may.begun all;
-  counted = record {
-    stayed = refl;
-    few = omega arith;
-    first = IsFirstInVain.none_stays (λ home there. absurd (none_in home there));
-  };
   kept = first_kept may.begun;
   listed = λ at there. absurd (none_in at there);
   few = omega arith;

@@ -14,7 +14,7 @@ use Rattle.scav_copy.specs.Places.{Fixed, size_of}
 use Rattle.scav_copy.specs.Renamings.{IsReachable}
 use Rattle.scav_copy.specs.Copies.{with_home, HasNoHome}
 use Rattle.scavenger.specs.Starts.{Start, IsBegun, room_start, room_of}
-use Rattle.scavenger.specs.Filling.{Tiles, IsFilled}
+use Rattle.scavenger.specs.Filling.{Tiles, CopiesFillRooms}
 use Rattle.scavenger.specs.Following.{IsFreeAt, moved_words}
 use Rattle.scavenger.specs.Paging.{IsUnmoved, promoted_words}
 use Rattle.scavenger.proofs.Sums.{one_home_more}
@@ -45,7 +45,7 @@ unmoved new = record { among = new.is; is_cell = new.is_cell; none = new.none }
 
 -- it fits behind the copies of the segment
 pub fits_behind : {start : Start} {fixed : Fixed} {words : List ℕ} {rows : List (List Run)} {homes : List Home}
-    {fill : ℕ} {cell : Cell} → IsBegun start fixed → IsFilled start fixed words rows homes fill
+    {fill : ℕ} {cell : Cell} → IsBegun start fixed → CopiesFillRooms start fixed words rows homes fill
     → IsNew start fixed words homes fill cell → FitsCopy fixed words homes cell fill
 fits_behind {start} begun filled new =
     let room = room_of start.heap.space start.half in
@@ -71,7 +71,7 @@ rest_words words cell free to = with_free_cell words (to + cell.size) (free.size
 
 -- and it fits in the first words of a free run
 pub fits_run : {start : Start} {fixed : Fixed} {words : List ℕ} {rows : List (List Run)} {homes : List Home}
-    {fill : ℕ} {run : Run} (cell free : Cell) → IsBegun start fixed → IsFilled start fixed words rows homes fill
+    {fill : ℕ} {run : Run} (cell free : Cell) → IsBegun start fixed → CopiesFillRooms start fixed words rows homes fill
     → IsNew start fixed words homes fill cell → TakesRoom start fixed homes cell.size free.size run
     → FitsCopy fixed (rest_words words cell free run.at) homes cell run.at
 fits_run {words = words} cell free begun filled new takes = record {
@@ -92,9 +92,10 @@ fits_run {words = words} cell free begun filled new takes = record {
 
 -- behind the other copies of the segment
 pub filled_behind : {start : Start} {fixed : Fixed} {words : List ℕ} {rows : List (List Run)} {homes : List Home}
-    {fill : ℕ} {cell : Cell} → IsBegun start fixed → IsFilled start fixed words rows homes fill
+    {fill : ℕ} {cell : Cell} → IsBegun start fixed → CopiesFillRooms start fixed words rows homes fill
     → IsNew start fixed words homes fill cell
-    → IsFilled start fixed (moved_words words cell fill) rows (with_home homes (home_at cell fill)) (fill + cell.size)
+    → CopiesFillRooms start fixed (moved_words words cell fill) rows (with_home homes (home_at cell fill))
+    (fill + cell.size)
 filled_behind {start} {fixed} {words} {rows} {homes} {fill} {cell} begun filled new =
     let home : Home = home_at cell fill in
     let from : ℕ = room_start start.heap.space start.half in
@@ -118,10 +119,11 @@ filled_behind {start} {fixed} {words} {rows} {homes} {fill} {cell} begun filled 
 -- in a free run
 pub filled_in_page : {start : Start} {fixed : Fixed} {words : List ℕ} {rows left : List (List Run)}
     {homes : List Home} {fill : ℕ} {cell free : Cell} {run : Run} → IsBegun start fixed
-    → IsFilled start fixed words rows homes fill → IsNew start fixed words homes fill cell
+    → CopiesFillRooms start fixed words rows homes fill → IsNew start fixed words homes fill cell
     → TakesFront rows left cell.size run → IsFreeAt start.heap.space words free run.at
     → TakesRoom start fixed homes cell.size free.size run
-    → IsFilled start fixed (promoted_words words cell free run.at) left (with_home homes (home_at cell run.at)) fill
+    → CopiesFillRooms start fixed (promoted_words words cell free run.at) left (with_home homes (home_at cell run.at))
+    fill
 filled_in_page {start} {fixed} {words} {rows} {left} {homes} {fill} {cell} {free} {run} begun filled new takes
     is_free room =
     let home : Home = home_at cell run.at in

@@ -15,7 +15,7 @@ use Rattle.scav_copy.specs.declared.places.Room.{Room}
 use Rattle.scav_copy.specs.Places.{Fixed, IsInRooms, IsInCopies}
 use Rattle.scav_copy.specs.Copies.{LiesInRoom}
 use Rattle.scavenger.specs.Starts.{Start, IsBegun, IsFreeRun}
-use Rattle.scavenger.specs.Filling.{IsFilled}
+use Rattle.scavenger.specs.Filling.{CopiesFillRooms}
 use Rattle.scavenger.specs.Following.{IsFreeAt}
 use Rattle.scavenger.proofs.PagesRuns.{whole_is, taken_at, word_of_run}
 use Rattle.scavenger.proofs.PagesFree.{run_stands}
@@ -60,7 +60,7 @@ pub record TakesRoom (start : Start) (fixed : Fixed) (homes : List Home) (size w
 -- so it is where a run of the rows is taken
 pub takes_room : {start : Start} {fixed : Fixed} {words : List ℕ} {rows left : List (List Run)} {homes : List Home}
     {fill size : ℕ} {run : Run} {free : Cell} → IsBegun start fixed
-    → IsFilled start fixed words rows homes fill → TakesFront rows left size run
+    → CopiesFillRooms start fixed words rows homes fill → TakesFront rows left size run
     → IsFreeAt start.heap.space words free run.at → TakesRoom start fixed homes size free.size run
 takes_room {start} {words = words} {rows} {run = run} {free} begun filled takes is_free =
     let whole : Run = takes.takes.run in

@@ -13,7 +13,7 @@ use Rattle.scav_copy.specs.Places.{Fixed}
 use Rattle.scav_copy.specs.Copies.{LiesInRoom}
 use Rattle.scav_copy.proofs.Spots.{none_in}
 use Rattle.scavenger.specs.Starts.{Start, IsBegun, IsFreeRun, room_of_run}
-use Rattle.scavenger.specs.Filling.{IsFilled}
+use Rattle.scavenger.specs.Filling.{CopiesFillRooms}
 use Rattle.scavenger.proofs.PagesRuns.{lies_in_row, run_in, one_run, run_of_word, word_of_run}
 
 -- no run of a row begins where another ends
@@ -95,7 +95,8 @@ lies_in_run rows now run free free_now is were =
 
 -- so it lies in a room
 pub run_lies : {start : Start} {fixed : Fixed} {words : List ℕ} {rows : List (List Run)} {homes : List Home}
-    {fill : ℕ} (run : Run) → IsBegun start fixed → IsFilled start fixed words rows homes fill → IsFreeRun rows run
+    {fill : ℕ} (run : Run) → IsBegun start fixed → CopiesFillRooms start fixed words rows homes fill
+    → IsFreeRun rows run
     → (room : Room) × LiesInRoom fixed room run.at run.words
 run_lies {start} {rows = rows} run begun filled is =
     let lies = lies_in_run start.rows rows run begun.apart filled.free is (λ at free. (filled.left at).1 (inl free)) in

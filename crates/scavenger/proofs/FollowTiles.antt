@@ -13,7 +13,7 @@ use Rattle.scav_copy.specs.Copies.{with_home, Copying}
 use Rattle.scav_copy.proofs.Ascending.{new_in, old_in, joined_is}
 use Rattle.scav_copy.proofs.Spots.{none_in}
 use Rattle.scavenger.specs.Starts.{Start, IsBegun, IsFreeRun, room_start, room_of, room_of_run}
-use Rattle.scavenger.specs.Filling.{Tiles, none, next, IsFilled}
+use Rattle.scavenger.specs.Filling.{Tiles, none, next, CopiesFillRooms}
 use Rattle.scavenger.proofs.TargetCells.{run_ends}
 
 -- what copies with a first one say of it
@@ -134,27 +134,27 @@ one_behind front back new one = (
 
 -- the copies end behind the start of the room
 pub fill_above : {start : Start} {fixed : Fixed} {words : List ℕ} {rows : List (List Run)} {homes : List Home}
-    {fill : ℕ} → IsFilled start fixed words rows homes fill → room_start start.heap.space start.half ≤ fill
+    {fill : ℕ} → CopiesFillRooms start fixed words rows homes fill → room_start start.heap.space start.half ≤ fill
 fill_above {start} {fill = fill} filled =
     tiles_ascend (room_start start.heap.space start.half) fill filled.stayed filled.tiles
 
 -- a home copy is one of the segment, or of a page
 pub stayed_or_promoted : {start : Start} {fixed : Fixed} {words : List ℕ} {rows : List (List Run)} {homes : List Home}
-    {fill : ℕ} (home : Home) (filled : IsFilled start fixed words rows homes fill) → Contains homes home
+    {fill : ℕ} (home : Home) (filled : CopiesFillRooms start fixed words rows homes fill) → Contains homes home
     → Contains filled.stayed home ⊎ Contains filled.promoted home
 stayed_or_promoted home filled there =
     Contains-append_cases filled.stayed filled.promoted home ((filled.same home).0 there)
 
 -- one of the segment lies between its start and where the copies end
 pub stayed_within : {start : Start} {fixed : Fixed} {words : List ℕ} {rows : List (List Run)} {homes : List Home}
-    {fill : ℕ} (home : Home) (filled : IsFilled start fixed words rows homes fill) → Contains filled.stayed home
+    {fill : ℕ} (home : Home) (filled : CopiesFillRooms start fixed words rows homes fill) → Contains filled.stayed home
     → (room_start start.heap.space start.half ≤ home.to) × (home.to + size_of fixed home.from ≤ fill)
 stayed_within {start} {fill = fill} home filled there =
     tile_within (room_start start.heap.space start.half) fill filled.stayed home filled.tiles there
 
 -- so does a home copy that is not in a page
 pub young_within : {start : Start} {fixed : Fixed} {words : List ℕ} {rows : List (List Run)} {homes : List Home}
-    {fill : ℕ} (home : Home) → IsFilled start fixed words rows homes fill → Contains homes home
+    {fill : ℕ} (home : Home) → CopiesFillRooms start fixed words rows homes fill → Contains homes home
     → eden_start start.heap.space ≤ home.to
     → (room_start start.heap.space start.half ≤ home.to) × (home.to + size_of fixed home.from ≤ fill)
 young_within home filled there young =
@@ -189,7 +189,7 @@ copy_in_page {fixed = fixed} home begun copying there below =
 
 -- behind the copies of the segment no word is in a copy
 pub segment_is_free : {start : Start} {fixed : Fixed} {words : List ℕ} {rows : List (List Run)} {homes : List Home}
-    {fill : ℕ} (at : ℕ) → IsBegun start fixed → IsFilled start fixed words rows homes fill → fill ≤ at
+    {fill : ℕ} (at : ℕ) → IsBegun start fixed → CopiesFillRooms start fixed words rows homes fill → fill ≤ at
     → IsInCopies fixed homes at → ⊥
 segment_is_free {start} {fixed} at begun filled from inside =
     let home : Home = inside.0 in

@@ -15,7 +15,7 @@ use Rattle.heap_model.specs.Slots.{reference_word}
 use Rattle.heap_model.specs.Kinds.{HasWord}
 use Rattle.heap_model.proofs.CellsApart.{one_at}
 use Rattle.heap_moves.specs.Moved.{IsMovedWord, AreMoved, moved_to, StandsMoved, IsFrom, IsMoved}
-use Rattle.scavenger.proofs.StartTargets.{StandsAt, kind_to_cell, held_target}
+use Rattle.heap_walk.proofs.SlotTargets.{IsUsedAt, kind_to_cell, held_target}
 use Rattle.scavenger.proofs.GrantedWords.{Granting, now, after_free}
 use Rattle.scavenger.proofs.GrantedCells.{granted, sized, has_rows, cell_stays, cell_from, outside_stays}
 
@@ -60,7 +60,7 @@ module _ {heap : Heap} {run : Run} {n : ℕ} (granting : Granting heap run n) wh
       used (subst (λ (any : Cell). IsTrue (is_free_kind any.layout.kind)) one granting.free.free)
 
   -- so nothing refers there
-  target_apart : {at : ℕ} → StandsAt heap at → at ≢ run.at
+  target_apart : {at : ℕ} → IsUsedAt heap at → at ≢ run.at
   target_apart stands same = used_apart stands.has stands.used (stands.stands ∙ same)
 
   -- a slot of a cell does not

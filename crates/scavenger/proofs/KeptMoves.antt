@@ -17,7 +17,7 @@ use Rattle.scav_copy.specs.declared.places.Home.{Home}
 use Rattle.scav_copy.specs.Places.{Fixed, offsets_of, IsInRooms}
 use Rattle.scav_copy.proofs.Spots.{cell_itself, elsewhere, slot_in_cell}
 use Rattle.scavenger.specs.Starts.{Start, IsBegun}
-use Rattle.scavenger.specs.Filling.{IsFilled}
+use Rattle.scavenger.specs.Filling.{CopiesFillRooms}
 use Rattle.scavenger.specs.Following.{moved_words}
 use Rattle.scavenger.specs.Walking.{CopiesCell, RefersToRoom, CutsFreeCell}
 use Rattle.scavenger.proofs.FollowTiles.{fill_above}
@@ -55,7 +55,7 @@ free_elsewhere words cell free to at out =
     ∙ unwrap_or-slice_get words at 0
 
 module _ {start : Start} {fixed : Fixed} {words : List ℕ} {rows : List (List Run)} {homes : List Home} {fill : ℕ}
-    {cell : Cell} (begun : IsBegun start fixed) (filled : IsFilled start fixed words rows homes fill)
+    {cell : Cell} (begun : IsBegun start fixed) (filled : CopiesFillRooms start fixed words rows homes fill)
     (new : IsNew start fixed words homes fill cell) where
   -- the cell is a young one
   cell_young : eden_start start.heap.space ≤ cell.at

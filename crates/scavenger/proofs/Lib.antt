@@ -33,13 +33,11 @@ pub mod Started
 pub mod FirstPages
 pub mod FirstStep
 pub mod CodeChanges
-pub mod CodeReadings
 pub mod CodePlaces
 pub mod KeptSpots
 pub mod KeptCopies
 pub mod KeptSlots
 pub mod PlacedCopies
-pub mod CountedCopies
 pub mod KeptMoves
 pub mod CodeMoves
 pub mod CodeStores
@@ -51,7 +49,6 @@ pub mod LoopRoots
 pub mod LoopRecorded
 pub mod LoopCopies
 pub mod LoopSlots
-pub mod SlotEnds
 pub mod EmptiedSegments
 pub mod EndRanges
 pub mod EndRuns

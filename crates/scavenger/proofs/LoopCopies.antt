@@ -18,6 +18,7 @@ use Rattle.cell_layout.proofs.OneCell.{cell_is_sized}
 use Rattle.heap_model.specs.Types.{Cell}
 use Rattle.nursery.specs.Young.{other_half}
 use Rattle.heap_table.specs.Seats.{heap_words}
+use Rattle.heap_walk.specs.Standing.{StandsAt}
 use Rattle.write_barrier.specs.MutatorState.{Mutator}
 use Rattle.scav_copy.specs.declared.places.Home.{Home}
 use Rattle.scav_copy.specs.Places.{Fixed, size_of, cell_before}
@@ -64,12 +65,6 @@ room_ends space half at two from below =
 is_some : (found : Option Reading) → IsSome found → (reading : Reading) × (found ≡ Some reading)
 is_some None some = cc
 is_some (Some reading) some = (reading, refl)
-
--- a cell stands where the copy does
-pub record StandsThere (main : Mutator) (at : ℕ) : Type 0 where
-  pub cell : Cell
-  pub is_cell : IsCell main.seat.space (heap_words main.seat) cell
-  pub stands : cell.at ≡ at
 
 module _ {start now : Mutator} {all : Bool} {progress : Progress} {todo : List ℕ} {front : Front}
     (state : Scavenging start now all progress todo front) (home : Home) (among : Contains state.homes home) where
@@ -121,7 +116,7 @@ module _ {start now : Mutator} {all : Bool} {progress : Progress} {todo : List �
       (cell_of home.to reading, is_cell, refl)
 
   -- so one stands there, among the words as they are
-  pub copy_stands : StandsThere now home.to
+  pub copy_stands : (cell : Cell) × StandsAt now.seat.space (heap_words now.seat) home.to cell
   copy_stands =
       let space : Space = start.seat.space in
       let found : (cell : Cell) × IsCell space (heap_words now.seat) cell × (cell.at ≡ home.to) =
@@ -129,12 +124,8 @@ module _ {start now : Mutator} {all : Bool} {progress : Progress} {todo : List �
         | inl below ↦ stands_in_page below
         | inr young ↦ stands_in_segment young
       ] in
-      record {
-        cell = found.0;
-        is_cell = subst (λ (one : Space). IsCell one (heap_words now.seat) found.0) (sym state.changes.seat.space)
-            found.1;
-        stands = found.2;
-      }
+      let Is : Space → Type 0 = λ one. IsCell one (heap_words now.seat) found.0 in
+      (found.0, record { is_cell = subst Is (sym state.changes.seat.space) found.1; stands = found.2 })
 
   -- each cell that stands there is the copy, with all its slots
   pub is_copy : (cell : Cell) → IsCell now.seat.space (heap_words now.seat) cell → cell.at ≡ home.to
@@ -222,7 +213,6 @@ takes_copy {start} {now} {all} {progress} {todo} {end} {eden} rest at cell state
         filled = state.filled;
         copied = state.copied;
         placed = state.placed;
-        counted = state.counted;
         kept = state.kept;
         listed = λ other there.
             state.listed other

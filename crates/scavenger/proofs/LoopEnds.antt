@@ -15,9 +15,9 @@ use Rattle.scav_copy.proofs.Spots.{none_in}
 use Rattle.scavenger.specs.declared.spaces.Spaces.{Spaces}
 use Rattle.scavenger.specs.declared.progress.Progress.{Progress}
 use Rattle.scavenger.specs.Starts.{room_start, start_of}
-use Rattle.scavenger.specs.Filling.{Front, IsToDo, IsFilled, AllAreDone, ChangesWords, IsEmptied}
+use Rattle.scavenger.specs.Filling.{Front, IsToDo, CopiesFillRooms, AllAreDone, ChangesWords, IsEmptied}
 use Rattle.scavenger.specs.Laws.{IsEnded}
-use Rattle.scavenger.specs.Walking.{AreSpaces, AreCounted, AreKept, IsPlaced, room_end, Scavenging, at_copy}
+use Rattle.scavenger.specs.Walking.{AreSpaces, AreKept, IsWellPlaced, room_end, Scavenging, at_copy}
 use Rattle.scavenger.proofs.FollowTiles.{fill_above}
 use Rattle.scavenger.proofs.CodeChanges.{changes_again}
 use Rattle.scavenger.proofs.LoopGoing.{fill_in_room, root_or_before}
@@ -62,9 +62,9 @@ ends_scavenging {start} {now} {emptied} {new} {all} {progress} limits state is_e
     let words : List ℕ = heap_words now.seat in
     let both = changes_again state.changes changes in
     let Filled : List (List Run) → Type 0 = λ rows.
-    IsFilled (start_of start) state.fixed words rows state.homes progress.fill in
+    CopiesFillRooms (start_of start) state.fixed words rows state.homes progress.fill in
     let Placed : List (List Run) → Type 0 = λ rows.
-    IsPlaced (start_of start) state.fixed rows state.homes all progress.refused in
+    IsWellPlaced (start_of start) state.fixed rows state.homes all progress.refused in
     let Kept : Recorded → Type 0 = λ one. AreKept (start_of start) state.fixed words state.homes one.slots in
     let Of : Mutator → Type 0 = λ (main : Mutator).
     IsEnded start main all state.fixed state.homes words progress.fill progress.refused in
@@ -86,14 +86,13 @@ ends_scavenging {start} {now} {emptied} {new} {all} {progress} limits state is_e
     })
 
 -- What a scavenge comes to at its end, in words of its own.
-pub record HasEnded (old new : Mutator) (all : Bool) (progress : Progress) : Type 0 where
+pub record HasEnded (old new : Mutator) (all : Bool) : Type 0 where
   pub fixed : Fixed
   pub homes : List Home
   pub words : List ℕ
   pub fill : ℕ
   pub refused : ℕ
   pub ended : IsEnded old new all fixed homes words fill refused
-  pub counted : AreCounted old.seat.space all fixed homes progress
 
 -- the last two steps end it, as the code computes their numbers
 pub has_ended : (start now emptied : Mutator) (spaces : Spaces) (all : Bool) (progress : Progress) (half : ℕ)
@@ -103,7 +102,7 @@ pub has_ended : (start now emptied : Mutator) (spaces : Spaces) (all : Bool) (pr
     → IsEmptied now.seat.space half progress.fill spaces.room_end (heap_words now.seat) (heap_words emptied.seat)
     → ChangesWords now emptied → emptied.free ≡ now.free → emptied.recorded ≡ now.recorded
     → nursery ≡ emptied.young → young ≡ turned nursery (progress.fill - spaces.room)
-    → HasEnded start (record emptied { young = young }) all progress
+    → HasEnded start (record emptied { young = young }) all
 has_ended start now emptied spaces all progress half nursery young limits are is_half state is_emptied changes free
     recorded lent turns =
     let fill : ℕ = progress.fill in
@@ -124,7 +123,6 @@ has_ended start now emptied spaces all progress half nursery young limits are is
       refused = progress.refused;
       ended = ends_scavenging limits state of_room changes free recorded
           (ap (λ (one : Young). record emptied { young = one }) turned_by);
-      counted = state.counted;
     }
 
 -- the copies of the segment have no more words than the young generation

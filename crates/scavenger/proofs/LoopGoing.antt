@@ -139,7 +139,6 @@ module _ {start now : Mutator} {all : Bool} {progress : Progress} {todo : List â
       filled = state.filled;
       copied = state.copied;
       placed = state.placed;
-      counted = state.counted;
       kept = state.kept;
       listed = state.listed;
       few = state.few;

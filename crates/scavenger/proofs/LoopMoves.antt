@@ -5,10 +5,10 @@ use Rattle.tagged_word.specs.Readings.{reference_in}
 use Rattle.tagged_word.proofs.Cells.{some_same}
 use Rattle.page_space.specs.Extents.{Space, marks_start}
 use Rattle.page_space.proofs.LawsHold.{kinds_by_number}
-use Rattle.cell_layout.specs.Cells.{IsCell}
 use Rattle.cell_layout.proofs.OneCell.{cells_have_words}
 use Rattle.heap_model.specs.Types.{Cell}
 use Rattle.heap_table.specs.Seats.{heap_words}
+use Rattle.heap_walk.specs.Standing.{StandsAt}
 use Rattle.write_barrier.specs.MutatorState.{Mutator}
 use Rattle.scav_copy.specs.Places.{StoodAt}
 use Rattle.scav_copy.specs.Renamings.{RefersToAddress}
@@ -53,11 +53,12 @@ cell_there {now} {at = at} word move read none =
 -- and the cell that is read is that one
 pub cell_found : {now : Mutator} {all : Bool} {progress : Progress} {todo : List ℕ} {at : ℕ} (word : ℕ) (found : Cell)
     → MayMove now all progress todo at → slice_get (heap_words now.seat) at ≡ Some word → reference_in word ≡ None
-    → ((cell : Cell) → IsCell now.seat.space (heap_words now.seat) cell → cell.at ≡ at → found ≡ cell)
+    → ((cell : Cell) → StandsAt now.seat.space (heap_words now.seat) at cell → found ≡ cell)
     → NewCell now all progress todo at found
 cell_found {now} {all} {progress} {todo} {at} word found move read none known =
     let one = cell_there word move read none in
-    subst (NewCell now all progress todo at) (sym (known one.0 (new_is_cell one.1.state one.1.new) one.1.stands)) one.1
+    let is = known one.0 (record { is_cell = new_is_cell one.1.state one.1.new; stands = one.1.stands }) in
+    subst (NewCell now all progress todo at) (sym is) one.1
 
 -- where a copy goes tells nothing of how many words all have
 pub copied_stays : {old mid : Mutator} {all : Bool} {at size : ℕ} {before : Progress} (after : Progress) (to : ℕ)
@@ -96,7 +97,7 @@ pub found_moves : {start now mid new : Mutator} {all : Bool} {progress after : P
     → StoodAt state.fixed state.homes slot place → RefersToAddress (heap_words now.seat) slot at
     → IsFromSpace now.seat.space now.young.half at → slice_get (heap_words now.seat) at ≡ Some word
     → reference_in word ≡ None
-    → ((cell : Cell) → IsCell now.seat.space (heap_words now.seat) cell → cell.at ≡ at → found ≡ cell)
+    → ((cell : Cell) → StandsAt now.seat.space (heap_words now.seat) at cell → found ≡ cell)
     → Places now mid all at found.size progress after to → CopiesCell mid new found to → more ≡ todo ++ to ∷ []
     → HasMoved start now new all progress (record after { copied = after.copied + found.size }) todo more front at to
     state
@@ -104,7 +105,8 @@ found_moves {start} {now} {mid} {new} {all} {progress} {after} {todo} {more} {fr
     stood refers left read none known places copies list_is =
     let head = refers_nowhere (heap_words now.seat) at word read (sym none) in
     let one = new_at state slot place at stood refers left head in
-    let same : found ≡ one.cell = known one.cell (new_is_cell state one.new) one.stands in
+    let same : found ≡ one.cell =
+    known one.cell (record { is_cell = new_is_cell state one.new; stands = one.stands }) in
     let stands : found.at ≡ at = ap (λ (cell : Cell). cell.at) same ∙ one.stands in
     let is_new : IsNew (start_of start) state.fixed (heap_words now.seat) state.homes progress.fill found =
     subst (IsNew (start_of start) state.fixed (heap_words now.seat) state.homes progress.fill) (sym same) one.new in

@@ -1,5 +1,5 @@
 -- The stages of a scavenge: its start, and where roots, recorded slots and copies were followed.
-use Rattle.std.proofs.Common.{◌≡◌, ℕ, ◌+◌, Bool, List, [], None, sym, ◌∙◌, ap, subst}
+use Rattle.std.proofs.Common.{◌≡◌, ℕ, ◌+◌, Bool, List, [], sym, ◌∙◌, ap, subst}
 use Rattle.page_space.specs.Sizes.{page_words}
 use Rattle.page_space.specs.Extents.{Space, eden_start, roots_start}
 use Rattle.page_space.specs.RegionLaws.{IsSpace}
@@ -35,12 +35,12 @@ pub comes_first : (main : Mutator) (graph : Graph) (nursery : Young) (spaces : S
     → AreFree main.free → nursery ≡ main.young → half ≡ nursery.half → told ≡ main.seat.space
     → AreSpaces told half all spaces → items ≡ []
     → HasCome main (record main { young = nursery }) spaces all
-    (record { fill = spaces.room; copied = 0; refused = page_words + 1; stayed = 0; first_need = None }) items
+    (record { fill = spaces.room; copied = 0; refused = page_words + 1 }) items
     (at_root (roots_start main.seat.space))
 comes_first main graph nursery spaces all told half items shows limits young free lent is_half is_space are none =
     let Come : Young → ℕ → List ℕ → Type 0 = λ young room todo.
     HasCome main (record main { young = young }) spaces all
-    (record { fill = room; copied = 0; refused = page_words + 1; stayed = 0; first_need = None }) todo
+    (record { fill = room; copied = 0; refused = page_words + 1 }) todo
     (at_root (roots_start main.seat.space)) in
     let room : ℕ = room_start main.seat.space (other_half main.young.half) in
     let were = spaces_of main spaces all told half is_space (is_half ∙ ap (λ (one : Young). one.half) lent) are in

@@ -12,7 +12,7 @@ use Rattle.scav_copy.specs.Places.{Fixed, IsInCopy, IsInCopies}
 use Rattle.scav_copy.specs.Copies.{with_home}
 use Rattle.scav_copy.proofs.Ascending.{old_in, joined_is}
 use Rattle.scavenger.specs.Starts.{Start, IsBegun, room_start}
-use Rattle.scavenger.specs.Filling.{IsFilled, IsInPromoted, IsOfPage, PageStands}
+use Rattle.scavenger.specs.Filling.{CopiesFillRooms, IsInPromoted, IsOfPage, PageStands}
 use Rattle.scavenger.specs.Following.{moved_words}
 use Rattle.scavenger.specs.Paging.{IsUnmoved, PagesStayForCopies, WordsStayLeft, FreeStaysApart}
 use Rattle.scavenger.proofs.TargetNumbers.{room_below_roots}
@@ -24,7 +24,7 @@ use Rattle.scavenger.proofs.PagesSlots.{page_stays}
 
 -- the segment is filled up to an address behind its start, which is behind the pages
 pub fill_behind : {start : Start} {fixed : Fixed} {words : List ℕ} {rows : List (List Run)} {homes : List Home}
-    {fill : ℕ} → IsFilled start fixed words rows homes fill → eden_start start.heap.space ≤ fill
+    {fill : ℕ} → CopiesFillRooms start fixed words rows homes fill → eden_start start.heap.space ≤ fill
 fill_behind {start} {fill = fill} filled =
     omega (arith, tiles_ascend (room_start start.heap.space start.half) fill filled.stayed filled.tiles)
 
@@ -55,7 +55,7 @@ page_with_home {start} {homes = homes} new page known young stands = record {
 }
 
 module _ {start : Start} {fixed : Fixed} {words : List ℕ} {rows : List (List Run)} {homes : List Home} {fill : ℕ}
-    {cell : Cell} (begun : IsBegun start fixed) (filled : IsFilled start fixed words rows homes fill)
+    {cell : Cell} (begun : IsBegun start fixed) (filled : CopiesFillRooms start fixed words rows homes fill)
     (unmoved : IsUnmoved start fixed words homes cell) where
   -- the words of the cell are there
   pub cell_there : cell.at + cell.size ≤ length words
@@ -100,7 +100,7 @@ promoted_still start fixed homes new at young = (
 
 -- no word of a free run is in a copy with one more
 pub apart_still : {start : Start} {fixed : Fixed} {words : List ℕ} {rows : List (List Run)} {homes : List Home}
-    {fill : ℕ} (new : Home) (at : ℕ) → IsFilled start fixed words rows homes fill → IsFreeWord rows at
+    {fill : ℕ} (new : Home) (at : ℕ) → CopiesFillRooms start fixed words rows homes fill → IsFreeWord rows at
     → (IsInCopy fixed new at → ⊥)
     → IsInCopies fixed (with_home homes new) at → ⊥
 apart_still {fixed = fixed} {homes = homes} new at filled free other inside =

@@ -15,7 +15,7 @@ use Rattle.scav_copy.specs.declared.places.Home.{Home}
 use Rattle.scav_copy.specs.Places.{Fixed}
 use Rattle.scav_copy.proofs.Spots.{home_itself}
 use Rattle.scavenger.specs.Starts.{Start, IsBegun, IsFreeRun}
-use Rattle.scavenger.specs.Filling.{IsFilled, IsOfPage, PageStands, StandsIn}
+use Rattle.scavenger.specs.Filling.{CopiesFillRooms, IsOfPage, PageStands, StandsIn}
 use Rattle.scavenger.specs.Paging.{IsRunStanding, FreeRunsStand}
 use Rattle.scavenger.proofs.TargetCells.{run_ends}
 use Rattle.scavenger.proofs.PagesRuns.{HasRun, run_of_word, first_of_run, one_run_at}
@@ -30,7 +30,7 @@ row_has {start} {words} {page = page} {cell} stands there =
     stands.row there).is_cell
 
 module _ {start : Start} {fixed : Fixed} {words : List ℕ} {rows : List (List Run)} {homes : List Home} {fill : ℕ}
-    (begun : IsBegun start fixed) (filled : IsFilled start fixed words rows homes fill) where
+    (begun : IsBegun start fixed) (filled : CopiesFillRooms start fixed words rows homes fill) where
   -- a free word was one before
   pub was_free : (at : ℕ) → IsFreeWord rows at → HasRun start.rows at
   was_free at is = run_of_word start.rows at ((filled.left at).1 (inl is))

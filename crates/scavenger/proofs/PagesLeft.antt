@@ -10,7 +10,7 @@ use Rattle.scav_copy.specs.Places.{Fixed, IsInCopy, IsInCopies}
 use Rattle.scav_copy.specs.Copies.{with_home}
 use Rattle.scav_copy.proofs.Ascending.{new_in, old_in, joined_is}
 use Rattle.scavenger.specs.Starts.{Start, IsBegun}
-use Rattle.scavenger.specs.Filling.{IsFilled, IsInPromoted}
+use Rattle.scavenger.specs.Filling.{CopiesFillRooms, IsInPromoted}
 use Rattle.scavenger.specs.Paging.{IsUnmoved, WordsAreLeft, FreeIsLeftApart}
 use Rattle.scavenger.proofs.PagesRuns.{whole, whole_is, taken_at, taken_words, first_of_run}
 use Rattle.scavenger.proofs.PagesCells.{unmoved_is}
@@ -19,7 +19,7 @@ use Rattle.scavenger.proofs.PagesFree.{free_below}
 
 module _ {start : Start} {fixed : Fixed} {words : List ℕ} {rows left : List (List Run)} {homes : List Home} {fill : ℕ}
     {cell : Cell} {run : Run} (begun : IsBegun start fixed)
-    (filled : IsFilled start fixed words rows homes fill) (unmoved : IsUnmoved start fixed words homes cell)
+    (filled : CopiesFillRooms start fixed words rows homes fill) (unmoved : IsUnmoved start fixed words homes cell)
     (takes : TakesFront rows left cell.size run) where
   -- the home of the cell
   abbrev home_of_cell : Home

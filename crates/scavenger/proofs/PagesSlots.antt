@@ -18,7 +18,7 @@ use Rattle.scav_copy.specs.declared.places.Home.{Home}
 use Rattle.scav_copy.specs.Places.{Fixed, size_of, offsets_of, StoodAt}
 use Rattle.scav_copy.proofs.Spots.{none_in, copy_in_room, slot_in_cell, within_by}
 use Rattle.scavenger.specs.Starts.{Start, IsBegun, IsRootAt, IsFreeRun}
-use Rattle.scavenger.specs.Filling.{IsFilled, IsInPage, PageStands, StandsIn}
+use Rattle.scavenger.specs.Filling.{CopiesFillRooms, IsInPage, PageStands, StandsIn}
 use Rattle.scavenger.specs.Paging.{PagesStayForSlots}
 use Rattle.scavenger.proofs.TargetCells.{in_segment_or_page}
 use Rattle.scavenger.proofs.TargetNumbers.{room_below_roots}
@@ -89,7 +89,7 @@ outside_page own page at other from below = elim (cases_lt at (page_words * page
 ]
 
 module _ {start : Start} {fixed : Fixed} {words : List ℕ} {rows : List (List Run)} {homes : List Home} {fill : ℕ}
-    (begun : IsBegun start fixed) (filled : IsFilled start fixed words rows homes fill) where
+    (begun : IsBegun start fixed) (filled : CopiesFillRooms start fixed words rows homes fill) where
   -- A slot of a cell of the page, or of one of another page, becomes another word.
   put_in_cell : (cell : Cell) (offset word page : ℕ) → page < start.heap.space.sizes.pages
       → IsCell start.heap.space words cell → cell.at < eden_start start.heap.space

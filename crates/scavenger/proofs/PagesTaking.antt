@@ -15,7 +15,7 @@ use Rattle.scav_copy.specs.declared.places.Home.{Home}
 use Rattle.scav_copy.specs.Places.{Fixed}
 use Rattle.scav_copy.specs.Copies.{Copying}
 use Rattle.scavenger.specs.Starts.{Start, IsBegun}
-use Rattle.scavenger.specs.Filling.{IsFilled}
+use Rattle.scavenger.specs.Filling.{CopiesFillRooms}
 use Rattle.scavenger.specs.Following.{IsFreeAt}
 use Rattle.scavenger.specs.Paging.{IsUnmoved, promoted_words}
 use Rattle.scavenger.proofs.TargetCells.{layouts_same}
@@ -28,7 +28,7 @@ use Rattle.scavenger.proofs.PagesFree.{run_stands}
 pub record Taking (start : Start) (fixed : Fixed) (words : List ℕ) (rows left : List (List Run)) (homes : List Home)
     (fill : ℕ) (cell free : Cell) (run : Run) : Type 0 where
   pub begun : IsBegun start fixed
-  pub filled : IsFilled start fixed words rows homes fill
+  pub filled : CopiesFillRooms start fixed words rows homes fill
   pub unmoved : IsUnmoved start fixed words homes cell
   pub takes : TakesFront rows left cell.size run
   pub is : IsFreeAt start.heap.space words free run.at

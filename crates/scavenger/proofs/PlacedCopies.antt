@@ -10,7 +10,7 @@ use Rattle.scav_copy.specs.Places.{Fixed, size_of}
 use Rattle.scav_copy.specs.Copies.{with_home}
 use Rattle.scav_copy.proofs.Ascending.{joined_is}
 use Rattle.scavenger.specs.Starts.{Start}
-use Rattle.scavenger.specs.Walking.{IsPlaced, IsToPromote}
+use Rattle.scavenger.specs.Walking.{IsWellPlaced, IsToPromote}
 
 -- where so many words fit nowhere, more don't
 more_fit_nowhere : (rows : List (List Run)) (few many : ℕ) → 1 ≤ few → few ≤ many → FitsNowhere rows few
@@ -28,7 +28,7 @@ taken_fit_nowhere rows left size n run takes some none =
     (longest_tells left n some).0 (omega (arith, short, no_longer))
 
 module _ {start : Start} {fixed : Fixed} {rows : List (List Run)} {homes : List Home} {all : Bool} {refused : ℕ}
-    (placed : IsPlaced start fixed rows homes all refused) (cell to : ℕ) where
+    (placed : IsWellPlaced start fixed rows homes all refused) (cell to : ℕ) where
   -- the homes with that of the cell
   abbrev placed_homes : List Home
   placed_homes = with_home homes (record { from = cell; to = to })
@@ -37,7 +37,7 @@ module _ {start : Start} {fixed : Fixed} {rows : List (List Run)} {homes : List 
   pub placed_behind : (refuses : ℕ) → eden_start start.heap.space ≤ to → refuses ≤ refused
       → (IsToPromote start.heap.space all cell → refuses ≤ size_of fixed cell)
       → ((n : ℕ) → 1 ≤ n → refuses ≤ n → n ≤ page_words → FitsNowhere rows n)
-      → IsPlaced start fixed rows placed_homes all refuses
+      → IsWellPlaced start fixed rows placed_homes all refuses
   placed_behind refuses young fewer long none = record {
     promoted = λ home there of_page. elim (joined_is homes (record { from = cell; to = to }) home there) [
       | inl same ↦
@@ -61,12 +61,12 @@ module _ {start : Start} {fixed : Fixed} {rows : List (List Run)} {homes : List 
   -- so it is where no run was asked for, or none with its words is left
   pub placed_on : eden_start start.heap.space ≤ to
       → (IsToPromote start.heap.space all cell → refused ≤ size_of fixed cell)
-      → IsPlaced start fixed rows placed_homes all refused
+      → IsWellPlaced start fixed rows placed_homes all refused
   placed_on young long = placed_behind refused young (omega arith) long placed.none_fits
 
   -- and where none has its words
   pub placed_refused : eden_start start.heap.space ≤ to → 1 ≤ size_of fixed cell → size_of fixed cell < refused
-      → FitsNowhere rows (size_of fixed cell) → IsPlaced start fixed rows placed_homes all (size_of fixed cell)
+      → FitsNowhere rows (size_of fixed cell) → IsWellPlaced start fixed rows placed_homes all (size_of fixed cell)
   placed_refused young some less none =
       placed_behind (size_of fixed cell) young (omega (arith, less)) (λ promote. omega arith)
       (λ n one many few. more_fit_nowhere rows (size_of fixed cell) n some many none)
@@ -74,7 +74,7 @@ module _ {start : Start} {fixed : Fixed} {rows : List (List Run)} {homes : List 
   -- with a copy in a free run
   pub placed_in_page : (left : List (List Run)) (size : ℕ) (run : Run) → TakesFront rows left size run
       → to < eden_start start.heap.space → IsToPromote start.heap.space all cell
-      → IsPlaced start fixed left placed_homes all refused
+      → IsWellPlaced start fixed left placed_homes all refused
   placed_in_page left size run takes of_page promote = record {
     promoted = λ home there low. elim (joined_is homes (record { from = cell; to = to }) home there) [
       | inl same ↦ subst (λ (one : Home). IsToPromote start.heap.space all one.from) same promote

@@ -28,7 +28,8 @@ use Rattle.scavenger.proofs.StartReadings.{low_within, size_is, offsets_are}
 use Rattle.scavenger.proofs.StartRows.{young_cells, young_has, young_in}
 use Rattle.scavenger.proofs.StartAscends.{addresses, climbs_pairs, StandsIn, rows_climb}
 use Rattle.scavenger.proofs.StartSums.{sum_by-map, sum_by-same, young_words}
-use Rattle.scavenger.proofs.StartTargets.{StandsAt, cell_targets, root_targets, recorded_targets}
+use Rattle.heap_walk.proofs.SlotTargets.{IsUsedAt}
+use Rattle.scavenger.proofs.StartTargets.{cell_targets, root_targets, recorded_targets}
 use Rattle.scavenger.proofs.StartRooms.{IsReady}
 use Rattle.scavenger.proofs.StartLaid.{laid_out}
 
@@ -175,7 +176,7 @@ cells_counted start rows limits =
 
 module _ {start : Start} {fixed : Fixed} (ready : IsReady start fixed) where
   -- a cell that stands from eden on is one of the cells
-  young_among : (at : ℕ) → StandsAt start.heap at → eden_start start.heap.space ≤ at → Contains fixed.cells at
+  young_among : (at : ℕ) → IsUsedAt start.heap at → eden_start start.heap.space ≤ at → Contains fixed.cells at
   young_among at is young = (ready.begins.cells at).1 record {
     cell = is.cell;
     words = is.words;
@@ -186,7 +187,7 @@ module _ {start : Start} {fixed : Fixed} (ready : IsReady start fixed) where
 
   -- what a slot outside refers to from eden on stands there
   outside_targets : (place at : ℕ) → Contains fixed.slots place → RefersToAddress start.heap.words place at
-      → StandsAt start.heap at
+      → IsUsedAt start.heap at
   outside_targets place at among refers = elim ((ready.begins.slots place).0 among) [
     | inl root ↦
         root_targets root.variable at ready.whole root.known
@@ -196,7 +197,7 @@ module _ {start : Start} {fixed : Fixed} (ready : IsReady start fixed) where
 
   -- what a slot of one of the cells refers to stands there
   inside_targets : (cell offset place at : ℕ) → Contains fixed.cells cell → Contains (offsets_of fixed cell) offset
-      → cell + offset ≡ place → RefersToAddress start.heap.words place at → StandsAt start.heap at
+      → cell + offset ≡ place → RefersToAddress start.heap.words place at → IsUsedAt start.heap at
   inside_targets cell offset place at among slot is_place refers =
       let is : IsYoungCell start.heap cell = (ready.begins.cells cell).0 among in
       let own = ap (offsets_of fixed) (sym is.stands)

@@ -10,7 +10,7 @@ use Rattle.scav_copy.specs.Copies.{with_home, HasNoHome}
 use Rattle.scav_copy.proofs.Ascending.{Ascends, by_place, joined_ascends, joined_is}
 use Rattle.scav_copy.proofs.Spots.{none_in, from_is}
 use Rattle.scavenger.specs.Starts.{Start, IsBegun, room_start}
-use Rattle.scavenger.specs.Filling.{IsFilled}
+use Rattle.scavenger.specs.Filling.{CopiesFillRooms}
 use Rattle.heap_model.specs.Types.{Run}
 
 -- the first of a list is related to each later one, where all pairs are related
@@ -129,12 +129,12 @@ one_home_more measure homes new = joined_sum (λ one. measure one.from) homes ne
 
 -- the homes are of cells that are to be copied
 pub homes_are : {start : Start} {fixed : Fixed} {words : List ℕ} {rows : List (List Run)} {homes : List Home} {fill : ℕ}
-    → IsFilled start fixed words rows homes fill → AreOf fixed.cells homes
+    → CopiesFillRooms start fixed words rows homes fill → AreOf fixed.cells homes
 homes_are filled home there = from_is home filled.copying there
 
 -- the copies have no more words than survivors and used words together
 pub few_filled : {start : Start} {fixed : Fixed} {words : List ℕ} {rows : List (List Run)} {homes : List Home}
-    {fill : ℕ} → IsBegun start fixed → IsFilled start fixed words rows homes fill
+    {fill : ℕ} → IsBegun start fixed → CopiesFillRooms start fixed words rows homes fill
     → fill ≤ room_start start.heap.space start.half + (start.heap.survivors + start.heap.used)
 few_filled {start} {fixed} {homes = homes} begun filled =
     let few : sum_of_homes (size_of fixed) homes ≤ sum_by (size_of fixed) fixed.cells =
@@ -151,7 +151,7 @@ more_are cells homes new is are home there = elim (joined_is homes new home ther
 
 -- The copies, with that of a cell that has no home, have no more words than survivors and used words together.
 pub few_with_one : {start : Start} {fixed : Fixed} {words : List ℕ} {rows : List (List Run)} {homes : List Home}
-    {fill : ℕ} (cell : ℕ) → IsBegun start fixed → IsFilled start fixed words rows homes fill
+    {fill : ℕ} (cell : ℕ) → IsBegun start fixed → CopiesFillRooms start fixed words rows homes fill
     → Contains fixed.cells cell → HasNoHome homes cell
     → sum_of_homes (size_of fixed) homes + size_of fixed cell ≤ start.heap.survivors + start.heap.used
 few_with_one {start} {fixed} {homes = homes} cell begun filled is none =
@@ -163,7 +163,7 @@ few_with_one {start} {fixed} {homes = homes} cell begun filled is none =
 
 -- so the copy of a cell that has no home ends in the room
 pub room_for_one : {start : Start} {fixed : Fixed} {words : List ℕ} {rows : List (List Run)} {homes : List Home}
-    {fill : ℕ} (cell : ℕ) → IsBegun start fixed → IsFilled start fixed words rows homes fill
+    {fill : ℕ} (cell : ℕ) → IsBegun start fixed → CopiesFillRooms start fixed words rows homes fill
     → Contains fixed.cells cell → HasNoHome homes cell
     → fill + size_of fixed cell ≤ room_start start.heap.space start.half + start.heap.space.sizes.young
 room_for_one {start} {fixed} {homes = homes} cell begun filled is none =

@@ -25,7 +25,7 @@ use Rattle.scavenger.specs.Scavenged.{Scavenges, begins_free, place_after}
 use Rattle.scavenger.specs.Laws.{IsOfPromoted, KeepsPlaces, ScavengesTakeWords}
 use Rattle.scavenger.proofs.EndPlaces.{stays_in_page}
 use Rattle.scavenger.proofs.EndRuns.{found_run}
-use Rattle.scavenger.proofs.EndSlots.{word_found}
+use Rattle.heap_walk.proofs.SlotTargets.{word_found}
 use Rattle.scavenger.proofs.PromotedCells.{copy_at, promotes_what_fits, promotes_no_other}
 use Rattle.scavenger.proofs.Tight.{own_slot, refers_by, word_refers}
 

@@ -14,7 +14,7 @@ use Rattle.scav_copy.specs.Going.{IsFollowed}
 use Rattle.scav_copy.proofs.Spots.{home_fits, home_itself, copy_in_room, from_is}
 use Rattle.scav_copy.proofs.Continuing.{slots_are_followed}
 use Rattle.scavenger.specs.Starts.{Start, IsBegun, IsSlotPlace, room_start}
-use Rattle.scavenger.specs.Filling.{IsFilled}
+use Rattle.scavenger.specs.Filling.{CopiesFillRooms}
 use Rattle.scavenger.specs.Following.{IsFromSpace, IsTarget, SlotsHaveTargets}
 use Rattle.scavenger.proofs.Sums.{room_for_one}
 use Rattle.scavenger.proofs.TargetNumbers.{room_is_not_left, left_is_young}
@@ -76,7 +76,7 @@ left_is_cell {start} left slot place at begun both copying stood refers is_left 
 
 -- what is found there: the reference to a home, or the cell as it was, for which there is room
 target_by : {start : Start} {fixed : Fixed} {words : List ℕ} {rows : List (List Run)} {homes : List Home} {fill : ℕ}
-    (place at : ℕ) → IsBegun start fixed → IsFilled start fixed words rows homes fill
+    (place at : ℕ) → IsBegun start fixed → CopiesFillRooms start fixed words rows homes fill
     → Contains fixed.cells at → RefersToAddress fixed.before place at → IsFollowed fixed words homes place at
     → IsTarget start.heap.space fixed words homes
     (room_start start.heap.space start.half + start.heap.space.sizes.young) fill at

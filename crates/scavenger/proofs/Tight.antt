@@ -35,11 +35,10 @@ use Rattle.scav_copy.proofs.Spots.{reached_is}
 use Rattle.scavenger.specs.Starts.{Start, Begins, IsYoungCell, IsRootAt}
 use Rattle.scavenger.specs.Scavenged.{home_of, place_after}
 use Rattle.scavenger.specs.Laws.{ScavengesAreTight, ScavengesFillPages}
-use Rattle.scavenger.proofs.StartTargets.{word_reads}
 use Rattle.scavenger.proofs.PagesSlots.{free_slots}
 use Rattle.scavenger.proofs.EndRuns.{no_run_begins}
 use Rattle.scavenger.proofs.EndPlaces.{stays_in_page, goes_home, home_found, StaysAt, stays_at}
-use Rattle.scavenger.proofs.EndSlots.{word_found}
+use Rattle.heap_walk.proofs.SlotTargets.{word_reads, word_found}
 
 -- the slots of a cell that is read are those of the only reading
 slot_by_reading : (words layouts : List ℕ) (at bound : ℕ) (cell : Option Reading) (reading : Reading) (offset : ℕ)

@@ -68,7 +68,8 @@ IsInPromoted start fixed homes at =
 
 -- Words, free runs and homes between two slots. Some home copies fill the segment from its start to `fill`, one behind
 -- another; the others stand in pages. Each word that was in a free run is in one, or in a copy.
-pub record IsFilled (start : Start) (fixed : Fixed) (words : List ℕ) (rows : List (List Run)) (homes : List Home) (fill : ℕ)
+pub record CopiesFillRooms (start : Start) (fixed : Fixed) (words : List ℕ) (rows : List (List Run)) (homes : List Home)
+    (fill : ℕ)
     : Type 0 where
   pub copying : Copying fixed words homes
   pub stayed : List Home

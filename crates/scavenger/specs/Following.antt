@@ -17,7 +17,7 @@ use Rattle.scav_copy.specs.Places.{Fixed, size_of, StoodAt}
 use Rattle.scav_copy.specs.Renamings.{RefersToAddress}
 use Rattle.scav_copy.specs.Copies.{with_home}
 use Rattle.scavenger.specs.Starts.{Start, IsBegun, room_start}
-use Rattle.scavenger.specs.Filling.{IsFilled, Front, OthersAreDone}
+use Rattle.scavenger.specs.Filling.{CopiesFillRooms, Front, OthersAreDone}
 
 -- the first address of the segments of a half, and the first one behind them
 abbrev pub half_start : Space → ℕ → ℕ
@@ -45,7 +45,7 @@ abbrev pub SlotsHaveTargets : Type 0
 SlotsHaveTargets =
     (start : Start) (left : ℕ) (fixed : Fixed) (words : List ℕ) (rows : List (List Run)) (homes : List Home)
     (fill slot place at : ℕ)
-    → IsBegun start fixed → start.half + left ≡ 1 → IsFilled start fixed words rows homes fill
+    → IsBegun start fixed → start.half + left ≡ 1 → CopiesFillRooms start fixed words rows homes fill
     → StoodAt fixed homes slot place → RefersToAddress words slot at → IsFromSpace start.heap.space left at
     → Contains fixed.cells at
     × IsTarget start.heap.space fixed words homes (room_start start.heap.space start.half + start.heap.space.sizes.young)
@@ -76,14 +76,14 @@ pub record HasCopied (start : Start) (fixed : Fixed) (words now : List ℕ) (lef
     (todo : List ℕ) (front : Front) (behind at to : ℕ) : Type 0 where
   pub all : List Home
   pub are : all ≡ with_home homes (record { from = at; to = to })
-  pub filled : IsFilled start fixed now left all behind
+  pub filled : CopiesFillRooms start fixed now left all behind
   pub others : OthersAreDone start fixed words homes todo front → OthersAreDone start fixed now all (to ∷ todo) front
 
 abbrev pub CopyingGoesOn : Type 0
 CopyingGoesOn =
     (start : Start) (left : ℕ) (fixed : Fixed) (words now : List ℕ) (rows after : List (List Run)) (homes : List Home)
     (todo : List ℕ) (front : Front) (cell : Cell) (fill behind to slot place : ℕ)
-    → IsBegun start fixed → start.half + left ≡ 1 → IsFilled start fixed words rows homes fill
+    → IsBegun start fixed → start.half + left ≡ 1 → CopiesFillRooms start fixed words rows homes fill
     → StoodAt fixed homes slot place → RefersToAddress words slot cell.at → IsFromSpace start.heap.space left cell.at
     → reference_in (slice_index words cell.at) ≡ None → IsCell start.heap.space words cell
     → Copies start.heap.space words rows fill cell now after behind to
@@ -92,7 +92,7 @@ CopyingGoesOn =
 -- A live slot that refers to a cell with a home comes to refer to that, and no other is to do beside those before.
 pub record HasRenamed (start : Start) (fixed : Fixed) (words now : List ℕ) (rows : List (List Run)) (homes : List Home)
     (todo : List ℕ) (front : Front) (fill slot : ℕ) : Type 0 where
-  pub filled : IsFilled start fixed now rows homes fill
+  pub filled : CopiesFillRooms start fixed now rows homes fill
   pub others : OthersAreDone start fixed words homes todo front
       → (other place cell : ℕ) → StoodAt fixed homes other place → RefersToAddress now other cell
       → Contains fixed.cells cell → (other ≢ slot) × RefersToAddress words other cell
@@ -101,7 +101,7 @@ abbrev pub RenamingGoesOn : Type 0
 RenamingGoesOn =
     (start : Start) (left : ℕ) (fixed : Fixed) (words : List ℕ) (rows : List (List Run)) (homes : List Home)
     (todo : List ℕ) (front : Front) (home : Home) (fill slot place : ℕ)
-    → IsBegun start fixed → start.half + left ≡ 1 → IsFilled start fixed words rows homes fill
+    → IsBegun start fixed → start.half + left ≡ 1 → CopiesFillRooms start fixed words rows homes fill
     → StoodAt fixed homes slot place → RefersToAddress words slot home.from → IsFromSpace start.heap.space left home.from
     → Contains homes home
     → HasRenamed start fixed words (slice_set words slot (bits_of (Ref home.to))) rows homes todo front fill slot

@@ -18,8 +18,8 @@ use Rattle.write_barrier.specs.MutatorState.{Mutator, heap_of, MainShows}
 use Rattle.scav_copy.specs.declared.places.Home.{Home}
 use Rattle.scav_copy.specs.Places.{Fixed}
 use Rattle.scavenger.specs.Starts.{IsBegun, start_of, room_start}
-use Rattle.scavenger.specs.Filling.{IsFilled, AllAreDone, IsEmptied}
-use Rattle.scavenger.specs.Walking.{AreKept, IsPlaced, IsToPromote, room_end}
+use Rattle.scavenger.specs.Filling.{CopiesFillRooms, AllAreDone, IsEmptied}
+use Rattle.scavenger.specs.Walking.{AreKept, IsWellPlaced, IsToPromote, room_end}
 use Rattle.scavenger.specs.Scavenged.{Scavenges}
 
 -- Each graph that the heap showed it shows, and its objects have the rooms that they had, so each command needs as many
@@ -41,9 +41,9 @@ pub record IsEnded (old new : Mutator) (all : Bool) (fixed : Fixed) (homes : Lis
   pub limits : IsSpace old.seat.space
   pub begun : IsBegun (start_of old) fixed
   pub bounded : old.recorded.bound ≡ eden_start old.seat.space
-  pub filled : IsFilled (start_of old) fixed words new.free homes fill
+  pub filled : CopiesFillRooms (start_of old) fixed words new.free homes fill
   pub done : AllAreDone fixed words homes
-  pub placed : IsPlaced (start_of old) fixed new.free homes all refused
+  pub placed : IsWellPlaced (start_of old) fixed new.free homes all refused
   pub kept : AreKept (start_of old) fixed words homes new.recorded.slots
   pub emptied : IsEmptied old.seat.space old.young.half fill (room_end old.seat.space (start_of old).half) words
       (heap_words new.seat)

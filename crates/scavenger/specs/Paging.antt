@@ -11,7 +11,7 @@ use Rattle.scav_copy.specs.declared.places.Home.{Home}
 use Rattle.scav_copy.specs.Places.{Fixed, IsInCopies, StoodAt}
 use Rattle.scav_copy.specs.Copies.{with_home}
 use Rattle.scavenger.specs.Starts.{Start, IsBegun, IsFreeRun, room_start}
-use Rattle.scavenger.specs.Filling.{IsFilled, IsInPromoted, PagesStand}
+use Rattle.scavenger.specs.Filling.{CopiesFillRooms, IsInPromoted, PagesStand}
 use Rattle.scavenger.specs.Following.{IsFreeAt, moved_words}
 
 -- each free run is a free cell, and ends before eden
@@ -24,7 +24,7 @@ pub record IsRunStanding (start : Start) (words : List ℕ) (run : Run) : Type 0
 abbrev pub FreeRunsStand : Type 0
 FreeRunsStand =
     (start : Start) (fixed : Fixed) (words : List ℕ) (rows : List (List Run)) (homes : List Home) (fill : ℕ) (run : Run)
-    → IsBegun start fixed → IsFilled start fixed words rows homes fill → IsFreeRun rows run
+    → IsBegun start fixed → CopiesFillRooms start fixed words rows homes fill → IsFreeRun rows run
     → IsRunStanding start words run
 
 -- a live slot may become any word
@@ -32,7 +32,7 @@ abbrev pub PagesStayForSlots : Type 0
 PagesStayForSlots =
     (start : Start) (fixed : Fixed) (words : List ℕ) (rows : List (List Run)) (homes : List Home)
     (fill slot place word : ℕ)
-    → IsBegun start fixed → IsFilled start fixed words rows homes fill → StoodAt fixed homes slot place
+    → IsBegun start fixed → CopiesFillRooms start fixed words rows homes fill → StoodAt fixed homes slot place
     → PagesStand start (slice_set words slot word) rows homes
 
 -- the cell is one that is to be copied, as it was, and has no home
@@ -45,7 +45,7 @@ pub record IsUnmoved (start : Start) (fixed : Fixed) (words : List ℕ) (homes :
 abbrev pub PagesStayForCopies : Type 0
 PagesStayForCopies =
     (start : Start) (fixed : Fixed) (words : List ℕ) (rows : List (List Run)) (homes : List Home) (fill : ℕ) (cell : Cell)
-    → IsBegun start fixed → IsFilled start fixed words rows homes fill → IsUnmoved start fixed words homes cell
+    → IsBegun start fixed → CopiesFillRooms start fixed words rows homes fill → IsUnmoved start fixed words homes cell
     → fill + cell.size ≤ room_start start.heap.space start.half + start.heap.space.sizes.young
     → PagesStand start (moved_words words cell fill) rows (with_home homes (record { from = cell.at; to = fill }))
 
@@ -59,7 +59,7 @@ abbrev pub PagesTakeCopies : Type 0
 PagesTakeCopies =
     (start : Start) (fixed : Fixed) (words : List ℕ) (rows left : List (List Run)) (homes : List Home) (fill : ℕ)
     (cell free : Cell) (run : Run)
-    → IsBegun start fixed → IsFilled start fixed words rows homes fill → IsUnmoved start fixed words homes cell
+    → IsBegun start fixed → CopiesFillRooms start fixed words rows homes fill → IsUnmoved start fixed words homes cell
     → TakesFront rows left cell.size run → IsFreeAt start.heap.space words free run.at
     → PagesStand start (promoted_words words cell free run.at) left
     (with_home homes (record { from = cell.at; to = run.at }))
@@ -70,7 +70,7 @@ abbrev pub WordsAreLeft : Type 0
 WordsAreLeft =
     (start : Start) (fixed : Fixed) (words : List ℕ) (rows left : List (List Run)) (homes : List Home) (fill : ℕ)
     (cell free : Cell) (run : Run) (at : ℕ)
-    → IsBegun start fixed → IsFilled start fixed words rows homes fill → IsUnmoved start fixed words homes cell
+    → IsBegun start fixed → CopiesFillRooms start fixed words rows homes fill → IsUnmoved start fixed words homes cell
     → TakesFront rows left cell.size run → IsFreeAt start.heap.space words free run.at
     → IsFreeWord start.rows at
     ↔ (IsFreeWord left at ⊎ IsInPromoted start fixed (with_home homes (record { from = cell.at; to = run.at })) at)
@@ -79,7 +79,7 @@ abbrev pub WordsStayLeft : Type 0
 WordsStayLeft =
     (start : Start) (fixed : Fixed) (words : List ℕ) (rows : List (List Run)) (homes : List Home) (fill : ℕ)
     (cell : Cell) (at : ℕ)
-    → IsBegun start fixed → IsFilled start fixed words rows homes fill → IsUnmoved start fixed words homes cell
+    → IsBegun start fixed → CopiesFillRooms start fixed words rows homes fill → IsUnmoved start fixed words homes cell
     → IsFreeWord start.rows at
     ↔ (IsFreeWord rows at ⊎ IsInPromoted start fixed (with_home homes (record { from = cell.at; to = fill })) at)
 
@@ -88,7 +88,7 @@ abbrev pub FreeIsLeftApart : Type 0
 FreeIsLeftApart =
     (start : Start) (fixed : Fixed) (words : List ℕ) (rows left : List (List Run)) (homes : List Home) (fill : ℕ)
     (cell : Cell) (run : Run) (at : ℕ)
-    → IsBegun start fixed → IsFilled start fixed words rows homes fill → IsUnmoved start fixed words homes cell
+    → IsBegun start fixed → CopiesFillRooms start fixed words rows homes fill → IsUnmoved start fixed words homes cell
     → TakesFront rows left cell.size run → IsFreeWord left at
     → IsInCopies fixed (with_home homes (record { from = cell.at; to = run.at })) at → ⊥
 
@@ -96,7 +96,7 @@ abbrev pub FreeStaysApart : Type 0
 FreeStaysApart =
     (start : Start) (fixed : Fixed) (words : List ℕ) (rows : List (List Run)) (homes : List Home) (fill : ℕ)
     (cell : Cell) (at : ℕ)
-    → IsBegun start fixed → IsFilled start fixed words rows homes fill → IsUnmoved start fixed words homes cell
+    → IsBegun start fixed → CopiesFillRooms start fixed words rows homes fill → IsUnmoved start fixed words homes cell
     → IsFreeWord rows at → IsInCopies fixed (with_home homes (record { from = cell.at; to = fill })) at → ⊥
 
 -- and runs stay rows of their pages

@@ -16,8 +16,7 @@ use Rattle.scav_copy.specs.Renamings.{Renaming}
 use Rattle.scav_copy.specs.Copies.{AreHoused}
 use Rattle.scavenger.specs.Starts.{Start, Begins, IsRootAt, start_of, room_start}
 use Rattle.scavenger.specs.Filling.{Tiles, IsInPromoted}
-use Rattle.scavenger.specs.Walking.{IsToPromote, words_in_vain, IsFirstInVain}
-use Rattle.scavenger.specs.declared.scavenging.Scavenged.{Scavenged}
+use Rattle.scavenger.specs.Walking.{IsToPromote}
 
 -- the home of the cell at an address, if it has one
 abbrev pub home_of : List Home → ℕ → Option ℕ
@@ -82,10 +81,3 @@ pub record Scavenges (old new : Mutator) (all : Bool) : Type 0 where
       ↔ (IsFreeWord new.free at ⊎ IsInPromoted (start_of old) fixed homes at)
   pub apart : AreFree new.free
   pub rows : length new.free ≡ length old.free
-
--- What is told of a scavenge: how many words the cells have that were to be promoted and stay young, and how many the
--- first of them has, by where they stand now, if there is one.
-pub record Tells (old new : Mutator) (all : Bool) (told : Scavenged) : Type 0 where
-  pub scavenges : Scavenges old new all
-  pub stayed : told.stayed ≡ words_in_vain old.seat.space all scavenges.fixed scavenges.homes
-  pub first_need : IsFirstInVain old.seat.space all scavenges.fixed scavenges.homes told.first_need

@@ -1,7 +1,6 @@
 -- How a scavenge goes on: what is known before and behind each of its steps.
-use Rattle.std.specs.Prelude.{◌≡◌, ℕ, ◌+◌, ◌-◌, ◌<◌, ◌≤◌, ◌↔◌, ◌⊎◌, Bool, true, false, List, length, Contains, sum_by}
-use Rattle.std.specs.Prelude.{Option, Some, None, slice_get, nat_lt, not, ◌&&◌, ◌||◌, if◌then◌else◌}
-use Rattle.std.specs.Option.{option_or}
+use Rattle.std.specs.Prelude.{◌≡◌, ℕ, ◌+◌, ◌-◌, ◌<◌, ◌≤◌, ◌↔◌, ◌⊎◌, Bool, true, List, length, Contains, sum_by}
+use Rattle.std.specs.Prelude.{Some, slice_get}
 use Rattle.tagged_word.specs.Cells.{scavenge_offsets}
 use Rattle.page_space.specs.Sizes.{page_words}
 use Rattle.page_space.specs.Extents.{Space, eden_start, segments_start, marks_start}
@@ -20,7 +19,7 @@ use Rattle.scav_copy.specs.Renamings.{RefersToAddress}
 use Rattle.scavenger.specs.declared.spaces.Spaces.{Spaces}
 use Rattle.scavenger.specs.declared.progress.Progress.{Progress}
 use Rattle.scavenger.specs.Starts.{Start, IsBegun, IsFreeRun, start_of, room_start}
-use Rattle.scavenger.specs.Filling.{IsFilled, Front, OthersAreDone, ChangesWords, IsSegmentStart}
+use Rattle.scavenger.specs.Filling.{CopiesFillRooms, Front, OthersAreDone, ChangesWords, IsSegmentStart}
 use Rattle.scavenger.specs.Following.{half_start, half_end, moved_words, IsFreeAt, IsFromSpace}
 
 -- the address behind the room that copies go to
@@ -45,7 +44,7 @@ IsToPromote space all at = (all ≡ true) ⊎ (segments_start space ≤ at)
 
 -- Where copies are, by a size that no free run has: only cells that are to be promoted are in pages, and such a cell is
 -- not in a page only where it has that many words or more.
-pub record IsPlaced (start : Start) (fixed : Fixed) (rows : List (List Run)) (homes : List Home) (all : Bool)
+pub record IsWellPlaced (start : Start) (fixed : Fixed) (rows : List (List Run)) (homes : List Home) (all : Bool)
     (refused : ℕ) : Type 0 where
   pub promoted : (home : Home) → Contains homes home → home.to < eden_start start.heap.space
       → IsToPromote start.heap.space all home.from
@@ -53,41 +52,9 @@ pub record IsPlaced (start : Start) (fixed : Fixed) (rows : List (List Run)) (ho
       → (home.to < eden_start start.heap.space) ⊎ (refused ≤ size_of fixed home.from)
   pub none_fits : (n : ℕ) → 1 ≤ n → refused ≤ n → n ≤ page_words → FitsNowhere rows n
 
--- whether the cell of a home was to be promoted, and stays young
-abbrev pub is_in_vain : Space → Bool → Home → Bool
-is_in_vain space all home =
-    (all || not (nat_lt home.from (segments_start space))) && not (nat_lt home.to (eden_start space))
-
--- how many words these cells have
-abbrev pub words_in_vain : Space → Bool → Fixed → List Home → ℕ
-words_in_vain space all fixed homes =
-    sum_by (λ home. if is_in_vain space all home then size_of fixed home.from else 0) homes
-
--- How many the first of them has, by where they stand; nothing where there is none.
-pub data IsFirstInVain (space : Space) (all : Bool) (fixed : Fixed) (homes : List Home) : Option ℕ → Type 0 where
-  none_stays : ((home : Home) → Contains homes home → is_in_vain space all home ≡ false)
-      → IsFirstInVain space all fixed homes None
-  first_is : (home : Home) → Contains homes home → is_in_vain space all home ≡ true
-      → ((other : Home) → Contains homes other → is_in_vain space all other ≡ true → home.to ≤ other.to)
-      → IsFirstInVain space all fixed homes (Some (size_of fixed home.from))
-
--- both were counted
-pub record AreCounted (space : Space) (all : Bool) (fixed : Fixed) (homes : List Home) (progress : Progress)
-    : Type 0 where
-  pub stayed : progress.stayed ≡ words_in_vain space all fixed homes
-  pub few : progress.stayed ≤ progress.copied
-  pub first : IsFirstInVain space all fixed homes progress.first_need
-
--- a copy goes to the segment; and one that was to be promoted does
+-- a copy goes to the segment
 abbrev pub stays_young : Progress → ℕ → Progress
 stays_young progress size = record progress { fill = progress.fill + size }
-
-abbrev pub stays_in_vain : Progress → ℕ → Progress
-stays_in_vain progress size = record progress {
-  fill = progress.fill + size;
-  stayed = progress.stayed + size;
-  first_need = option_or progress.first_need (Some size);
-}
 
 -- the address is that of a slot of a home copy in a page
 pub record IsPromotedSlot (start : Start) (fixed : Fixed) (homes : List Home) (at : ℕ) : Type 0 where
@@ -130,10 +97,9 @@ pub record Scavenging (start now : Mutator) (all : Bool) (progress : Progress) (
   pub bounded : start.recorded.bound ≡ eden_start start.seat.space
   pub quiet : now.seat.phase ≡ Quiet
   pub begun : IsBegun (start_of start) fixed
-  pub filled : IsFilled (start_of start) fixed (heap_words now.seat) now.free homes progress.fill
+  pub filled : CopiesFillRooms (start_of start) fixed (heap_words now.seat) now.free homes progress.fill
   pub copied : progress.copied ≡ sum_by (λ home. size_of fixed home.from) homes
-  pub placed : IsPlaced (start_of start) fixed now.free homes all progress.refused
-  pub counted : AreCounted start.seat.space all fixed homes progress
+  pub placed : IsWellPlaced (start_of start) fixed now.free homes all progress.refused
   pub kept : AreKept (start_of start) fixed (heap_words now.seat) homes now.recorded.slots
   pub listed : (at : ℕ) → Contains todo at → (home : Home) × Contains homes home × (home.to ≡ at)
   pub few : length todo ≤ progress.copied
@@ -154,7 +120,8 @@ pub record HasGrown (before after : Progress) (todo left : List ℕ) : Type 0 wh
   pub grows : length left + before.copied ≤ length todo + after.copied
 
 -- A scavenge went on: no home was lost.
-pub record GoesOn (start old new : Mutator) (all : Bool) (before after : Progress) (todo left : List ℕ) (front : Front)
+pub record HasCopiedMore (start old new : Mutator) (all : Bool) (before after : Progress) (todo left : List ℕ)
+    (front : Front)
     (state : Scavenging start old all before todo front) : Type 0 where
   pub next : Scavenging start new all after left front
   pub same : next.fixed ≡ state.fixed
@@ -164,7 +131,7 @@ pub record GoesOn (start old new : Mutator) (all : Bool) (before after : Progres
 -- And the slot is done: it refers to no cell that is to be copied.
 pub record HasFollowed (start old new : Mutator) (all : Bool) (before after : Progress) (todo left : List ℕ)
     (front : Front) (slot : ℕ) (state : Scavenging start old all before todo front) : Type 0 where
-  pub on : GoesOn start old new all before after todo left front state
+  pub on : HasCopiedMore start old new all before after todo left front state
   pub done : (place cell : ℕ) → StoodAt on.next.fixed on.next.homes slot place
       → RefersToAddress (heap_words new.seat) slot cell → Contains on.next.fixed.cells cell → ⊥
 
@@ -178,7 +145,7 @@ pub record MayMove (now : Mutator) (all : Bool) (progress : Progress) (todo : Li
 -- The cell at an address has its home at another then, and each slot that was live refers to what it did.
 pub record HasMoved (start old new : Mutator) (all : Bool) (before after : Progress) (todo left : List ℕ)
     (front : Front) (at to : ℕ) (state : Scavenging start old all before todo front) : Type 0 where
-  pub on : GoesOn start old new all before after todo left front state
+  pub on : HasCopiedMore start old new all before after todo left front state
   pub home : Home
   pub among : Contains on.next.homes home
   pub from : home.from ≡ at
@@ -201,9 +168,9 @@ pub data Places (old new : Mutator) (all : Bool) (at size : ℕ) (before : Progr
   stays : new ≡ old → (IsToPromote old.seat.space all at → ⊥)
       → Places old new all at size before (stays_young before size) before.fill
   passes : new ≡ old → IsToPromote old.seat.space all at → before.refused ≤ size
-      → Places old new all at size before (stays_in_vain before size) before.fill
+      → Places old new all at size before (stays_young before size) before.fill
   refuses : new ≡ old → IsToPromote old.seat.space all at → size < before.refused → FitsNowhere old.free size
-      → Places old new all at size before (stays_in_vain (record before { refused = size }) size) before.fill
+      → Places old new all at size before (stays_young (record before { refused = size }) size) before.fill
   promotes : (run : Run) (free : Cell) → IsToPromote old.seat.space all at → TakesFront old.free new.free size run
       → IsFreeAt old.seat.space (heap_words old.seat) free run.at → CutsFreeCell old new size run free
       → Places old new all at size before before run.at

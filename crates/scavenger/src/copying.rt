@@ -18,10 +18,11 @@ ghost use Rattle.scavenger.specs.Following.{IsFreeAt, IsFromSpace};
 ghost use Rattle.scavenger.specs.Walking.{AreSpaces, CopiesCell, MayMove, HasMoved, Places, Scavenging};
 ghost use Rattle.scavenger.specs.Walking.{StandFree, CutsFreeCell};
 
-use crate::known_cells::known_cell;
 use crate::progress::Progress;
 use crate::spaces::Spaces;
+use crate::worker::Worker;
 use cell_layout::Cell;
+use heap_walk::{known_cell, known_cell_by};
 use tagged_word::Word;
 use write_barrier::Main;
 
@@ -40,7 +41,7 @@ pub(crate) fn take_run(main: &mut Main, size: u32) -> Option<u32>
     // There is a word for each address before the marks.
     main.addresses_fit();
     let run = main.take_free(size)?;
-    let free = known_cell(main, run.at, main.word(run.at));
+    let free = known_cell(main, run.at);
     main.put_free_cell(run.at + size, free.size - size);
     Some(run.at)
 }
@@ -52,14 +53,11 @@ fn place_for(main: &mut Main, spaces: &Spaces, progress: &mut Progress, at: u32,
     requires few { size ≤ page_words }
     requires free { StandFree main.old }
     requires within { progress.old.fill + size < 2 ^ 32 }
-    requires few_stayed { progress.old.stayed + size < 2 ^ 32 }
     ensures { (all : Bool) → AreSpaces main.old.seat.space main.old.young.half all spaces.now →
         Places main.old main.new all at size progress.old progress.new result }
 {
     if !spaces.are_promoted(at) {
-        let to = progress.fill;
-        progress.fill += size;
-        return to;
+        return progress.stays_young(size);
     }
     if size < progress.refused {
         if let Some(to) = take_run(main, size) {
@@ -67,7 +65,7 @@ fn place_for(main: &mut Main, spaces: &Spaces, progress: &mut Progress, at: u32,
         }
         progress.refused = size;
     }
-    progress.stays_in_vain(size)
+    progress.stays_young(size)
 }
 
 /// Copies the words of a cell to an address, and makes its header the reference to the copy.
@@ -86,66 +84,53 @@ fn copy_cell(main: &mut Main, cell: &Cell, to: u32)
 
 /// Copies the cell at an address, whose word has been read and is no reference. The copy is put on the
 /// list. It answers where the copy is.
-fn move_cell(
-    main: &mut Main,
-    spaces: &Spaces,
-    progress: &mut Progress,
-    list: &mut Vec<u32>,
-    at: u32,
-    word: u64,
-) -> u32
+fn move_cell(main: &mut Main, spaces: &Spaces, worker: &mut Worker, at: u32, word: u64) -> u32
     requires quiet { main.old.seat.phase ≡ Quiet }
     requires spaces { (all : Bool) × AreSpaces main.old.seat.space main.old.young.half all spaces.now
-        × MayMove main.old all progress.old list.old.items at }
-    requires room { main.old.seat.space.sizes.young ≤ vec_capacity list.old }
+        × MayMove main.old all worker.old.progress worker.old.list.items at }
+    requires room { main.old.seat.space.sizes.young ≤ vec_capacity worker.old.list }
     requires read { slice_get (heap_words main.old.seat) at ≡ Some word }
     requires unmoved { reference_in word ≡ None }
     ensures moved { (start : Mutator) (all : Bool) (front : Front)
-        (state : Scavenging start main.old all progress.old list.old.items front) (slot place : ℕ) →
+        (state : Scavenging start main.old all worker.old.progress worker.old.list.items front) (slot place : ℕ) →
         AreSpaces main.old.seat.space main.old.young.half all spaces.now →
         StoodAt state.fixed state.homes slot place → RefersToAddress (heap_words main.old.seat) slot at →
         IsFromSpace main.old.seat.space main.old.young.half at →
-        HasMoved start main.old main.new all progress.old progress.new list.old.items list.new.items front at result
-        state }
-    ensures capacity { vec_capacity list.new ≡ vec_capacity list.old }
+        HasMoved start main.old main.new all worker.old.progress worker.new.progress worker.old.list.items
+        worker.new.list.items front at result state }
+    ensures capacity { vec_capacity worker.new.list ≡ vec_capacity worker.old.list }
 {
     // No address is past 32 bits.
     main.addresses_fit();
-    let cell = known_cell(main, at, word);
-    let to = place_for(main, spaces, progress, at, cell.size);
+    let cell = known_cell_by(main, at, word);
+    let to = place_for(main, spaces, &mut worker.progress, at, cell.size);
     copy_cell(main, &cell, to);
-    progress.copied += cell.size;
-    list.push_reserved(to);
+    worker.progress.copied += cell.size;
+    worker.list.push_reserved(to);
     to
 }
 
 /// Where the cell at an address that is left has its home. It is copied if it has none.
 #[inline(never)]
-pub(crate) fn home_of(
-    main: &mut Main,
-    spaces: &Spaces,
-    progress: &mut Progress,
-    list: &mut Vec<u32>,
-    at: u32,
-) -> u32
+pub(crate) fn home_of(main: &mut Main, spaces: &Spaces, worker: &mut Worker, at: u32) -> u32
     requires quiet { main.old.seat.phase ≡ Quiet }
     requires spaces { (all : Bool) × AreSpaces main.old.seat.space main.old.young.half all spaces.now
-        × MayMove main.old all progress.old list.old.items at }
-    requires room { main.old.seat.space.sizes.young ≤ vec_capacity list.old }
+        × MayMove main.old all worker.old.progress worker.old.list.items at }
+    requires room { main.old.seat.space.sizes.young ≤ vec_capacity worker.old.list }
     ensures moved { (start : Mutator) (all : Bool) (front : Front)
-        (state : Scavenging start main.old all progress.old list.old.items front) (slot place : ℕ) →
+        (state : Scavenging start main.old all worker.old.progress worker.old.list.items front) (slot place : ℕ) →
         AreSpaces main.old.seat.space main.old.young.half all spaces.now →
         StoodAt state.fixed state.homes slot place → RefersToAddress (heap_words main.old.seat) slot at →
         IsFromSpace main.old.seat.space main.old.young.half at →
-        HasMoved start main.old main.new all progress.old progress.new list.old.items list.new.items front at result
-        state }
-    ensures capacity { vec_capacity list.new ≡ vec_capacity list.old }
+        HasMoved start main.old main.new all worker.old.progress worker.new.progress worker.old.list.items
+        worker.new.list.items front at result state }
+    ensures capacity { vec_capacity worker.new.list ≡ vec_capacity worker.old.list }
 {
     // There is a word for each address before the marks.
     main.addresses_fit();
     let word = main.word(at);
     match Word(word).address() {
         Some(home) => home,
-        None => move_cell(main, spaces, progress, list, at, word),
+        None => move_cell(main, spaces, worker, at, word),
     }
 }

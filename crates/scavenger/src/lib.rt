@@ -14,14 +14,14 @@
 mod copying;
 mod emptying;
 mod granting;
-mod known_cells;
 mod laws;
 mod progress;
 mod scanning;
 mod scavenging;
 mod slots;
 mod spaces;
+mod worker;
 
 pub use granting::grant_run;
 pub use laws::{laws_of_ends, laws_of_following, laws_of_grants, laws_of_scavenges, laws_of_slots};
-pub use scavenging::{Scavenged, scavenge};
+pub use scavenging::scavenge;

@@ -4,38 +4,28 @@ ghost use Rattle.std.specs.Vec.{vec_capacity};
 ghost use Rattle.object_graph.specs.Graphs.{Graph};
 ghost use Rattle.write_barrier.specs.MutatorState.{MainShows};
 ghost use Rattle.scavenger.specs.Laws.{KeepsGraphs};
-ghost use Rattle.scavenger.specs.Scavenged.{Scavenges, Tells};
+ghost use Rattle.scavenger.specs.Scavenged.{Scavenges};
 
 use crate::emptying::empty_left;
 use crate::progress::Progress;
 use crate::scanning::{scavenge_copies, scavenge_recorded, scavenge_roots};
 use crate::spaces::Spaces;
+use crate::worker::Worker;
 use page_space::PAGE_WORDS;
 use write_barrier::Main;
 
-/// What a scavenge was to promote and found no free run for.
-#[derive(Clone, Copy)]
-pub struct Scavenged {
-    /// How many words these cells have, which stay young.
-    pub stayed: u32,
-    /// How many the first of them has, by where they stand now.
-    pub first_need: Option<u32>,
-}
-
 /// Copies what lives of eden and of the half that the survivors are in: a survivor, or any cell where
 /// all are to be promoted, to a page, if a free run has its words, and else to the other half. What is to
-/// do is kept on a list, which has a place for each word of the young generation. It answers what it was
-/// to promote and stays young.
+/// do is kept on a list, which has a place for each word of the young generation, and is given back.
 ///
 /// Generations by the number of survivals are Ungar's of 1984; that an object goes to the old space at
 /// its second survival is V8's rule.
-pub fn scavenge(main: &mut Main, list: &mut Vec<u32>, promote_all: bool) -> Scavenged
+pub fn scavenge(main: &mut Main, mut list: Vec<u32>, promote_all: bool) -> Vec<u32>
     requires shown { (graph : Graph) × MainShows main.old graph }
-    requires room { main.old.seat.space.sizes.young ≤ vec_capacity list.old }
+    requires room { main.old.seat.space.sizes.young ≤ vec_capacity list }
     ensures scavenged { Scavenges main.old main.new promote_all }
     ensures keeps { KeepsGraphs main.old main.new }
-    ensures told { Tells main.old main.new promote_all result }
-    ensures capacity { vec_capacity list.new ≡ vec_capacity list.old }
+    ensures capacity { vec_capacity result ≡ vec_capacity list }
 {
     list.clear();
     // There are two halves.
@@ -44,21 +34,20 @@ pub fn scavenge(main: &mut Main, list: &mut Vec<u32>, promote_all: bool) -> Scav
     let _longest = main.longest_free();
     let half = main.nursery_mut().half();
     let spaces = Spaces::new(&main.regions(), half, promote_all);
-    let mut progress = Progress {
-        fill: spaces.room,
-        copied: 0,
-        refused: PAGE_WORDS + 1,
-        stayed: 0,
-        first_need: None,
+    let mut worker = Worker {
+        progress: Progress {
+            fill: spaces.room,
+            copied: 0,
+            refused: PAGE_WORDS + 1,
+        },
+        list,
     };
-    scavenge_roots(main, &spaces, &mut progress, list);
-    scavenge_recorded(main, &spaces, &mut progress, list);
-    scavenge_copies(main, &spaces, &mut progress, list);
+    scavenge_roots(main, &spaces, &mut worker);
+    scavenge_recorded(main, &spaces, &mut worker);
+    scavenge_copies(main, &spaces, &mut worker);
+    let Worker { progress, list } = worker;
     let _left = main.longest_free();
     empty_left(main, half, progress.fill, spaces.room_end);
     main.nursery_mut().turn(progress.fill - spaces.room);
-    Scavenged {
-        stayed: progress.stayed,
-        first_need: progress.first_need,
-    }
+    list
 }

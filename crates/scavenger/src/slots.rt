@@ -8,8 +8,8 @@ ghost use Rattle.scavenger.specs.Filling.{Front};
 ghost use Rattle.scavenger.specs.Walking.{AreSpaces, HasFollowed, MayFollow, Scavenging};
 
 use crate::copying::home_of;
-use crate::progress::Progress;
 use crate::spaces::Spaces;
+use crate::worker::Worker;
 use tagged_word::Word;
 use write_barrier::Main;
 
@@ -17,24 +17,18 @@ use write_barrier::Main;
 /// there, which is copied if it has none. A slot of a page is recorded then exactly where that home is
 /// young. Most words of slots refer to none that is left, so only those that do are worth a call.
 #[inline(always)]
-pub(crate) fn follow(
-    main: &mut Main,
-    spaces: &Spaces,
-    progress: &mut Progress,
-    list: &mut Vec<u32>,
-    slot: u32,
-)
+pub(crate) fn follow(main: &mut Main, spaces: &Spaces, worker: &mut Worker, slot: u32)
     requires quiet { main.old.seat.phase ≡ Quiet }
     requires spaces { (all : Bool) × AreSpaces main.old.seat.space main.old.young.half all spaces.now
-        × MayFollow main.old all progress.old list.old.items slot }
-    requires room { main.old.seat.space.sizes.young ≤ vec_capacity list.old }
+        × MayFollow main.old all worker.old.progress worker.old.list.items slot }
+    requires room { main.old.seat.space.sizes.young ≤ vec_capacity worker.old.list }
     ensures followed { (start : Mutator) (all : Bool) (front : Front)
-        (state : Scavenging start main.old all progress.old list.old.items front) (place : ℕ) →
+        (state : Scavenging start main.old all worker.old.progress worker.old.list.items front) (place : ℕ) →
         AreSpaces main.old.seat.space main.old.young.half all spaces.now →
         StoodAt state.fixed state.homes slot place →
-        HasFollowed start main.old main.new all progress.old progress.new list.old.items list.new.items front slot
-        state }
-    ensures capacity { vec_capacity list.new ≡ vec_capacity list.old }
+        HasFollowed start main.old main.new all worker.old.progress worker.new.progress worker.old.list.items
+        worker.new.list.items front slot state }
+    ensures capacity { vec_capacity worker.new.list ≡ vec_capacity worker.old.list }
 {
     // No address is past 32 bits.
     main.addresses_fit();
@@ -44,6 +38,6 @@ pub(crate) fn follow(
     if !spaces.are_left(at) {
         return;
     }
-    let home = home_of(main, spaces, progress, list, at);
+    let home = home_of(main, spaces, worker, at);
     main.store(slot, 0, Word::reference(home));
 }

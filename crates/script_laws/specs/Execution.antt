@@ -8,7 +8,7 @@ use Rattle.script_text.specs.Scripts.{ScriptText}
 use Rattle.script_text.specs.Grammar.{reading}
 use Rattle.script_text.specs.Sound.{depth_of, IsMatched}
 use Rattle.script_text.specs.Unrolled.{executed, turns, executed_lines}
-use Rattle.script_text.specs.Whole.{run_line, repeat_line, end_line, AreBlocks, IsPlaced}
+use Rattle.script_text.specs.Whole.{run_line, repeat_line, end_line, AreBlocks, IsPaired}
 use Rattle.script_text.specs.Left.{IsLeft, Goes}
 
 -- the lines of a script that was read are whole
@@ -31,7 +31,7 @@ UnrollsBlocks =
 
 -- all lines are left at the beginning
 abbrev pub AllIsLeft : Type 0
-AllIsLeft = (lines : List Line) → IsPlaced 0 lines → IsLeft lines 0 [] (executed_lines lines)
+AllIsLeft = (lines : List Line) → IsPaired 0 lines → IsLeft lines 0 [] (executed_lines lines)
 
 -- past the last line nothing is left, and no block is open
 abbrev pub NothingIsLeft : Type 0

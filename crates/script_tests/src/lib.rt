@@ -12,6 +12,8 @@ mod std_reader;
 #[cfg(test)]
 mod std_writer;
 #[cfg(test)]
+mod tasks;
+#[cfg(test)]
 mod traces;
 #[cfg(test)]
 mod words;

@@ -5,7 +5,7 @@ use Rattle.std.proofs.lemmas.List.{drop-drop}
 use Rattle.std.proofs.Math.Seq.{take-add, take-append_seam, drop-append_seam}
 use Rattle.script_text.specs.declared.script.Line.{Line}
 use Rattle.script_text.specs.Sound.{depth_after, depth_of}
-use Rattle.script_text.specs.Whole.{end_line, IsPlaced}
+use Rattle.script_text.specs.Whole.{end_line, IsPaired}
 
 -- the lines from a place on begin with the line there
 pub drop-get : (lines : List Line) (at : ℕ) (line : Line) → slice_get lines at ≡ Some line
@@ -33,10 +33,10 @@ depth_of-append depth [] ys = refl
 depth_of-append depth (line ∷ xs) ys = depth_of-append (depth_after depth line.what) xs ys
 
 -- lines at their places leave as many blocks open
-pub depth_of-placed : (at depth : ℕ) (lines : List Line) → IsPlaced at lines → depth_of depth lines ≡ depth
-depth_of-placed _ depth _ (IsPlaced.none at) = refl
-depth_of-placed _ depth _ (IsPlaced.run at number command lines h) = depth_of-placed (suc at) depth lines h
-depth_of-placed _ depth _ (IsPlaced.block at number times end_at last body rest place h k) =
+pub depth_of-placed : (at depth : ℕ) (lines : List Line) → IsPaired at lines → depth_of depth lines ≡ depth
+depth_of-placed _ depth _ (IsPaired.none at) = refl
+depth_of-placed _ depth _ (IsPaired.run at number command lines h) = depth_of-placed (suc at) depth lines h
+depth_of-placed _ depth _ (IsPaired.block at number times end_at last body rest place h k) =
     let less : suc depth - 1 ≡ depth = omega arith in
     depth_of-append (suc depth) body (end_line last at ∷ rest)
     ∙ ap (λ n. depth_of n (end_line last at ∷ rest)) (depth_of-placed (suc at) (suc depth) body h)

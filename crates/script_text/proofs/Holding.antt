@@ -9,7 +9,7 @@ use Rattle.script_text.specs.declared.script.Line.{Line}
 use Rattle.script_text.specs.declared.script.What.TheVariants.{Run, Repeat, End}
 use Rattle.script_text.specs.Sound.{depth_of}
 use Rattle.script_text.specs.Unrolled.{executed, turns, executed_lines}
-use Rattle.script_text.specs.Whole.{run_line, repeat_line, end_line, IsPlaced}
+use Rattle.script_text.specs.Whole.{run_line, repeat_line, end_line, IsPaired}
 use Rattle.script_text.specs.Left.{IsLeft}
 
 -- no line follows, or the first is an `end`
@@ -26,10 +26,10 @@ pub record ExecutesFrom (lines : List Line) (at : ℕ) (ts : List ℕ) (left : L
   pub stops : Stops more
   pub cut : drop at lines ≡ rest ++ more
   pub deep : depth_of 0 (take at lines) ≡ length ts
-  pub placed : IsPlaced at rest
+  pub placed : IsPaired at rest
   pub is : left ≡ executed_lines rest ++ tail
   pub again : (from : ℕ) (some : List Line) → drop from lines ≡ some ++ more → depth_of 0 (take from lines) ≡ length ts
-      → IsPlaced from some
+      → IsPaired from some
       → from + length some ≡ at + length rest → IsLeft lines from ts (executed_lines some ++ tail)
 
 -- each of the two ways in which something is left
@@ -85,13 +85,13 @@ same_what first other rest others e =
     ap (λ (l : Line). l.what) same
 
 -- the lines at their places that follow a command
-pub placed-run : (at : ℕ) (lines : List Line) (number : ℕ) (command : Command) (rest : List Line) → IsPlaced at lines
-    → lines ≡ run_line number command ∷ rest → IsPlaced (suc at) rest
-placed-run _ _ number command rest (IsPlaced.none at) e = cc
-placed-run _ _ number command rest (IsPlaced.run at n c lines h) e =
+pub placed-run : (at : ℕ) (lines : List Line) (number : ℕ) (command : Command) (rest : List Line) → IsPaired at lines
+    → lines ≡ run_line number command ∷ rest → IsPaired (suc at) rest
+placed-run _ _ number command rest (IsPaired.none at) e = cc
+placed-run _ _ number command rest (IsPaired.run at n c lines h) e =
     let same : lines ≡ rest = cc in
-    subst (IsPlaced (suc at)) same h
-placed-run _ _ number command rest (IsPlaced.block at n times end_at last body after place h k) e =
+    subst (IsPaired (suc at)) same h
+placed-run _ _ number command rest (IsPaired.block at n times end_at last body after place h k) e =
     let does : Repeat times end_at ≡ Run command = same_what _ _ _ _ e in
     cc
 
@@ -101,18 +101,18 @@ pub record Opens (at end_at : ℕ) (lines : List Line) : Type 0 where
   pub last : ℕ
   pub after : List Line
   pub place : end_at ≡ suc (at + length body)
-  pub placed : IsPlaced (suc at) body
-  pub behind : IsPlaced (suc end_at) after
+  pub placed : IsPaired (suc at) body
+  pub behind : IsPaired (suc end_at) after
   pub cut : lines ≡ body ++ (end_line last at ∷ after)
 
 -- the block that a `repeat` opens
-pub placed-repeat : (at : ℕ) (lines : List Line) (number times end_at : ℕ) (rest : List Line) → IsPlaced at lines
+pub placed-repeat : (at : ℕ) (lines : List Line) (number times end_at : ℕ) (rest : List Line) → IsPaired at lines
     → lines ≡ repeat_line number times end_at ∷ rest → Opens at end_at rest
-placed-repeat _ _ number times end_at rest (IsPlaced.none at) e = cc
-placed-repeat _ _ number times end_at rest (IsPlaced.run at n c lines h) e =
+placed-repeat _ _ number times end_at rest (IsPaired.none at) e = cc
+placed-repeat _ _ number times end_at rest (IsPaired.run at n c lines h) e =
     let does : Run c ≡ Repeat times end_at = same_what _ _ _ _ e in
     cc
-placed-repeat _ _ number times end_at rest (IsPlaced.block at n t end last body after place h k) e =
+placed-repeat _ _ number times end_at rest (IsPaired.block at n t end last body after place h k) e =
     let does : Repeat t end ≡ Repeat times end_at = same_what _ _ _ _ e in
     let same : end ≡ end_at = cc in
     let cut : body ++ (end_line last at ∷ after) ≡ rest = cc in
@@ -122,18 +122,18 @@ placed-repeat _ _ number times end_at rest (IsPlaced.block at n t end last body 
       after = after;
       place = sym same ∙ place;
       placed = h;
-      behind = subst (λ n. IsPlaced (suc n) after) same k;
+      behind = subst (λ n. IsPaired (suc n) after) same k;
       cut = sym cut;
     }
 
 -- no `end` is the first of lines at their places
-pub placed-end : (at : ℕ) (lines : List Line) (number repeat_at : ℕ) (rest : List Line) → IsPlaced at lines
+pub placed-end : (at : ℕ) (lines : List Line) (number repeat_at : ℕ) (rest : List Line) → IsPaired at lines
     → lines ≡ end_line number repeat_at ∷ rest → ⊥
-placed-end _ _ number repeat_at rest (IsPlaced.none at) e = cc
-placed-end _ _ number repeat_at rest (IsPlaced.run at n c lines h) e =
+placed-end _ _ number repeat_at rest (IsPaired.none at) e = cc
+placed-end _ _ number repeat_at rest (IsPaired.run at n c lines h) e =
     let does : Run c ≡ End repeat_at = same_what _ _ _ _ e in
     cc
-placed-end _ _ number repeat_at rest (IsPlaced.block at n t end last body after place h k) e =
+placed-end _ _ number repeat_at rest (IsPaired.block at n t end last body after place h k) e =
     let does : Repeat t end ≡ End repeat_at = same_what _ _ _ _ e in
     cc
 

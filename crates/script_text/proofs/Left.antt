@@ -6,7 +6,7 @@ use Rattle.heap_command.specs.Executed.{Executed}
 use Rattle.script_text.specs.declared.script.Line.{Line}
 use Rattle.script_text.specs.Sound.{depth_of, IsMatched}
 use Rattle.script_text.specs.Unrolled.{executed, turns, executed_lines}
-use Rattle.script_text.specs.Whole.{run_line, repeat_line, end_line, IsPlaced}
+use Rattle.script_text.specs.Whole.{run_line, repeat_line, end_line, IsPaired}
 use Rattle.script_text.specs.Left.{IsLeft, Goes}
 use Rattle.script_text.proofs.Depths.{drop-get, drop-end, depth_of-placed, depth-past, depth-next}
 use Rattle.script_text.proofs.Placed.{AreBlocks-placed}
@@ -15,7 +15,7 @@ use Rattle.script_text.proofs.Holding.{holds, first_of, placed-run, placed-end, 
 use Rattle.script_text.proofs.Turning.{turn_first, block_begins, block_ends}
 
 -- all lines are left at the beginning
-pub begins : (lines : List Line) → IsPlaced 0 lines → IsLeft lines 0 [] (executed_lines lines)
+pub begins : (lines : List Line) → IsPaired 0 lines → IsLeft lines 0 [] (executed_lines lines)
 begins lines placed = IsLeft.outside 0 lines refl refl placed
 
 -- past the last line nothing is left

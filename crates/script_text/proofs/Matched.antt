@@ -5,7 +5,7 @@ use Rattle.script_text.specs.declared.script.Line.{Line}
 use Rattle.script_text.specs.declared.script.What.TheVariants.{Repeat, End}
 use Rattle.script_text.specs.Limits.{open_most}
 use Rattle.script_text.specs.Sound.{what_at, depth_of, IsMatched}
-use Rattle.script_text.specs.Whole.{run_line, repeat_line, end_line, IsPlaced}
+use Rattle.script_text.specs.Whole.{run_line, repeat_line, end_line, IsPaired}
 use Rattle.script_text.proofs.Depths.{depth_of-placed}
 use Rattle.script_text.proofs.Positions.{what_at-behind, what_at-within, IsNamed, IsNamed-behind, Stands, at_first}
 use Rattle.script_text.proofs.Positions.{in_body, at_end, behind, stands, IsNamed-body, IsNamed-rest}
@@ -50,16 +50,16 @@ ended-block at number turns end last body rest place inner later _ times end_at 
     (subst (λ n. IsNamed Below End (suc n) k end_at rest) place (later k times end_at e))
 
 -- each `repeat` of lines at their places names its `end`
-ended : (at : ℕ) (lines : List Line) → IsPlaced at lines → AreEnded at lines
-ended _ _ (IsPlaced.none at) k times end_at e = cc
-ended _ _ (IsPlaced.run at number command lines h) zero times end_at e = cc
-ended _ _ (IsPlaced.run at number command lines h) (suc k) times end_at e =
+ended : (at : ℕ) (lines : List Line) → IsPaired at lines → AreEnded at lines
+ended _ _ (IsPaired.none at) k times end_at e = cc
+ended _ _ (IsPaired.run at number command lines h) zero times end_at e = cc
+ended _ _ (IsPaired.run at number command lines h) (suc k) times end_at e =
     let next : 1 + k ≡ suc k = omega arith in
     subst (λ n. IsNamed Below End at n end_at (run_line number command ∷ lines)) next
     (IsNamed-behind Below End (λ n k further lt. omega arith) (run_line number command ∷ []) lines at
     (suc at) k end_at (omega arith)
     (ended (suc at) lines h k times end_at e))
-ended _ _ (IsPlaced.block at number turns end last body rest place h l) k times end_at e =
+ended _ _ (IsPaired.block at number turns end last body rest place h l) k times end_at e =
     ended-block at number turns end last body rest place (ended (suc at) body h) (ended (suc end) rest l) k times end_at
     (stands (repeat_line number turns end) (end_line last at) body rest (Repeat times end_at) k e)
 
@@ -112,10 +112,10 @@ begun-block at number turns end last body rest place inner later _ repeat_at (be
     }
 
 -- each `end` of lines at their places names its `repeat`
-begun : (at : ℕ) (lines : List Line) → IsPlaced at lines → AreBegun at lines
-begun _ _ (IsPlaced.none at) k repeat_at e = cc
-begun _ _ (IsPlaced.run at number command lines h) zero repeat_at e = cc
-begun _ _ (IsPlaced.run at number command lines h) (suc k) repeat_at e =
+begun : (at : ℕ) (lines : List Line) → IsPaired at lines → AreBegun at lines
+begun _ _ (IsPaired.none at) k repeat_at e = cc
+begun _ _ (IsPaired.run at number command lines h) zero repeat_at e = cc
+begun _ _ (IsPaired.run at number command lines h) (suc k) repeat_at e =
     let next : 1 + k ≡ suc k = omega arith in
     let there = begun (suc at) lines h k repeat_at e in
     subst (λ n. IsBegun at n repeat_at (run_line number command ∷ lines)) next (record {
@@ -125,7 +125,7 @@ begun _ _ (IsPlaced.run at number command lines h) (suc k) repeat_at e =
           (run_line number command ∷ []) lines at (suc at) k repeat_at (omega arith)
           there.named;
     })
-begun _ _ (IsPlaced.block at number turns end last body rest place h l) k repeat_at e =
+begun _ _ (IsPaired.block at number turns end last body rest place h l) k repeat_at e =
     begun-block at number turns end last body rest place (begun (suc at) body h) (begun (suc end) rest l) k repeat_at
     (stands (repeat_line number turns end) (end_line last at) body rest (End repeat_at) k e)
 
@@ -138,7 +138,7 @@ AreInside at lines =
 
 -- so it is of a block and the lines behind it
 inside-block : (at number turns end last : ℕ) (body rest : List Line) → end ≡ suc (at + length body)
-    → IsPlaced (suc at) body
+    → IsPaired (suc at) body
     → AreInside (suc at) body → AreInside (suc end) rest → (k times end_at inner inner_times inner_end : ℕ)
     → Stands (repeat_line number turns end) (end_line last at) body rest (Repeat times end_at) k
     → Stands (repeat_line number turns end) (end_line last at) body rest (Repeat inner_times inner_end) inner
@@ -185,15 +185,15 @@ inside-block at number turns end last body rest place h one two _ times end_at _
     absurd (omega (arith, within))
 
 -- a `repeat` that begins inside another one ends inside it
-inside : (at : ℕ) (lines : List Line) → IsPlaced at lines → AreInside at lines
-inside _ _ (IsPlaced.none at) k times end_at inner inner_times inner_end e f lt below = cc
-inside _ _ (IsPlaced.run at number command lines h) zero times end_at inner inner_times inner_end e f lt below = cc
-inside _ _ (IsPlaced.run at number command lines h) (suc k) times end_at zero inner_times inner_end e f lt below =
+inside : (at : ℕ) (lines : List Line) → IsPaired at lines → AreInside at lines
+inside _ _ (IsPaired.none at) k times end_at inner inner_times inner_end e f lt below = cc
+inside _ _ (IsPaired.run at number command lines h) zero times end_at inner inner_times inner_end e f lt below = cc
+inside _ _ (IsPaired.run at number command lines h) (suc k) times end_at zero inner_times inner_end e f lt below =
     absurd (omega arith)
-inside _ _ (IsPlaced.run at number command lines h) (suc k) times end_at (suc inner) inner_times
+inside _ _ (IsPaired.run at number command lines h) (suc k) times end_at (suc inner) inner_times
     inner_end e f lt below =
     inside (suc at) lines h k times end_at inner inner_times inner_end e f (omega arith) (omega arith)
-inside _ _ (IsPlaced.block at number turns end last body rest place h l) k times end_at inner inner_times
+inside _ _ (IsPaired.block at number turns end last body rest place h l) k times end_at inner inner_times
     inner_end e f lt below =
     let first = repeat_line number turns end in
     let close = end_line last at in
@@ -203,7 +203,7 @@ inside _ _ (IsPlaced.block at number turns end last body rest place h l) k times
     (stands first close body rest (Repeat inner_times inner_end) inner f) lt below
 
 -- the blocks of lines at their places are matched, where at most so many are open
-pub IsMatched-placed : (lines : List Line) → IsPlaced 0 lines → ((at : ℕ) → depth_of 0 (take at lines) ≤ open_most)
+pub IsMatched-placed : (lines : List Line) → IsPaired 0 lines → ((at : ℕ) → depth_of 0 (take at lines) ≤ open_most)
     → IsMatched lines
 IsMatched-placed lines h few = record {
   repeats = λ at times end_at e. repeats at end_at (ended 0 lines h at times end_at e);

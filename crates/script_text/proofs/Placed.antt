@@ -8,17 +8,17 @@ use Rattle.script_text.specs.declared.script.Line.{Line}
 use Rattle.script_text.specs.Statements.{RawOperand}
 use Rattle.script_text.specs.Scripts.{NumberedStatement, end_after}
 use Rattle.script_text.specs.Grammar.{lines_from, open_after}
-use Rattle.script_text.specs.Whole.{run_line, repeat_line, end_line, AreBlocks, IsPlaced}
+use Rattle.script_text.specs.Whole.{run_line, repeat_line, end_line, AreBlocks, IsPaired}
 use Rattle.script_text.proofs.Ending.{speaks, end_after-end}
 use Rattle.script_text.proofs.Speaking.{AreStated, MayStand}
 use Rattle.script_text.proofs.Nested.{later}
 
 -- lines at their places are whole
-pub AreBlocks-placed : (at : ℕ) (lines : List Line) → IsPlaced at lines → AreBlocks lines
-AreBlocks-placed _ _ (IsPlaced.none at) = AreBlocks.none
-AreBlocks-placed _ _ (IsPlaced.run at number command lines h) =
+pub AreBlocks-placed : (at : ℕ) (lines : List Line) → IsPaired at lines → AreBlocks lines
+AreBlocks-placed _ _ (IsPaired.none at) = AreBlocks.none
+AreBlocks-placed _ _ (IsPaired.run at number command lines h) =
     AreBlocks.run number command lines (AreBlocks-placed (suc at) lines h)
-AreBlocks-placed _ _ (IsPlaced.block at number times end_at last body rest place h k) =
+AreBlocks-placed _ _ (IsPaired.block at number times end_at last body rest place h k) =
     AreBlocks.block number times end_at last at body rest (AreBlocks-placed (suc at) body h)
     (AreBlocks-placed (suc end_at) rest k)
 
@@ -29,13 +29,13 @@ record ClosesThen (innermost end at : ℕ) (Rest : ℕ → List Line → Type 0)
   last : ℕ
   rest : List Line
   place : end ≡ at + length body
-  placed : IsPlaced at body
+  placed : IsPaired at body
   after : Rest (suc (at + length body)) rest
   cut : body ++ (end_line last innermost ∷ rest) ≡ lines
 
 -- lines from this place on that end the open `repeat`s, the innermost first, each at its place
 abbrev Closes : List ℕ → (ℕ → ℕ) → ℕ → List Line → Type 0
-Closes [] ends at lines = IsPlaced at lines
+Closes [] ends at lines = IsPaired at lines
 Closes (innermost ∷ outer) ends at lines =
     ClosesThen innermost (ends 0) at (Closes outer (λ inside. ends (suc inside))) lines
 
@@ -63,7 +63,7 @@ Closes-at open' ends at place lines e h = subst (λ n. Closes open' ends n lines
 -- a line more that runs a command
 Closes-run : (open' : List ℕ) (ends : ℕ → ℕ) (at number : ℕ) (command : Command) (lines : List Line)
     → Closes open' ends (suc at) lines → Closes open' ends at (run_line number command ∷ lines)
-Closes-run [] ends at number command lines h = IsPlaced.run at number command lines h
+Closes-run [] ends at number command lines h = IsPaired.run at number command lines h
 Closes-run (innermost ∷ outer) ends at number command lines h =
     let here : suc at + length h.body ≡ at + suc (length h.body) = omega arith in
     record {
@@ -71,17 +71,17 @@ Closes-run (innermost ∷ outer) ends at number command lines h =
       last = h.last;
       rest = h.rest;
       place = h.place ∙ here;
-      placed = IsPlaced.run at number command h.body h.placed;
+      placed = IsPaired.run at number command h.body h.placed;
       after = Closes-at outer (λ inside. ends (suc inside)) _ _ h.rest (ap suc here) h.after;
       cut = ap (λ all. run_line number command ∷ all) h.cut;
     }
 
 -- a block more, where its `end` stands here
 Closes-block : (open' : List ℕ) (ends : ℕ → ℕ) (at number times end_at last : ℕ) (body rest : List Line)
-    → end_at ≡ suc (at + length body) → IsPlaced (suc at) body → Closes open' ends (suc end_at) rest
+    → end_at ≡ suc (at + length body) → IsPaired (suc at) body → Closes open' ends (suc end_at) rest
     → Closes open' ends at (repeat_line number times end_at ∷ (body ++ (end_line last at ∷ rest)))
 Closes-block [] ends at number times end_at last body rest place placed h =
-    IsPlaced.block at number times end_at last body rest place placed h
+    IsPaired.block at number times end_at last body rest place placed h
 Closes-block (innermost ∷ outer) ends at number times end_at last body rest place placed h =
     let first = repeat_line number times end_at in
     let end = end_line last at in
@@ -93,7 +93,7 @@ Closes-block (innermost ∷ outer) ends at number times end_at last body rest pl
       last = h.last;
       rest = h.rest;
       place = h.place ∙ here;
-      placed = IsPlaced.block at number times end_at last body h.body place placed h.placed;
+      placed = IsPaired.block at number times end_at last body h.body place placed h.placed;
       after = Closes-at outer (λ inside. ends (suc inside)) _ _ h.rest (ap suc here) h.after;
       cut =
           ap (λ all. first ∷ all) (append_assoc body (end ∷ h.body) (end_line h.last innermost ∷ h.rest)
@@ -121,7 +121,7 @@ Closes-end innermost outer ends at number lines place h =
       last = number;
       rest = lines;
       place = place ∙ here;
-      placed = IsPlaced.none at;
+      placed = IsPaired.none at;
       after = Closes-at outer (λ inside. ends (suc inside)) _ _ lines (ap suc here) h;
       cut = refl;
     }
@@ -153,7 +153,7 @@ lines_from-Closes :
     (variables fields : List (List ℕ)) (at : ℕ) (open' : List ℕ) (xs : List NumberedStatement)
     → AreStated (length open') xs
     → Closes open' (λ inside. end_after inside at xs) at (lines_from variables fields at open' xs)
-lines_from-Closes variables fields at [] [] h = IsPlaced.none at
+lines_from-Closes variables fields at [] [] h = IsPaired.none at
 lines_from-Closes variables fields at (innermost ∷ outer) [] h = absurd (omega (arith, h))
 lines_from-Closes variables fields at open' (stated ∷ more) h =
     let k = stated.statement.keyword in
@@ -163,5 +163,5 @@ lines_from-Closes variables fields at open' (stated ∷ more) h =
 
 -- the lines of a script that was read stand at their places
 pub lines_from-IsPlaced : (variables fields : List (List ℕ)) (xs : List NumberedStatement)
-    → AreStated 0 xs → IsPlaced 0 (lines_from variables fields 0 [] xs)
+    → AreStated 0 xs → IsPaired 0 (lines_from variables fields 0 [] xs)
 lines_from-IsPlaced variables fields xs h = lines_from-Closes variables fields 0 [] xs h

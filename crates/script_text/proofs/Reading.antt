@@ -9,7 +9,7 @@ use Rattle.script_text.specs.Lines.{onto_first, lines_of}
 use Rattle.script_text.specs.Scripts.{ScriptText, NumberedStatement}
 use Rattle.script_text.specs.Grammar.{stated_from, past_limit, script_of, within_limit, script_or_stop}
 use Rattle.script_text.specs.Shown.{stated_shown}
-use Rattle.script_text.specs.Whole.{IsPlaced}
+use Rattle.script_text.specs.Whole.{IsPaired}
 use Rattle.script_text.specs.Sound.{IsNumbered, IsMatched, IsWellFormed, AreShort}
 use Rattle.script_text.proofs.Speaking.{stated_from-AreStated, stated_from-few}
 use Rattle.script_text.proofs.Matched.{IsMatched-placed}
@@ -67,7 +67,7 @@ script_of-IsWellFormed lines stated script e same few_variables few_fields =
     record {
       numbered = subst IsNumbered same (script_of-IsNumbered stated are);
       matched = subst (λ (s : ScriptText). IsMatched s.lines) same (IsMatched-placed all.lines placed open_few);
-      placed = subst (λ (s : ScriptText). IsPlaced 0 s.lines) same placed;
+      placed = subst (λ (s : ScriptText). IsPaired 0 s.lines) same placed;
       few_variables = few_variables;
       few_fields = few_fields;
       short = subst (λ (s : ScriptText). AreShort s.fields) same (fields_short stated are);

@@ -6,7 +6,7 @@ use Rattle.script_text.specs.declared.script.Line.{Line}
 use Rattle.script_text.specs.declared.script.What.TheVariants.{End}
 use Rattle.script_text.specs.Sound.{depth_of}
 use Rattle.script_text.specs.Unrolled.{executed, turns, executed_lines}
-use Rattle.script_text.specs.Whole.{repeat_line, end_line, IsPlaced}
+use Rattle.script_text.specs.Whole.{repeat_line, end_line, IsPaired}
 use Rattle.script_text.specs.Left.{IsLeft}
 use Rattle.script_text.proofs.Depths.{drop-get, drop-past, depth_of-placed, depth-past, depth-next}
 use Rattle.script_text.proofs.Placed.{AreBlocks-placed}
@@ -27,7 +27,7 @@ pub record Begins (lines : List Line) (at : ℕ) (ts : List ℕ) (left : List Ex
   pub after : List Line
   pub later : List Executed
   pub place : end_at ≡ suc (at + length body)
-  pub placed : IsPlaced (suc at) body
+  pub placed : IsPaired (suc at) body
   pub cut : drop (suc at) lines ≡ body ++ (end_line last at ∷ after)
   pub deep : depth_of 0 (take (suc at) lines) ≡ suc (length ts)
   pub is : left ≡ executed number None ∷ (turns times (executed_lines body ++ (executed last None ∷ [])) ++ later)
@@ -40,9 +40,9 @@ behind_block : (lines : List Line) (at : ℕ) (ts : List ℕ) (left : List Execu
 behind_block lines at ts left number times end_at here some e opens =
     let first = repeat_line number times end_at in
     let whole : List Line = first ∷ (opens.body ++ (end_line opens.last at ∷ [])) in
-    let placed : IsPlaced at whole =
-    IsPlaced.block at number times end_at opens.last opens.body [] opens.place opens.placed
-    (IsPlaced.none (suc end_at)) in
+    let placed : IsPaired at whole =
+    IsPaired.block at number times end_at opens.last opens.body [] opens.place opens.placed
+    (IsPaired.none (suc end_at)) in
     let grouped : (first ∷ (opens.body ++ (end_line opens.last at ∷ opens.after))) ++ here.more ≡ whole ++
     (opens.after ++ here.more) =
     simp append_assoc in
@@ -124,7 +124,7 @@ pub record Ends
   pub cut : drop at lines ≡ end_line number repeat_at ∷ after
   pub deep : depth_of 0 (take at lines) ≡ suc (length ts)
   pub around : drop (suc repeat_at) lines ≡ body ++ (end_line number repeat_at ∷ after)
-  pub placed : IsPlaced (suc repeat_at) body
+  pub placed : IsPaired (suc repeat_at) body
   pub is : left ≡ executed number None
       ∷ (turns turns_left (executed_lines body ++ (executed number None ∷ [])) ++ later)
   pub behind : IsLeft lines (suc at) ts later

@@ -7,7 +7,7 @@ use Rattle.script_text.specs.declared.script.What.{What}
 use Rattle.script_text.specs.declared.script.What.TheVariants.{Run, Repeat, End}
 use Rattle.script_text.specs.Scripts.{ScriptText}
 use Rattle.script_text.specs.Limits.{turns_most, open_most, variable_names_most, field_names_most, name_bytes_most}
-use Rattle.script_text.specs.Whole.{IsPlaced}
+use Rattle.script_text.specs.Whole.{IsPaired}
 
 -- a script of these lines, variables and fields
 abbrev pub script_text : List Line → List (List ℕ) → List (List ℕ) → ScriptText
@@ -61,7 +61,7 @@ AreShort names = All (λ name. length name ≤ name_bytes_most) names
 pub record IsWellFormed (script : ScriptText) : Type 0 where
   pub numbered : IsNumbered script
   pub matched : IsMatched script.lines
-  pub placed : IsPlaced 0 script.lines
+  pub placed : IsPaired 0 script.lines
   pub few_variables : length script.variables ≤ variable_names_most
   pub few_fields : length script.fields ≤ field_names_most
   pub short : AreShort script.fields

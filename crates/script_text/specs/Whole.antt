@@ -26,10 +26,10 @@ pub data AreBlocks : List Line → Type 0 where
 
 -- Lines of which the first stands at this place, counted from 0. Each `repeat` has its `end` behind the lines of its
 -- block, and each of the two names the place of the other.
-pub data IsPlaced : ℕ → List Line → Type 0 where
-  none : (at : ℕ) → IsPlaced at []
-  run : (at number : ℕ) (command : Command) (lines : List Line) → IsPlaced (suc at) lines
-      → IsPlaced at (run_line number command ∷ lines)
+pub data IsPaired : ℕ → List Line → Type 0 where
+  none : (at : ℕ) → IsPaired at []
+  run : (at number : ℕ) (command : Command) (lines : List Line) → IsPaired (suc at) lines
+      → IsPaired at (run_line number command ∷ lines)
   block : (at number times end_at last : ℕ) (body rest : List Line) → end_at ≡ suc (at + length body)
-      → IsPlaced (suc at) body → IsPlaced (suc end_at) rest
-      → IsPlaced at (repeat_line number times end_at ∷ (body ++ (end_line last at ∷ rest)))
+      → IsPaired (suc at) body → IsPaired (suc end_at) rest
+      → IsPaired at (repeat_line number times end_at ∷ (body ++ (end_line last at ∷ rest)))

@@ -3,7 +3,7 @@ ghost use Rattle.std.specs.Prelude.{◌≡◌, ◌<◌, ◌≤◌, Some, length,
 ghost use Rattle.script_text.specs.Limits.{variable_names_most, field_names_most};
 ghost use Rattle.script_text.specs.Grammar.{why_text};
 ghost use Rattle.script_text.specs.Sound.{script_text, IsNumbered, IsMatched, IsWellFormed, AreShort};
-ghost use Rattle.script_text.specs.Whole.{IsPlaced};
+ghost use Rattle.script_text.specs.Whole.{IsPaired};
 
 use heap_command::Command;
 use std::alloc::{AllocError, AllocFailed};
@@ -133,7 +133,7 @@ impl<'s> Script<'s> {
         ensures all { result.now ≡ self.now.lines }
         ensures numbered { IsNumbered self.now }
         ensures matched { IsMatched self.now.lines }
-        ensures placed { IsPlaced 0 result.now }
+        ensures placed { IsPaired 0 result.now }
     {
         &self.lines
     }

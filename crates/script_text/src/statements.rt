@@ -37,7 +37,7 @@ pub(crate) fn statements_of<'s>(
         opened: Stack::new(alloc),
     };
     for (i, line) in lines.iter().enumerate() {
-        statements.hear(i as u32 + 1, line)?;
+        statements.read_line(i as u32 + 1, line)?;
     }
     statements.close()
 }
@@ -51,7 +51,7 @@ struct Statements<'s> {
 
 impl<'s> Statements<'s> {
     /// Reads the line with this number behind the others.
-    fn hear(&mut self, number: u32, line: &'s [u8]) -> Result<(), BadScript>
+    fn read_line(&mut self, number: u32, line: &'s [u8]) -> Result<(), BadScript>
         ensures said { OnOk result ((rest : List (List ℕ)) →
             gathered (map stated_shown self.new.stated.items)
             (stated_from (number + 1) self.new.opened rest)

@@ -21,7 +21,7 @@ use Rattle.heap_model.specs.Showing.{ShowsPlain}
 use Rattle.heap_model.proofs.BoundHeaps.{none_in}
 use Rattle.heap_model.proofs.SlotWords.{All-slice_get}
 use Rattle.write_barrier.specs.MutatorState.{Mutator, heap_of, MainShows}
-use Rattle.object_cells.specs.CellsAt.{IsHeaderAt}
+use Rattle.write_barrier.specs.Reading.{IsHeaderAt}
 use Rattle.object_cells.specs.PlainObjects.{IsPlainAt, ShowsRefilled}
 use Rattle.object_cells.specs.Capacities.{ChangesObject}
 use Rattle.shape_change.specs.FieldChanges.{HasDeletedField, DeletesField}

@@ -12,7 +12,8 @@ use Rattle.shape_tree.specs.declared.located.Located.{Located}
 use Rattle.heap_model.specs.Types.{Header, Path}
 use Rattle.heap_model.specs.Showing.{ShowsHeld, ShowsField}
 use Rattle.write_barrier.specs.MutatorState.{Mutator, heap_of, MainShows, with_variable}
-use Rattle.object_cells.specs.CellsAt.{IsHeaderAt, HasField}
+use Rattle.write_barrier.specs.Reading.{IsHeaderAt}
+use Rattle.object_cells.specs.CellsAt.{HasField}
 use Rattle.object_cells.specs.PlainObjects.{IsPlainAt}
 use Rattle.object_cells.proofs.FieldsFound.{value_found}
 use Rattle.object_cells.proofs.FieldWords.{path_field}

@@ -17,7 +17,7 @@ use Rattle.object_cells.specs.PlainObjects.{IsPlainAt, LacksFields, LacksPaths}
 use Rattle.shape_change.specs.FieldChanges.{IsShownSetting, IsFullOfPaths, SetsField}
 use Rattle.shape_change.specs.declared.stop.FieldStop.{FieldStop}
 use Rattle.shape_change.specs.declared.stop.FieldStop.TheVariants as stop
-use Rattle.object_cells.specs.CellsAt.{IsHeaderAt}
+use Rattle.write_barrier.specs.Reading.{IsHeaderAt}
 use Rattle.object_cells.specs.Contents.{held_rep}
 use Rattle.shape_change.specs.Additions.{CanAdd, MayAdd, RefusesField, added_path, count_of}
 use Rattle.object_cells.proofs.CellsRead.{cell_before_marks}
@@ -103,6 +103,7 @@ pub field_refused : {old : Mutator} {graph : Graph} {plain : PlainObject} {shape
     (object name : ℕ) (value : Held) (refusal : FieldStop) → MainShows old graph → IsShownShape old plain shape
     → ShowsHeld (heap_of old) value (Some what) → field_value plain.fields name ≡ None
     → RefusesField old.paths shape name value refusal → SetsField old old graph object plain name what (Err refusal)
+field_refused object name value stop.NotPlain shows known held fresh refuses = absurd refuses
 field_refused object name value stop.FieldsFull shows known held fresh refuses =
     (lacks_fields name known fresh refuses, refl)
 field_refused object name value (stop.ShapesFull full) shows known held fresh refuses =

@@ -1,7 +1,6 @@
 -- What comes of setting a field that is there, by what was read of its slot.
 use Rattle.std.specs.Prelude.{Result, Err, option_map, slice_get}
-use Rattle.std.proofs.Common.{◌≡◌, ◌<◌, ℕ, nat_lt, true, Some, refl, sym, ◌∙◌, ap, subst, arith}
-use Rattle.std.proofs.lemmas.Bool.Decides.{nat_tests}
+use Rattle.std.proofs.Common.{◌≡◌, ◌<◌, ℕ, nat_lt, Some, refl, sym, ◌∙◌, ap, subst}
 use Rattle.page_space.specs.Sizes.{AreWithin}
 use Rattle.page_space.specs.Extents.{marks_start}
 use Rattle.shape_tree.specs.Shapes.{shape_path, changed}
@@ -18,11 +17,11 @@ use Rattle.object_cells.specs.declared.content.SlotContent.{SlotContent}
 use Rattle.object_cells.specs.declared.content.SlotContent.TheVariants as content
 use Rattle.object_cells.specs.Contents.{content_of, filling_at, LacksRoom, FillsSlot}
 use Rattle.object_cells.proofs.HeldContents.{held_rep_is}
-use Rattle.shape_change.specs.declared.set_field.SlotSetting.{SlotSetting}
+use Rattle.shape_change.specs.declared.set_slot.SlotSetting.{SlotSetting}
 use Rattle.shape_change.specs.declared.stop.FieldStop.{FieldStop}
 use Rattle.shape_change.specs.declared.stop.FieldStop.TheVariants as stop
 use Rattle.shape_change.specs.FieldChanges.{HasSetField, SetsField}
-use Rattle.shape_change.specs.Fillings.{IsSlotSetting, KeepsTagged, KeepsRaw, SetsWider}
+use Rattle.shape_change.specs.Fillings.{IsSlotSetting, KeepsTagged, SetsWider}
 use Rattle.shape_change.specs.declared.slots.Place.{Place}
 use Rattle.shape_change.specs.Places.{place_at, IsPlaceOf}
 use Rattle.shape_change.proofs.Settings.{Setting}
@@ -76,19 +75,6 @@ module _ {old : Mutator} {graph : Graph} {object slot : ℕ} {plain : PlainObjec
         let stays : sets.rep ≡ sets.was = is.joins ∙ keeps.stays in
         let holds : sets.content ≡ content.Tagged word =
         is.content ∙ ap (λ r. content_of own r held) stays ∙ keeps.content own in
-        as_it_is_sets stays
-        (subst (λ (c : SlotContent). FillsSlot old new (place_at object sets.place) c) (sym holds) filled_so)
-
-    -- and where a raw one was put in an own slot
-    pub kept_raw_sets : {new : Mutator} (word : ℕ) → slot < (shape_path old.paths shape).cap
-        → KeepsRaw sets.was held word → FillsSlot old new (place_at object sets.place) (content.Raw word)
-        → HasSetField old new graph object plain name what
-    kept_raw_sets {new} word own keeps filled_so =
-        let stays : sets.rep ≡ sets.was = is.joins ∙ keeps.stays in
-        let is_own : nat_lt slot (shape_path old.paths shape).cap ≡ true = grind (arith, nat_tests, own) in
-        let holds : sets.content ≡ content.Raw word =
-        is.content ∙ ap (λ r. content_of (nat_lt slot (shape_path old.paths shape).cap) r held) stays
-        ∙ ap (λ o. content_of o sets.was held) is_own ∙ keeps.content in
         as_it_is_sets stays
         (subst (λ (c : SlotContent). FillsSlot old new (place_at object sets.place) c) (sym holds) filled_so)
 

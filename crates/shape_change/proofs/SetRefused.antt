@@ -74,6 +74,7 @@ module _ {old : Mutator} {graph : Graph} {object slot : ℕ} {plain : PlainObjec
           → SetsWider old new s.cell.at (place_at s.cell.at place) path content result
           → SetsField old new graph object plain name what result
       wider_sets new (Ok done) sets = set_wider_has s place within fills path is_path sets
+      wider_sets new (Err stop.NotPlain) sets = absurd sets
       wider_sets new (Err stop.FieldsFull) sets = absurd sets
       wider_sets new (Err (stop.ShapesFull full)) sets =
           ((λ lacks. name_is_there s lacks), wider_lacks full sets.0, sets.1)

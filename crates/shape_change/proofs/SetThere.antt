@@ -17,7 +17,7 @@ use Rattle.heap_model.specs.Showing.{ShowsHeld}
 use Rattle.write_barrier.specs.MutatorState.{Mutator, heap_of}
 use Rattle.object_cells.specs.declared.content.SlotContent.{SlotContent}
 use Rattle.shape_change.specs.declared.slots.Place.{Place}
-use Rattle.shape_change.specs.declared.set_field.SlotSetting.{SlotSetting}
+use Rattle.shape_change.specs.declared.set_slot.SlotSetting.{SlotSetting}
 use Rattle.shape_change.specs.FieldChanges.{IsShownSetting}
 use Rattle.object_cells.specs.CellsAt.{HasField}
 use Rattle.object_cells.specs.Contents.{held_rep, content_of, HoldsSlotWord}

@@ -12,7 +12,8 @@ use Rattle.heap_model.specs.Heaps.{Heap, HasCell, words_of_cell}
 use Rattle.heap_model.specs.Showing.{ShowsPlain}
 use Rattle.heap_model.proofs.PathLayouts.{layout_is}
 use Rattle.write_barrier.specs.MutatorState.{Mutator, heap_of, MainShows}
-use Rattle.object_cells.specs.CellsAt.{IsHeaderAt, HasField}
+use Rattle.write_barrier.specs.Reading.{IsHeaderAt}
+use Rattle.object_cells.specs.CellsAt.{HasField}
 use Rattle.object_cells.specs.PlainObjects.{IsPlainAt}
 use Rattle.object_cells.proofs.FieldsFound.{no_value, named_at, field_at}
 use Rattle.object_cells.proofs.PlainFields.{plain_sound, plain_shown}

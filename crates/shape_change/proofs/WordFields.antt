@@ -5,7 +5,7 @@ use Rattle.tagged_word.specs.Shapes.{first_path_shape}
 use Rattle.page_space.specs.Extents.{marks_start}
 use Rattle.object_graph.specs.Graphs.{Graph, PlainObject}
 use Rattle.shape_tree.specs.Shapes.{shape_path}
-use Rattle.shape_tree.specs.Recalling.{HasWordField}
+use Rattle.shape_tree.specs.CachedSlots.{HasWordField}
 use Rattle.shape_tree.specs.declared.located.Located.{Located}
 use Rattle.heap_model.specs.Types.{Header, Field, Path}
 use Rattle.heap_model.specs.Kinds.{HasWord}
@@ -13,12 +13,13 @@ use Rattle.heap_model.specs.Slots.{IsSlotWord}
 use Rattle.heap_model.specs.Wholeness.{Whole}
 use Rattle.heap_model.proofs.SlotWords.{field_is_slot}
 use Rattle.write_barrier.specs.MutatorState.{Mutator, heap_of, MainShows}
-use Rattle.object_cells.specs.CellsAt.{IsHeaderAt, HasField, HasPlainSlot, IsCapAt}
+use Rattle.write_barrier.specs.Reading.{IsHeaderAt}
+use Rattle.object_cells.specs.CellsAt.{HasField, HasPlainSlot, IsCapAt}
 use Rattle.object_cells.specs.PlainObjects.{IsPlainAt}
 use Rattle.object_cells.proofs.PlainFields.{field_slot_there, field_word_there, cap_there}
 use Rattle.shape_change.specs.declared.slots.Place.{Place}
 use Rattle.shape_change.specs.Places.{place_at, StandsSlot, IsPlaceOf}
-use Rattle.shape_change.specs.WordPlaces.{StandsWord}
+use Rattle.shape_change.specs.WordPlaces.{StandsWord, HasWordAt}
 use Rattle.shape_change.proofs.ShownFields.{field_found, located_named}
 use Rattle.shape_change.proofs.HeldByName.{located_has}
 
@@ -26,6 +27,16 @@ use Rattle.shape_change.proofs.HeldByName.{located_has}
 pub word_field_shape : {paths : List Path} {shape name : ℕ} {found : Located} → HasWordField paths shape name found
     → first_path_shape ≤ shape
 word_field_shape field = subst (λ s. first_path_shape ≤ s) field.of_shape field.located.is_shape.from
+
+-- a field whose slot is at a place is one of its path
+pub word_field : {main : Mutator} {object shape name : ℕ} {found : Located} {place : Place}
+    → HasWordAt main object shape name found place → HasWordField main.paths shape name found
+word_field has = record {
+  located = has.stands.located;
+  of_shape = has.of_shape;
+  of_name = has.of_name;
+  not_wide = has.stands.not_wide;
+}
 
 -- the word in the slot is one that no raw slot holds
 pub slot_word : {main : Mutator} {object : ℕ} {found : Located} {place : Place} (word : ℕ) → Whole (heap_of main)

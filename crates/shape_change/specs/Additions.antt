@@ -86,6 +86,7 @@ pub record IsNewField (paths : List Path) (shape name : ℕ) (value : Held) (new
 -- A field of the name and the value does not come to an object of the shape: it has as many fields as it may have, or
 -- there may not be as many paths.
 abbrev pub RefusesField : List Path → ℕ → ℕ → Held → FieldStop → Type 0
+RefusesField paths shape name value stop.NotPlain = ⊥
 RefusesField paths shape name value stop.FieldsFull = fields_most ≤ count_of paths shape
 RefusesField paths shape name value (stop.ShapesFull full) =
     (count_of paths shape < fields_most) × LacksPathsFor paths paths (added_path paths shape name value) full

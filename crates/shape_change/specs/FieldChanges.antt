@@ -1,7 +1,11 @@
 -- What the calls on the fields of an object do.
-use Rattle.std.specs.Prelude.{◌≡◌, ℕ, List, Some, None, unwrap_or, slice_get, nat_lt}
+use Rattle.std.specs.Prelude.{◌≡◌, ◌<◌, ◌≤◌, ℕ, List, Some, None, unwrap_or, slice_get, nat_lt}
 use Rattle.std.specs.Prelude.{Result, Ok, Err}
-use Rattle.heap_model.specs.Types.{Value, Field, ShapesFull, Held, Cell, PathField}
+use Rattle.tagged_word.specs.Shapes.{first_path_shape}
+use Rattle.heap_model.specs.Types.{Value, Field, ShapesFull, Held, Cell, PathField, Header}
+use Rattle.handle_roots.specs.declared.given.Given.{Given}
+use Rattle.handle_roots.specs.Givens.{IsGivenFor}
+use Rattle.write_barrier.specs.Reading.{IsHeaderAt}
 use Rattle.heap_model.specs.Heaps.{HasCell}
 use Rattle.heap_model.specs.Kinds.{HasSlots, HasWord}
 use Rattle.heap_model.specs.Showing.{ShowsHeld, ShowsField}
@@ -71,6 +75,7 @@ IsFullOfPaths graph plain fields full = LacksPathsFor graph.paths graph.paths (p
 abbrev pub SetsField : Mutator → Mutator → Graph → ℕ → PlainObject → ℕ → Value → Result Unit FieldStop
     → Type 0
 SetsField old new graph at plain name value (Ok _) = HasSetField old new graph at plain name value
+SetsField old new graph at plain name value (Err stop.NotPlain) = ⊥
 SetsField old new graph at plain name value (Err stop.FieldsFull) = LacksFields plain name × (new ≡ old)
 SetsField old new graph at plain name value (Err (stop.ShapesFull full)) =
     (LacksFields plain name → ⊥) × IsFullOfPaths graph plain (with_field plain.fields name value) full × (new ≡ old)
@@ -78,6 +83,23 @@ SetsField old new graph at plain name value (Err (stop.Full room)) =
     (LacksFields plain name → ⊥) × (LacksPaths graph plain (with_field plain.fields name value) → ⊥)
     × (room.need ≡ set_need (capacity_at (heap_of old) at) plain name value) × (HasRoom old.young room.need → ⊥)
     × (new ≡ old)
+
+-- The object at the address has this header, and where that is a plain object's, the heap shows the object and the
+-- value.
+pub record MaySet (main : Mutator) (at : ℕ) (header : Header) (value : Given) : Type 0 where
+  pub held : Held
+  pub gives : IsGivenFor value held
+  pub plain : first_path_shape ≤ header.shape → IsShownSetting main at held
+  pub headed : IsHeaderAt (heap_of main) at header
+
+-- `set` of a field of the object with this header at the address: of a plain object as above, and of another nothing
+-- changes.
+pub record Sets (old new : Mutator) (at : ℕ) (header : Header) (name : ℕ) (value : Given) (came : Result Unit FieldStop)
+    : Type 0 where
+  pub plain : first_path_shape ≤ header.shape → (held : Held) → IsGivenFor value held
+      → (graph : Graph) (plain : PlainObject) (what : Value) → MainShows old graph → IsPlainAt old graph at plain
+      → IsValueHeld old graph held what → SetsField old new graph at plain name what came
+  pub other : header.shape < first_path_shape → (came ≡ Err stop.NotPlain) × (new ≡ old)
 
 -- How a field is taken out: the heap shows the graph in which the object lacks it, and nothing changes where it lacked
 -- it before. Only words of the object change, and each property store stays.

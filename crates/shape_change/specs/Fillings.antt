@@ -1,5 +1,5 @@
 -- What has changed once a slot of a plain object was filled.
-use Rattle.std.specs.Prelude.{◌≡◌, ℕ, ◌<◌, Bool, true, Some, None, List, Result, Ok, Err, slice_get, option_map, nat_lt}
+use Rattle.std.specs.Prelude.{◌≡◌, ℕ, ◌<◌, Bool, Some, None, List, Result, Ok, Err, slice_get, option_map, nat_lt}
 use Rattle.heap_model.specs.Types.{Header, Path, Held, Rep, Word}
 use Rattle.tagged_word.specs.Headers.{header_bits}
 use Rattle.page_space.specs.Extents.{layouts_start, marks_start}
@@ -15,11 +15,12 @@ use Rattle.write_barrier.specs.MutatorState.{Mutator, heap_of, IsTied, with_word
 use Rattle.write_barrier.specs.Opening.{ChangesWithin}
 use Rattle.object_cells.specs.declared.content.SlotContent.{SlotContent}
 use Rattle.object_cells.specs.declared.content.SlotContent.TheVariants as content
-use Rattle.shape_change.specs.declared.set_field.SlotSetting.{SlotSetting}
+use Rattle.shape_change.specs.declared.set_slot.SlotSetting.{SlotSetting}
 use Rattle.shape_change.specs.declared.stop.FieldStop.{FieldStop}
 use Rattle.shape_change.specs.declared.stop.FieldStop.TheVariants as stop
 use Rattle.shape_change.specs.Places.{place_at, IsPlaceOf}
-use Rattle.object_cells.specs.CellsAt.{IsQuietWhole, IsHeaderAt, HasField}
+use Rattle.write_barrier.specs.Reading.{IsHeaderAt}
+use Rattle.object_cells.specs.CellsAt.{IsQuietWhole, HasField}
 use Rattle.object_cells.specs.Contents.{held_rep, content_of, HoldsSlotWord, filling_at, filled, AllocatesBox}
 use Rattle.object_cells.specs.Contents.{LacksRoom}
 
@@ -38,11 +39,6 @@ pub record IsSlotSetting (heap : Heap) (object shape slot : ℕ) (value : Held) 
 pub record KeepsTagged (was : Rep) (value : Held) (word : Word) : Type 0 where
   pub stays : join was (held_rep value) ≡ was
   pub content : (own : Bool) → content_of own was value ≡ content.Tagged word
-
--- a field of this representation keeps it for the value, and its slot, if it is an own one, comes to hold the raw word
-pub record KeepsRaw (was : Rep) (value : Held) (word : ℕ) : Type 0 where
-  pub stays : join was (held_rep value) ≡ was
-  pub content : content_of true was value ≡ content.Raw word
 
 -- The slot of this number of the plain object at the address, whose shape this is, may be set so.
 pub record CanSetSlot (main : Mutator) (object shape slot : ℕ) (setting : SlotSetting) : Type 0 where
@@ -79,6 +75,7 @@ pub record FillsWider (old new : Mutator) (object at : ℕ) (path : Path) (conte
 -- order, and nothing has changed
 abbrev pub SetsWider : Mutator → Mutator → ℕ → ℕ → Path → SlotContent → Result Unit FieldStop → Type 0
 SetsWider old new object at path content (Ok _) = FillsWider old new object at path content
+SetsWider old new object at path content (Err stop.NotPlain) = ⊥
 SetsWider old new object at path content (Err stop.FieldsFull) = ⊥
 SetsWider old new object at path content (Err (stop.ShapesFull full)) =
     LacksPathsFor old.paths old.paths path full × (new ≡ old)

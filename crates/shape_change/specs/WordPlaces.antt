@@ -1,5 +1,5 @@
 -- Fields whose slots have the words of their values.
-use Rattle.std.specs.Prelude.{◌≢◌, ℕ, ◌<◌}
+use Rattle.std.specs.Prelude.{◌≡◌, ◌≢◌, ℕ, ◌<◌}
 use Rattle.page_space.specs.Extents.{marks_start}
 use Rattle.object_graph.specs.declared.value.Rep.TheVariants.{Wide}
 use Rattle.shape_tree.specs.Shapes.{IsLocated}
@@ -17,3 +17,10 @@ pub record StandsWord (main : Mutator) (object : ℕ) (found : Located) (place :
   pub stands : StandsSlot (heap_of main) object found.at place
   pub at_place : IsPlaceOf (heap_of main) object found.cap found.at place
   pub within : place_at object place < marks_start main.seat.space
+
+-- The field of the name of the plain object at the address, which has this shape, is no wide one, and its slot is at
+-- the place.
+pub record HasWordAt (main : Mutator) (object shape name : ℕ) (found : Located) (place : Place) : Type 0 where
+  pub stands : StandsWord main object found place
+  pub of_shape : found.shape ≡ shape
+  pub of_name : found.name ≡ name

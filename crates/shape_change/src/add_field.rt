@@ -1,7 +1,7 @@
 //! A field of a name that is new to its object. One that is there is in `set_field.rt`.
 ghost use Rattle.heap_model.specs.Needs as needs;
 ghost use Rattle.heap_model.specs.Rooms.{new_field_need};
-ghost use Rattle.std.specs.Prelude.{◌≡◌, ℤ, ◌+◌, ◌-◌, ◌<◌, ◌≤◌, false, OnOk, IfOk, IfErr, None, IfSome, OnSome};
+ghost use Rattle.std.specs.Prelude.{◌≡◌, ℤ, ◌+◌, ◌-◌, ◌<◌, ◌≤◌, false, OnOk, IfOk, IfErr, None, Result};
 ghost use Rattle.std.specs.Prelude.{slice_set, length};
 ghost use Rattle.tagged_word.specs.Cells.{store_head, cell_words_most};
 ghost use Rattle.page_space.specs.Extents.{marks_start};
@@ -9,23 +9,26 @@ ghost use Rattle.object_graph.specs.Graphs.{Graph, PlainObject};
 ghost use Rattle.object_graph.specs.declared.value.Value.{Value as GraphValue};
 ghost use Rattle.object_graph.specs.Objects.{field_value};
 ghost use Rattle.shape_tree.specs.Shapes.{IsPathShape, shape_path, has_name};
-ghost use Rattle.heap_table.specs.declared.phase.Phase.TheVariants.{Quiet};
 ghost use Rattle.heap_table.specs.Seats.{heap_words};
-ghost use Rattle.write_barrier.specs.MutatorState.{heap_of, MainShows};
+ghost use Rattle.write_barrier.specs.MutatorState.{MayStore, heap_of, MainShows};
 ghost use Rattle.write_barrier.specs.Recording.{Touches, touched_one};
-ghost use Rattle.object_cells.specs.CellsAt.{IsHeaderAt};
+ghost use Rattle.write_barrier.specs.Reading.{IsHeaderAt};
 ghost use Rattle.object_cells.specs.PlainObjects.{IsPlainAt};
 ghost use Rattle.object_cells.specs.HeldValues.{IsValueHeld};
-ghost use Rattle.shape_change.specs.FieldChanges.{IsShownSetting, SetsField};
+ghost use Rattle.tagged_word.specs.Shapes.{first_path_shape};
+ghost use Rattle.shape_change.specs.FieldChanges.{IsShownSetting, MaySet, Sets, SetsField};
+ghost use Rattle.shape_change.specs.declared.stop.FieldStop.{FieldStop as Why};
 ghost use Rattle.shape_change.specs.Additions.{IsNewField, RefusesField, CanAdd, AddsOwn, AddsToStore};
-ghost use Rattle.shape_change.specs.Additions.{AddsToNewStore, AddsField, count_of, behind_cap, own_content};
+ghost use Rattle.shape_change.specs.Additions.{AddsToNewStore, AddsField, count_of, behind_cap};
+ghost use Rattle.shape_change.specs.Additions as additions;
 ghost use Rattle.shape_change.specs.Additions.{ComesBehind};
 ghost use Rattle.object_cells.specs.Made.{PutsWords, IsStoreAt, RefusesRoom, is_wide_held};
 ghost use Rattle.handle_roots.specs.declared.held.Held.{Held as What};
-ghost use Rattle.handle_roots.specs.Givens.{Gives};
+ghost use Rattle.handle_roots.specs.Givens.{IsGivenFor};
 ghost use Rattle.object_cells.specs.Contents.{held_rep};
 ghost use Rattle.object_cells.specs.Made.{content_need, content_word, slot_touch, store_content};
 
+use crate::outcome::{FieldOutcome, told};
 use crate::stop::FieldStop;
 use crate::transitions::{set_shape, step_to};
 use handle_roots::{Given, Held};
@@ -37,7 +40,7 @@ use object_graph::limits::FIELDS_MOST;
 use object_graph::{PathField, Rep};
 use shape_tree::Step;
 use tagged_word::cell::{PLAIN_HEAD, STORE_HEAD};
-use tagged_word::{Header, Word};
+use tagged_word::{Header, shape};
 use write_barrier::{Main, NoRoom};
 
 /// A field of a new name, as it comes to an object.
@@ -59,7 +62,14 @@ pub(crate) struct NewField {
 /// # Errors
 /// The object has 64 fields, or there may not be as many field paths.
 #[inline(always)]
-fn new_field(main: &Main, shape: u32, name: u32, value: Held) -> Result<NewField, FieldStop>
+fn new_field(
+    main: &Main,
+    shape: u32,
+    name: u32,
+    rep: Rep,
+    value: Held,
+) -> Result<NewField, FieldStop>
+    requires narrowest { rep ≡ held_rep value }
     requires path { IsPathShape main.now.paths shape }
     requires is_new { has_name (shape_path main.now.paths shape) name ≡ false }
     ensures new { IfOk result (IsNewField main.now.paths shape name value) }
@@ -70,10 +80,7 @@ fn new_field(main: &Main, shape: u32, name: u32, value: Held) -> Result<NewField
     if slot >= FIELDS_MOST {
         return Err(FieldStop::FieldsFull);
     }
-    let field = PathField {
-        name,
-        rep: rep_of(value),
-    };
+    let field = PathField { name, rep };
     let step = shapes.can_step(shape, field)?;
     Ok(NewField {
         field,
@@ -84,13 +91,87 @@ fn new_field(main: &Main, shape: u32, name: u32, value: Held) -> Result<NewField
     })
 }
 
-/// Adds a field of a new name to the plain object at an address, behind its other fields.
+/// Adds a field of a new name to the plain object at an address, which has this header, after its other fields.
 ///
 /// # Errors
-/// The object has 64 fields, there may not be as many field paths, or there is no room for a store
-/// or a box that the field needs; nothing has changed.
+/// The object is no plain one; it has 64 fields; there may not be as many field paths; there is no room for a store or a
+/// box that the field needs. In this order; nothing has changed.
+#[inline(never)]
+pub(crate) fn add<O: FieldOutcome>(
+    main: &mut Main,
+    object: u32,
+    header: Header,
+    name: u32,
+    value: Given,
+) -> O
+    requires may { MaySet main.old object header value }
+    requires is_new { first_path_shape ≤ header.shape
+        → has_name (shape_path main.old.paths header.shape) name ≡ false }
+    ensures { (came : Result Unit Why) × O.Tells result came
+        × Sets main.old main.new object header name value came }
+{
+    if header.shape < shape::PATHS {
+        return O::refused(FieldStop::NotPlain);
+    }
+    let shapes = main.shapes();
+    if shapes.fields(header.shape) < shapes.cap(header.shape) {
+        told(add_in_object(main, object, header, name, value))
+    } else {
+        told(add_in_store(main, object, header, name, value.held()))
+    }
+}
+
+/// The narrowest representation that holds a value.
 #[inline(always)]
-fn add_there(
+fn rep_for(value: Given) -> Rep
+    ensures { (held : What) → IsGivenFor value held → result ≡ held_rep held }
+{
+    match value {
+        Given::Word(word) if word.is_small() => Rep::Small,
+        Given::Word(_) => Rep::Tagged,
+        Given::Int(v) => rep_of(Held::Int(v)),
+    }
+}
+
+/// What an in-object slot comes to hold for a value.
+#[inline(always)]
+fn own_content(value: Given) -> SlotContent
+    ensures { (held : What) → IsGivenFor value held → result ≡ additions.own_content held }
+{
+    match value {
+        Given::Word(word) => SlotContent::Tagged(word),
+        Given::Int(v) => content_of(true, rep_of(Held::Int(v)), Held::Int(v)),
+    }
+}
+
+/// Adds a field to an object that has an in-object slot for it: the word is put at once.
+#[inline(always)]
+fn add_in_object(
+    main: &mut Main,
+    object: u32,
+    header: Header,
+    name: u32,
+    value: Given,
+) -> Result<(), FieldStop>
+    requires shown { (held : What) × IsGivenFor value held × IsShownSetting main.old object held }
+    requires headed { IsHeaderAt (heap_of main.old) object header }
+    requires is_new { has_name (shape_path main.old.paths header.shape) name ≡ false }
+    requires own { count_of main.old.paths header.shape < (shape_path main.old.paths header.shape).cap }
+    ensures { (held : What) → IsGivenFor value held
+        → (graph : Graph) (plain : PlainObject) (what : GraphValue) → MainShows main.old graph
+        → IsPlainAt main.old graph object plain → IsValueHeld main.old graph held what
+        → field_value plain.fields name ≡ None
+        → SetsField main.old main.new graph object plain name what result }
+{
+    main.addresses_fit();
+    let new = new_field(main, header.shape, name, rep_for(value), value.held())?;
+    add_own(main, object, header, new, own_content(value));
+    Ok(())
+}
+
+/// Adds a field to an object the in-object slots of which are used.
+#[inline(never)]
+fn add_in_store(
     main: &mut Main,
     object: u32,
     header: Header,
@@ -100,6 +181,7 @@ fn add_there(
     requires shown { IsShownSetting main.old object value }
     requires headed { IsHeaderAt (heap_of main.old) object header }
     requires is_new { has_name (shape_path main.old.paths header.shape) name ≡ false }
+    requires behind { ComesBehind main.old.paths header.shape }
     ensures { (graph : Graph) (plain : PlainObject) (what : GraphValue) → MainShows main.old graph
         → IsPlainAt main.old graph object plain → IsValueHeld main.old graph value what
         → field_value plain.fields name ≡ None
@@ -108,88 +190,18 @@ fn add_there(
     main.addresses_fit();
     // A refusal changes nothing: paths are counted before words are reserved, and these before the
     // path is added.
-    let new = new_field(main, header.shape, name, value)?;
-    add_field(main, object, header, new)?;
+    let new = new_field(main, header.shape, name, rep_of(value), value)?;
+    store_field(main, object, header, new)?;
     Ok(())
 }
 
-/// The narrowest representation that holds what a word stands for.
+/// The field comes to the next slot of the property store, in place of which a larger one is made where it is full.
 #[inline(always)]
-fn rep_of_word(word: Word) -> Rep
-    ensures { (held : What) → Gives (Given.Word word) held → result ≡ held_rep held }
-{
-    if word.0 % 2 == 0 {
-        Rep::Small
-    } else {
-        Rep::Tagged
-    }
-}
-
-/// How a field of a new name and a word comes to an in-object slot of an object of a shape, where there is one for
-/// it, and the path with the field is there.
-#[inline(always)]
-fn new_own(main: &Main, shape: u32, name: u32, word: Word) -> Option<NewField>
-    requires path { IsPathShape main.now.paths shape }
-    requires is_new { has_name (shape_path main.now.paths shape) name ≡ false }
-    requires given { (held : What) × Gives (Given.Word word) held }
-    ensures new { (held : What) → Gives (Given.Word word) held →
-        IfSome result (IsNewField main.now.paths shape name held) }
-    ensures own { OnSome result (count_of main.now.paths shape < (shape_path main.now.paths shape).cap) }
-{
-    let shapes = main.shapes();
-    let (slot, cap) = (shapes.fields(shape), shapes.cap(shape));
-    if slot >= cap {
-        return None;
-    }
-    let rep = rep_of_word(word);
-    let field = PathField { name, rep };
-    match shapes.can_step(shape, field) {
-        Ok(Step::Found(next)) => Some(NewField {
-            field,
-            value: Given::Word(word).held(),
-            slot,
-            cap,
-            step: Step::Found(next),
-        }),
-        _ => None,
-    }
-}
-
-/// Adds a field of a new name to the plain object at an address, as `add_there` does. Where it comes to an
-/// in-object slot, and its path is there, its word is put at once.
-#[inline(never)]
-pub(crate) fn add_given(
-    main: &mut Main,
-    object: u32,
-    header: Header,
-    name: u32,
-    value: Given,
-) -> Result<(), FieldStop>
-    requires shown { (held : What) × Gives value held × IsShownSetting main.old object held }
-    requires headed { IsHeaderAt (heap_of main.old) object header }
-    requires is_new { has_name (shape_path main.old.paths header.shape) name ≡ false }
-    ensures { (held : What) → Gives value held
-        → (graph : Graph) (plain : PlainObject) (what : GraphValue) → MainShows main.old graph
-        → IsPlainAt main.old graph object plain → IsValueHeld main.old graph held what
-        → field_value plain.fields name ≡ None
-        → SetsField main.old main.new graph object plain name what result }
-{
-    main.addresses_fit();
-    if let Given::Word(word) = value {
-        if let Some(new) = new_own(main, header.shape, name, word) {
-            add_own(main, object, header, new, SlotContent::Tagged(word));
-            return Ok(());
-        }
-    }
-    add_there(main, object, header, name, value.held())
-}
-
-/// The slot that the field comes to, and how.
-#[inline(always)]
-fn add_field(main: &mut Main, object: u32, header: Header, new: NewField) -> Result<(), NoRoom>
+fn store_field(main: &mut Main, object: u32, header: Header, new: NewField) -> Result<(), NoRoom>
     requires can { CanAdd main.old object header new.field.name new.value }
     requires new { let paths = main.old.paths in
         IsNewField paths header.shape new.field.name new.value new }
+    requires behind { ComesBehind main.old.paths header.shape }
     ensures ok { let name = new.field.name in
         OnOk result (AddsField main.old main.new object header name new.value) }
     ensures refused { let path = shape_path main.old.paths header.shape in
@@ -197,11 +209,6 @@ fn add_field(main: &mut Main, object: u32, header: Header, new: NewField) -> Res
         let need = new_field_need capacity path.cap (length path.fields) (is_wide_held new.value) in
         IfErr result (RefusesRoom main.old main.new need) }
 {
-    if new.slot < new.cap {
-        let content = content_of(true, new.field.rep, new.value);
-        add_own(main, object, header, new, content);
-        return Ok(());
-    }
     let store = store_of(main, object);
     if new.slot - new.cap < store.capacity {
         add_to_store(main, object, header, new, store)
@@ -218,7 +225,7 @@ fn add_own(main: &mut Main, object: u32, header: Header, new: NewField, content:
         IsNewField paths header.shape new.field.name new.value new }
     requires own { let paths = main.old.paths in
         count_of paths header.shape < (shape_path paths header.shape).cap }
-    requires content { content ≡ own_content new.value }
+    requires content { content ≡ additions.own_content new.value }
     ensures { AddsOwn main.old main.new object header new.field.name new.value }
 {
     let next = step_to(main, header.shape, new.field, new.step);
@@ -229,7 +236,7 @@ fn add_own(main: &mut Main, object: u32, header: Header, new: NewField, content:
 /// Puts in an in-object slot what it comes to hold.
 #[inline(always)]
 fn put_own(main: &mut Main, object: u32, offset: u32, content: SlotContent)
-    requires quiet { main.old.seat.phase ≡ Quiet }
+    requires may_store { MayStore main.old }
     requires within { object + offset < marks_start main.old.seat.space }
     requires own { (v : ℤ) → content ≡ SlotContent.Boxed v → ⊥ }
     ensures puts { let words = heap_words main.old.seat in

@@ -154,8 +154,8 @@ pub fn delete(main: &mut Main, object: u32, name: u32) -> Result<(), ShapesFull>
         → DeletesField main.old main.new graph object plain name result }
 {
     let header = main.header(object);
-    match main.shapes().find(header.shape, name) {
-        Some(slot) => take_out(main, object, header, slot),
+    match main.lookup(header.shape, name) {
+        Some(found) => take_out(main, object, header, found.at),
         None => Ok(()),
     }
 }

@@ -8,18 +8,20 @@
 #![tactic(auto)]
 
 mod add_field;
-mod ahead;
 mod delete_field;
+mod field_value;
 mod get_field;
-mod kept_rep;
+mod outcome;
 mod set_field;
+mod set_slot;
 mod shift_slots;
 mod slots;
 mod stop;
 mod transitions;
 
-pub use ahead::{set_ahead, set_small_ahead};
 pub use delete_field::delete;
-pub use get_field::{get_ahead, hold_get};
+pub use field_value::FieldValue;
+pub use get_field::get;
+pub use outcome::FieldOutcome;
 pub use set_field::set;
 pub use stop::FieldStop;

@@ -1,262 +1,134 @@
-//! The call `set`. A name that is new to its object is in `add_field.rt`.
-ghost use Rattle.std.specs.Prelude.{◌≡◌, ◌+◌, ◌<◌, ◌≤◌, length, OnOk, IfErr, ℕ, Some, slice_get};
-ghost use Rattle.std.specs.Prelude.{option_map, OnErr, None};
-ghost use Rattle.write_barrier.specs.MutatorState.{heap_of, IsTied, MainShows};
-ghost use Rattle.shape_change.specs.FieldChanges.{IsShownSetting, SetsField};
-ghost use Rattle.object_cells.specs.CellsAt.{HasField, IsQuietWhole, IsHeaderAt};
-ghost use Rattle.shape_change.specs.Fillings.{IsSlotSetting, with_paths, CanSetSlot, SetsWider};
-ghost use Rattle.page_space.specs.Extents.{layouts_start, marks_start};
-ghost use Rattle.object_graph.specs.Paths.{missing};
-ghost use Rattle.object_graph.specs.Limits.{paths_most};
-ghost use Rattle.shape_tree.specs.Shapes.{IsPathShape, shape_path, changed, Leads};
-ghost use Rattle.shape_tree.specs.Shapes.{LacksPathsFor};
-ghost use Rattle.heap_table.specs.declared.phase.Phase.TheVariants.{Quiet};
-ghost use Rattle.heap_model.specs.Wholeness.{HasSizes};
-ghost use Rattle.write_barrier.specs.Opening.{ChangesWithin};
-ghost use Rattle.shape_change.specs.Places.{place_at};
-ghost use Rattle.object_graph.specs.declared.value.Value.{Value};
-ghost use Rattle.object_graph.specs.Graphs.{Graph, PlainObject};
-ghost use Rattle.heap_model.specs.Needs.{word_at};
-ghost use Rattle.object_cells.specs.PlainObjects.{IsPlainAt};
-ghost use Rattle.object_cells.specs.HeldValues.{IsValueHeld};
+//! The call `set`. A slot that does not take the value's word as it is, is set in `set_slot.rt`. A name that is new to
+//! its object is in `add_field.rt`.
+ghost use Rattle.std.specs.Prelude.{◌≡◌, ◌≢◌, IfSome, Result};
+ghost use Rattle.handle_roots.specs.declared.given.Given.TheVariants as given;
 ghost use Rattle.handle_roots.specs.declared.held.Held.{Held as What};
-ghost use Rattle.handle_roots.specs.Givens.{Gives};
-ghost use Rattle.object_cells.specs.Contents.{HoldsSlotWord, LacksRoom, FillsSlot, filling_at};
+ghost use Rattle.handle_roots.specs.Givens.{IsGivenFor};
+ghost use Rattle.object_graph.specs.declared.value.Rep.TheVariants.{Wide};
+ghost use Rattle.shape_tree.specs.declared.located.Located.{Located as Found};
+ghost use Rattle.shape_change.specs.FieldChanges.{MaySet, Sets};
+ghost use Rattle.shape_change.specs.FieldValues.{IsFieldValue, given_of};
+ghost use Rattle.shape_change.specs.Fillings.{KeepsTagged};
+ghost use Rattle.shape_change.specs.WordPlaces.{HasWordAt};
+ghost use Rattle.shape_change.specs.declared.stop.FieldStop.{FieldStop as Why};
 
-use crate::add_field::add_given;
-use crate::kept_rep::set_given;
-use crate::slots::{Place, fill, filling_of, slot_place};
+use crate::add_field::add;
+use crate::field_value::FieldValue;
+use crate::outcome::{FieldOutcome, told};
+use crate::set_slot::set_there;
+use crate::slots::{Place, fill, own_place, stored_place};
 use crate::stop::FieldStop;
-use crate::transitions::{put_new_layouts, set_shape};
-use handle_roots::{Given, Held};
-use object_cells::{SlotContent, SlotWrite, content_of, rep_of};
+use handle_roots::Given;
+use object_cells::SlotWrite;
 use object_graph::Rep;
-use shape_tree::ShapesFull;
-use tagged_word::Header;
-use write_barrier::{Main, NoRoom};
+use shape_tree::CachedSlot;
+use tagged_word::{Header, Word, shape};
+use write_barrier::Main;
 
-/// How the slot of a field is set.
-#[derive(Clone, Copy)]
-pub(crate) struct SlotSetting {
-    /// Where it stands.
-    pub(crate) place: Place,
-    /// The representation of its field before.
-    pub(crate) was: Rep,
-    /// The representation of its field afterwards: it never narrows.
-    pub(crate) rep: Rep,
-    /// What it comes to hold.
-    pub(crate) content: SlotContent,
-}
-
-/// How the slot of the field of this number and representation of the plain object at an address is set to a
-/// value, by the cap of its path.
-#[inline(always)]
-pub(crate) fn setting_of(
-    main: &Main,
-    object: u32,
-    shape: u32,
-    slot: u32,
-    was: Rep,
-    cap: u32,
-    value: Held,
-) -> SlotSetting
-    requires shown { IsShownSetting main.now object value }
-    requires there { HasField (heap_of main.now) object shape slot }
-    requires was { let fields = (shape_path main.now.paths shape).fields in
-        option_map (λ field. field.rep) (slice_get fields slot) ≡ Some was }
-    requires cap { cap ≡ (shape_path main.now.paths shape).cap }
-    ensures { IsSlotSetting (heap_of main.now) object shape slot value result }
-{
-    let place = slot_place(main, object, cap, slot);
-    let rep = was.join(rep_of(value));
-    SlotSetting {
-        place,
-        was,
-        rep,
-        content: content_of(place.is_own(), rep, value),
-    }
-}
-
-/// There may be as many paths as another representation of a field needs.
+/// Gives the field of the plain object at an address, which has this header, the value. A name that is new to the
+/// object becomes its last field.
+///
+/// Only shapes of plain objects are cached, so where a slot is cached the object is one, and its shape is not asked.
 ///
 /// # Errors
-/// There may not.
-fn room_for_change(main: &Main, shape: u32, slot: u32, rep: Rep) -> Result<(), ShapesFull>
-    requires path { IsPathShape main.now.paths shape }
-    requires there { slot < length (shape_path main.now.paths shape).fields }
-    ensures room { let path = changed (shape_path main.now.paths shape) slot rep in
-        OnOk result (length main.now.paths + length (missing main.now.paths path) ≤ paths_most) }
-    ensures refused { let path = changed (shape_path main.now.paths shape) slot rep in
-        IfErr result (λ full. LacksPathsFor main.now.paths main.now.paths path full) }
-{
-    let shapes = main.shapes();
-    // No path has more prefixes: mostly there is room for them, and none needs to be sought.
-    match shapes.room_for(shapes.fields(shape) + 1) {
-        Ok(()) => Ok(()),
-        Err(_) => shapes.room_for(shapes.missing_change(shape, slot, rep)),
-    }
-}
-
-/// The shape with another representation of a field. Its path is there from now on, with its
-/// prefixes and their layout words: there may be as many paths.
-fn changed_shape(main: &mut Main, shape: u32, slot: u32, rep: Rep) -> u32
-    requires quiet { main.old.seat.phase ≡ Quiet }
-    requires sized { HasSizes (heap_of main.old) }
-    requires path { IsPathShape main.old.paths shape }
-    requires there { slot < length (shape_path main.old.paths shape).fields }
-    requires room { let path = changed (shape_path main.old.paths shape) slot rep in
-        length main.old.paths + length (missing main.old.paths path) ≤ paths_most }
-    ensures leads { let path = changed (shape_path main.old.paths shape) slot rep in
-        Leads main.old.paths main.new.paths path result }
-    ensures sized { HasSizes (heap_of main.new) }
-    ensures changes { let space = main.old.seat.space in
-        let before = with_paths main.old main.new.paths in
-        ChangesWithin before main.new (layouts_start space) (marks_start space) }
-{
-    let before = main.shapes().paths();
-    let Ok(next) = main.shapes_mut().change(shape, slot, rep) else {
-        unreachable!()
-    };
-    put_new_layouts(main, before);
-    next
-}
-
-/// Tells the marking of an object one slot of which is about to become raw; of no other.
-fn blacken_for(main: &mut Main, object: u32, filling: SlotWrite)
-    requires quiet { main.old.seat.phase ≡ Quiet }
-    requires within { object < marks_start main.old.seat.space }
-    ensures { main.new ≡ main.old }
-{
-    match filling {
-        SlotWrite::Raw(_) => main.blacken(object),
-        SlotWrite::Tagged(_) | SlotWrite::NewBox { .. } | SlotWrite::OldBox { .. } => {}
-    }
-}
-
-/// Sets the slot of this number of the plain object at an address, whose field comes to have
-/// another representation, and the object another shape.
-///
-/// # Errors
-/// There may not be as many paths; there is no room for a box. In this order; nothing has changed.
-#[inline(always)]
-fn set_wider(
-    main: &mut Main,
-    object: u32,
-    header: Header,
-    slot: u32,
-    setting: SlotSetting,
-) -> Result<(), FieldStop>
-    requires can { CanSetSlot main.old object header.shape slot setting }
-    requires headed { IsHeaderAt (heap_of main.old) object header }
-    ensures { let path = changed (shape_path main.old.paths header.shape) slot setting.rep in
-        let at = place_at object setting.place in
-        SetsWider main.old main.new object at path setting.content result }
-{
-    let SlotSetting { place, rep, .. } = setting;
-    room_for_change(main, header.shape, slot, rep)?;
-    let filling = filling_of(main, object, place, setting.content)?;
-    let next = changed_shape(main, header.shape, slot, rep);
-    // Marking may not have looked at the slot, and will not where it is raw.
-    blacken_for(main, object, filling);
-    fill(main, object, place, filling);
-    set_shape(main, object, header, next);
-    Ok(())
-}
-
-/// The slot at a place of a plain object comes to hold this, by a filling: a box is made or written.
-#[inline(always)]
-fn set_by_filling(
-    main: &mut Main,
-    object: u32,
-    place: Place,
-    content: SlotContent,
-) -> Result<(), NoRoom>
-    requires whole { IsQuietWhole main.old }
-    requires tied { IsTied main.old }
-    requires within { place_at object place < marks_start main.old.seat.space }
-    requires held { let word = word_at (heap_of main.old) (place_at object place) in
-        HoldsSlotWord (heap_of main.old) word content }
-    ensures fills { OnOk result (FillsSlot main.old main.new (place_at object place) content) }
-    ensures refused { IfErr result (λ full.
-        LacksRoom main.old (filling_at main.old (place_at object place) content) full) }
-    ensures unchanged { OnErr result (main.new ≡ main.old) }
-{
-    let filling = filling_of(main, object, place, content)?;
-    fill(main, object, place, filling);
-    Ok(())
-}
-
-/// The slot at a place of a plain object comes to hold this; its shape stays.
-#[inline(always)]
-fn set_as_is(main: &mut Main, object: u32, place: Place, content: SlotContent) -> Result<(), NoRoom>
-    requires whole { IsQuietWhole main.old }
-    requires tied { IsTied main.old }
-    requires within { place_at object place < marks_start main.old.seat.space }
-    requires held { let word = word_at (heap_of main.old) (place_at object place) in
-        HoldsSlotWord (heap_of main.old) word content }
-    ensures fills { OnOk result (FillsSlot main.old main.new (place_at object place) content) }
-    ensures refused { IfErr result (λ full.
-        LacksRoom main.old (filling_at main.old (place_at object place) content) full) }
-    ensures unchanged { OnErr result (main.new ≡ main.old) }
-{
-    match content {
-        SlotContent::Tagged(word) => fill(main, object, place, SlotWrite::Tagged(word)),
-        SlotContent::Raw(word) => fill(main, object, place, SlotWrite::Raw(word)),
-        SlotContent::Boxed(_) => return set_by_filling(main, object, place, content),
-    }
-    Ok(())
-}
-
-/// Gives the field of this number and representation of the plain object at an address, whose path has this cap,
-/// the value. The representation never narrows, and the object gets another shape where it widens.
-#[inline(always)]
-pub(crate) fn set_by_setting(
-    main: &mut Main,
-    object: u32,
-    header: Header,
-    slot: u32,
-    rep: Rep,
-    cap: u32,
-    value: Held,
-) -> Result<(), FieldStop>
-    requires shown { IsShownSetting main.old object value }
-    requires headed { IsHeaderAt (heap_of main.old) object header }
-    requires there { HasField (heap_of main.old) object header.shape slot }
-    requires rep { let fields = (shape_path main.old.paths header.shape).fields in
-        option_map (λ field. field.rep) (slice_get fields slot) ≡ Some rep }
-    requires cap { cap ≡ (shape_path main.old.paths header.shape).cap }
-    ensures { (graph : Graph) (plain : PlainObject) (what : Value) (name : ℕ)
-        → MainShows main.old graph → IsPlainAt main.old graph object plain
-        → IsValueHeld main.old graph value what
-        → option_map (λ field. field.name) (slice_get plain.fields slot) ≡ Some name
-        → SetsField main.old main.new graph object plain name what result }
-{
-    main.addresses_fit();
-    let setting = setting_of(main, object, header.shape, slot, rep, cap, value);
-    if setting.rep != setting.was {
-        return set_wider(main, object, header, slot, setting);
-    }
-    set_as_is(main, object, setting.place, setting.content)?;
-    Ok(())
-}
-
-/// Gives the field of the plain object at an address the value. A name that is new to the object
-/// becomes its last field.
-///
-/// # Errors
-/// The object has 64 fields and the name is new; there may not be as many field paths; there is no
+/// The object is no plain one; it has 64 fields and the name is new; there may not be as many field paths; there is no
 /// room. In this order; nothing has changed.
 #[inline(always)]
-pub fn set(main: &mut Main, object: u32, name: u32, value: Given) -> Result<(), FieldStop>
-    requires { (held : What) × Gives value held × IsShownSetting main.old object held }
-    ensures { (held : What) → Gives value held
-        → (graph : Graph) (plain : PlainObject) (what : Value) → MainShows main.old graph
-        → IsPlainAt main.old graph object plain → IsValueHeld main.old graph held what
-        → SetsField main.old main.new graph object plain name what result }
+pub fn set<O: FieldOutcome>(
+    main: &mut Main,
+    object: u32,
+    header: Header,
+    name: u32,
+    value: FieldValue,
+) -> O
+    requires may { MaySet main.old object header (given_of value) }
+    requires is { IsFieldValue value }
+    ensures { (came : Result Unit Why) × O.Tells result came
+        × Sets main.old main.new object header name (given_of value) came }
 {
-    let header = main.header(object);
-    match main.locate(header.shape, name) {
-        Some(found) => set_given(main, object, header, found, value),
-        None => add_given(main, object, header, name, value),
+    match main.cached_slot(header.shape, name) {
+        CachedSlot::InObject(slot, rep) => {
+            let place = own_place(main, object, slot);
+            set_at(main, object, header, name, place, rep, value)
+        }
+        CachedSlot::InStore(slot, rep) => {
+            let place = stored_place(main, object, slot);
+            set_at(main, object, header, name, place, rep, value)
+        }
+        CachedSlot::Absent => add(main, object, header, name, value.given()),
+        CachedSlot::Miss => set_sought(main, object, header, name, value.given()),
+    }
+}
+
+/// The same where the slot at a place has the word of the field, which has this representation.
+#[inline(always)]
+fn set_at<O: FieldOutcome>(
+    main: &mut Main,
+    object: u32,
+    header: Header,
+    name: u32,
+    place: Place,
+    rep: Rep,
+    value: FieldValue,
+) -> O
+    requires may { MaySet main.old object header (given_of value) }
+    requires is { IsFieldValue value }
+    requires there { (found : Found) × HasWordAt main.old object header.shape name found place × (found.rep ≡ rep) }
+    ensures { (came : Result Unit Why) × O.Tells result came
+        × Sets main.old main.new object header name (given_of value) came }
+{
+    match taken_by(rep, value) {
+        Some(word) => {
+            main.addresses_fit();
+            fill(main, object, place, SlotWrite::Tagged(word));
+            O::done()
+        }
+        None => set_sought(main, object, header, name, value.given()),
+    }
+}
+
+/// The word of a value that the slot of a field of this representation, which is no wide one, takes as it is.
+#[inline(always)]
+fn taken_by(rep: Rep, value: FieldValue) -> Option<Word>
+    requires not_wide { rep ≢ Wide }
+    requires is { IsFieldValue value }
+    ensures { IfSome result (λ word. (given_of value ≡ given.Word word)
+        × ((held : What) → IsGivenFor (given_of value) held → KeepsTagged rep held word)) }
+{
+    match value {
+        FieldValue::Small(word) => Some(word),
+        FieldValue::Any(Given::Word(word)) if rep == Rep::Tagged => Some(word),
+        FieldValue::Any(_) => None,
+    }
+}
+
+/// The same as `set` where no slot is cached that takes the value's word as it is.
+#[cold]
+#[inline(never)]
+fn set_sought<O: FieldOutcome>(
+    main: &mut Main,
+    object: u32,
+    header: Header,
+    name: u32,
+    value: Given,
+) -> O
+    requires may { MaySet main.old object header value }
+    ensures { (came : Result Unit Why) × O.Tells result came
+        × Sets main.old main.new object header name value came }
+{
+    if header.shape < shape::PATHS {
+        return O::refused(FieldStop::NotPlain);
+    }
+    match main.lookup(header.shape, name) {
+        Some(found) => told(set_there(
+            main,
+            object,
+            header,
+            found.at,
+            found.rep,
+            found.cap as u32,
+            value.held(),
+        )),
+        None => add(main, object, header, name, value),
     }
 }

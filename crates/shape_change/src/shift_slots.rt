@@ -3,12 +3,12 @@ ghost use Rattle.std.specs.Prelude.{◌≡◌, ◌+◌, ◌-◌, ◌<◌, ◌≤
 ghost use Rattle.tagged_word.specs.Cells.{plain_head, store_head};
 ghost use Rattle.page_space.specs.Extents.{marks_start};
 ghost use Rattle.shape_tree.specs.Shapes.{IsPathShape, shape_path};
-ghost use Rattle.heap_table.specs.declared.phase.Phase.TheVariants.{Quiet};
 ghost use Rattle.heap_table.specs.Seats.{heap_words};
 ghost use Rattle.heap_model.specs.Slots.{hole_word};
 ghost use Rattle.write_barrier.specs.Recording.{Touches, touched_one};
 ghost use Rattle.shape_change.specs.Shifts.{KeepsRest, MovesDown, ClosesGap, ClosesSlots, SlotsWithin};
 ghost use Rattle.shape_change.specs.Shifts.{beside_touch, field_touch, own_touch};
+ghost use Rattle.write_barrier.specs.MutatorState.{MayStore};
 
 use object_graph::Rep;
 use tagged_word::cell::{PLAIN_HEAD, STORE_HEAD};
@@ -18,7 +18,7 @@ use write_barrier::Main;
 /// Puts a word in the in-object slot of a field: as it is where the field is wide, and else as a
 /// value. No other word changes.
 fn put_own(main: &mut Main, object: u32, shape: u32, slot: u32, word: u64)
-    requires quiet { main.old.seat.phase ≡ Quiet }
+    requires may_store { MayStore main.old }
     requires path { IsPathShape main.old.paths shape }
     requires field { slot < length (shape_path main.old.paths shape).fields }
     requires within { object + (plain_head + slot) < marks_start main.old.seat.space }
@@ -39,7 +39,7 @@ fn put_own(main: &mut Main, object: u32, shape: u32, slot: u32, word: u64)
 
 /// Moves in-object slots down by one: those from one slot up to another become the next.
 fn move_own(main: &mut Main, object: u32, shape: u32, from: u32, to: u32)
-    requires quiet { main.old.seat.phase ≡ Quiet }
+    requires may_store { MayStore main.old }
     requires path { IsPathShape main.old.paths shape }
     requires fields { to ≤ length (shape_path main.old.paths shape).fields }
     requires order { from ≤ to }
@@ -58,7 +58,7 @@ fn move_own(main: &mut Main, object: u32, shape: u32, from: u32, to: u32)
 /// Moves the slots of a property store down by one: those from one slot up to another become the
 /// next.
 fn move_beside(main: &mut Main, store: u32, from: u32, to: u32)
-    requires quiet { main.old.seat.phase ≡ Quiet }
+    requires may_store { MayStore main.old }
     requires order { from ≤ to }
     requires within { store + (store_head + to) < marks_start main.old.seat.space }
     ensures { let at = store + (store_head + from) in
@@ -73,7 +73,7 @@ fn move_beside(main: &mut Main, store: u32, from: u32, to: u32)
 
 /// Moves in-object slots down by one, and puts a word in the last, which is that of a field.
 fn draw_in(main: &mut Main, object: u32, shape: u32, from: u32, last: u32, word: u64)
-    requires quiet { main.old.seat.phase ≡ Quiet }
+    requires may_store { MayStore main.old }
     requires path { IsPathShape main.old.paths shape }
     requires fields { last < length (shape_path main.old.paths shape).fields }
     requires order { from ≤ last }
@@ -91,7 +91,7 @@ fn draw_in(main: &mut Main, object: u32, shape: u32, from: u32, last: u32, word:
 /// Moves the in-object slots of the fields of a shape down by one, from one slot on; the slot
 /// behind them holds nothing then.
 pub(crate) fn close_own(main: &mut Main, object: u32, shape: u32, from: u32)
-    requires quiet { main.old.seat.phase ≡ Quiet }
+    requires may_store { MayStore main.old }
     requires path { IsPathShape main.old.paths shape }
     requires order { from ≤ length (shape_path main.old.paths shape).fields }
     requires within { let last = length (shape_path main.old.paths shape).fields in
@@ -109,7 +109,7 @@ pub(crate) fn close_own(main: &mut Main, object: u32, shape: u32, from: u32)
 
 /// Moves the slots of a property store down by one; the last holds nothing then.
 fn close_beside(main: &mut Main, store: u32, from: u32, last: u32)
-    requires quiet { main.old.seat.phase ≡ Quiet }
+    requires may_store { MayStore main.old }
     requires order { from ≤ last }
     requires within { store + (store_head + last) < marks_start main.old.seat.space }
     ensures { let at = store + (store_head + from) in
@@ -131,7 +131,7 @@ pub(crate) fn close_both(
     slot: u32,
     first: u64,
 )
-    requires quiet { main.old.seat.phase ≡ Quiet }
+    requires may_store { MayStore main.old }
     requires path { IsPathShape main.old.paths shape }
     requires order { slot ≤ length (shape_path main.old.paths shape).fields }
     requires beside { let path = shape_path main.old.paths shape in

@@ -9,14 +9,13 @@ ghost use Rattle.page_space.specs.Extents.{marks_start};
 ghost use Rattle.object_graph.specs.declared.value.Value.{Value};
 ghost use Rattle.heap_model.specs.Slots.{IsFieldWord};
 ghost use Rattle.heap_model.specs.Showing.{ShowsField};
-ghost use Rattle.write_barrier.specs.MutatorState.{heap_of, IsTied, with_variable};
+ghost use Rattle.write_barrier.specs.MutatorState.{MayStore, heap_of, IsTied, with_variable};
 ghost use Rattle.heap_table.specs.Seats.{heap_words};
 ghost use Rattle.std.specs.Int.{cast_signed, w64};
 ghost use Rattle.handle_roots.specs.declared.held.Held.TheVariants as held;
 ghost use Rattle.handle_roots.specs.Roots.{FitsHeld, with_root};
 ghost use Rattle.shape_change.specs.FieldChanges.{HoldsValue};
 ghost use Rattle.object_cells.specs.CellsAt.{IsQuietWhole, HasPlainSlot, IsCapAt};
-ghost use Rattle.heap_table.specs.declared.phase.Phase.TheVariants.{Quiet};
 ghost use Rattle.heap_model.specs.Needs.{word_at};
 ghost use Rattle.tagged_word.specs.declared.word.Class.{Class as WordClass};
 ghost use Rattle.tagged_word.specs.Words.{IsClass, bits_of};
@@ -65,8 +64,7 @@ fn is_raw(own: bool, rep: Rep) -> bool
 /// What the word of a slot that is not raw, and no small integer's, stands for.
 #[inline(always)]
 fn value_of_odd(main: &Main, word: Word) -> Held
-    requires quiet { main.now.seat.phase ≡ Quiet }
-    requires within { (at : ℕ) → reference_in word.0 ≡ Some at
+    requires { (at : ℕ) → reference_in word.0 ≡ Some at
         → at + 1 < marks_start main.now.seat.space }
     ensures { (class : WordClass) → IsClass class → word.0 ≡ bits_of class
         → result ≡ held_of_class (heap_of main.now) class }
@@ -82,7 +80,7 @@ fn value_of_odd(main: &Main, word: Word) -> Held
 /// small integer, whose word is the variable's first root word too.
 #[inline(always)]
 pub(crate) fn hold_tagged(main: &mut Main, variable: u32, word: Word)
-    requires quiet { main.old.seat.phase ≡ Quiet }
+    requires may_store { MayStore main.old }
     requires known { variable < main.old.seat.space.variables }
     requires class { (class : WordClass) × IsClass class × (word.0 ≡ bits_of class) }
     requires within { (at : ℕ) → reference_in word.0 ≡ Some at
@@ -96,7 +94,7 @@ pub(crate) fn hold_tagged(main: &mut Main, variable: u32, word: Word)
     ensures fits { (class : WordClass) → IsClass class → word.0 ≡ bits_of class →
         FitsHeld (held_of_class (heap_of main.old) class) }
 {
-    if word.0 % 2 == 0 {
+    if word.is_small() {
         main.hold_word(variable, word);
     } else {
         hold_odd(main, variable, word);
@@ -106,7 +104,7 @@ pub(crate) fn hold_tagged(main: &mut Main, variable: u32, word: Word)
 /// The same of a word that is no small integer's.
 #[inline(always)]
 fn hold_odd(main: &mut Main, variable: u32, word: Word)
-    requires quiet { main.old.seat.phase ≡ Quiet }
+    requires may_store { MayStore main.old }
     requires known { variable < main.old.seat.space.variables }
     requires class { (class : WordClass) × IsClass class × (word.0 ≡ bits_of class) }
     requires within { (at : ℕ) → reference_in word.0 ≡ Some at
@@ -127,7 +125,7 @@ fn hold_odd(main: &mut Main, variable: u32, word: Word)
 /// Makes a variable hold the integer of a raw word.
 #[inline(always)]
 fn hold_raw(main: &mut Main, variable: u32, word: u64)
-    requires quiet { main.old.seat.phase ≡ Quiet }
+    requires may_store { MayStore main.old }
     requires known { variable < main.old.seat.space.variables }
     ensures held { main.new ≡ with_variable main.old variable (held.Int (cast_signed w64 word)) }
     ensures heap { let words = heap_words main.old.seat in
@@ -203,7 +201,7 @@ pub(crate) fn stored_place(main: &Main, object: u32, slot: u32) -> Place
     ensures within { place_at object result < marks_start main.now.seat.space }
 {
     main.addresses_fit();
-    let store = (main.slot(object, STORE_SLOT) / 4) as u32;
+    let store = Word(main.slot(object, STORE_SLOT)).known_address();
     Place::InStore {
         store,
         offset: STORE_HEAD + slot,
@@ -268,7 +266,7 @@ pub(crate) fn filling_of(
 /// Fills the slot at a place of an object.
 #[inline(always)]
 pub(crate) fn fill(main: &mut Main, object: u32, place: Place, filling: SlotWrite)
-    requires quiet { main.old.seat.phase ≡ Quiet }
+    requires may_store { MayStore main.old }
     requires within { place_at object place < marks_start main.old.seat.space }
     requires room { IsBeforeMarks main.old.seat.space filling }
     ensures { main.new ≡ contents.filled main.old (place_at object place) filling }

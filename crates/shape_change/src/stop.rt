@@ -7,6 +7,8 @@ use write_barrier::NoRoom;
 /// Why a field is not set. Nothing has changed.
 #[derive(Clone, Copy)]
 pub enum FieldStop {
+    /// The object is no plain one.
+    NotPlain,
     /// The name is new, and the object has 64 fields.
     FieldsFull,
     /// There may not be as many field paths.

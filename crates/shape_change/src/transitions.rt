@@ -3,11 +3,10 @@
 ghost use Rattle.std.specs.Prelude.{◌≡◌, ◌<◌, ◌≤◌, false, length, ◌+◌, ℕ, slice_get, slice_set};
 ghost use Rattle.std.specs.Prelude.{take, Some};
 ghost use Rattle.object_graph.specs.Invariants.{fields_most};
-ghost use Rattle.heap_table.specs.declared.phase.Phase.TheVariants.{Quiet};
 ghost use Rattle.heap_model.specs.Wholeness.{HasSizes};
 ghost use Rattle.shape_tree.specs.Shapes.{IsPathShape, shape_path, has_name, stepped, Leads};
 ghost use Rattle.shape_tree.specs.Growth.{IsStep};
-ghost use Rattle.write_barrier.specs.MutatorState.{heap_of, with_word};
+ghost use Rattle.write_barrier.specs.MutatorState.{MayStore, heap_of, with_word};
 ghost use Rattle.shape_change.specs.Deletions.{shaped_bits};
 ghost use Rattle.shape_change.specs.Additions.{AddsPath};
 ghost use Rattle.tagged_word.specs.Shapes.{shapes_most};
@@ -39,7 +38,7 @@ fn add_path(main: &mut Main, shape: u32, field: PathField, step: Step) -> u32
 /// it is missing.
 #[inline(always)]
 pub(crate) fn step_to(main: &mut Main, shape: u32, field: PathField, step: Step) -> u32
-    requires quiet { main.old.seat.phase ≡ Quiet }
+    requires may_store { MayStore main.old }
     requires sized { HasSizes (heap_of main.old) }
     requires path { IsPathShape main.old.paths shape }
     requires is_new { has_name (shape_path main.old.paths shape) field.name ≡ false }
@@ -61,7 +60,7 @@ pub(crate) fn step_to(main: &mut Main, shape: u32, field: PathField, step: Step)
 #[cold]
 #[inline(never)]
 fn add_laid(main: &mut Main, shape: u32, field: PathField, step: Step) -> u32
-    requires quiet { main.old.seat.phase ≡ Quiet }
+    requires may_store { MayStore main.old }
     requires sized { HasSizes (heap_of main.old) }
     requires path { IsPathShape main.old.paths shape }
     requires is_new { has_name (shape_path main.old.paths shape) field.name ≡ false }
@@ -79,7 +78,7 @@ fn add_laid(main: &mut Main, shape: u32, field: PathField, step: Step) -> u32
 
 /// Puts the layout words of the paths that were added behind the first `before`.
 pub(crate) fn put_new_layouts(main: &mut Main, before: u32)
-    requires quiet { main.old.seat.phase ≡ Quiet }
+    requires may_store { MayStore main.old }
     requires fewer { before ≤ length main.old.paths }
     requires were { (shape : ℕ) → shape < shapes_most
         → let at = layouts_start main.old.seat.space + shape in
@@ -98,7 +97,7 @@ pub(crate) fn put_new_layouts(main: &mut Main, before: u32)
 
 /// Gives an object another shape. No other word changes.
 pub(crate) fn set_shape(main: &mut Main, object: u32, header: Header, shape: u32)
-    requires quiet { main.old.seat.phase ≡ Quiet }
+    requires may_store { MayStore main.old }
     requires within { object < marks_start main.old.seat.space }
     requires path { IsPathShape main.old.paths shape }
     ensures put { main.new ≡ with_word main.old object (shaped_bits header shape) }

@@ -15,9 +15,9 @@ use Rattle.shape_tree.specs.declared.look_ups.LookUp.{LookUp}
 use Rattle.shape_tree.specs.declared.look_ups.Site.{Site}
 use Rattle.shape_tree.specs.declared.look_ups.Site.TheVariants.{Own, Stored, Other}
 use Rattle.shape_tree.specs.Shapes.{IsPathShape, IsLocated, has_name, shape_path}
-use Rattle.shape_tree.specs.Nodes.{IsLookedUp, AreLookedUp, HasLocated, HasWord, TellsOf, Keeps, found_in, place_in}
+use Rattle.shape_tree.specs.Nodes.{IsLookedUp, AreLookedUp, HasLocated, HasWord, TellsOf, Keeps, found_in, cached_in}
 use Rattle.shape_tree.specs.Nodes.{look_up_entries, no_look_up}
-use Rattle.shape_tree.specs.Recalling.{HasWordField, IsPlaced}
+use Rattle.shape_tree.specs.CachedSlots.{HasWordField, IsCachedSlot}
 use Rattle.shape_tree.proofs.ShapePaths.{IsPathShape-append, shape_path-append}
 
 -- what stands for none tells of no path
@@ -166,25 +166,25 @@ has_word paths look_up is word =
       not_wide = word.not_wide;
     }
 
--- an entry's slot has the word of the field of its name, by its site
-placed_by : (paths : List Path) (shape name at cap : ℕ) (rep : Rep) (is_there : Bool) (site : Site) (slot : ℕ)
+-- what an entry has of its shape and name is true of them, by its site
+cached_by : (paths : List Path) (shape name at cap : ℕ) (rep : Rep) (is_there : Bool) (site : Site) (slot : ℕ)
     → IsLookedUp paths (entry_of shape name at cap rep is_there site slot)
-    → IsPlaced paths shape name (place_in (entry_of shape name at cap rep is_there site slot))
-placed_by paths shape name at cap rep is_there Own slot is =
+    → IsCachedSlot paths shape name (cached_in (entry_of shape name at cap rep is_there site slot))
+cached_by paths shape name at cap rep is_there Own slot is =
     let word = has_word paths (entry_of shape name at cap rep is_there Own slot) is is.sited.0 in
-    (_, word, sym is.sited.1, omega (arith, is.sited.1, is.sited.2))
-placed_by paths shape name at cap rep is_there Stored slot is =
+    (_, word, refl, sym is.sited.1, omega (arith, is.sited.1, is.sited.2))
+cached_by paths shape name at cap rep is_there Stored slot is =
     let word = has_word paths (entry_of shape name at cap rep is_there Stored slot) is is.sited.0 in
-    (_, word, is.sited.1)
-placed_by paths shape name at cap rep true Other slot is = tt
-placed_by paths shape name at cap rep false Other slot is = is.tells
+    (_, word, refl, is.sited.1)
+cached_by paths shape name at cap rep true Other slot is = tt
+cached_by paths shape name at cap rep false Other slot is = is.tells
 
--- so the place by an entry for a shape and name is that of the field's word
-pub placed_at : (paths : List Path) (cache : List LookUp) (entry shape name : ℕ) (look_up : LookUp)
+-- so what an entry for a shape and name has is true of them
+pub cached_at : (paths : List Path) (cache : List LookUp) (entry shape name : ℕ) (look_up : LookUp)
     → AreLookedUp paths cache → entry < look_up_entries → look_up ≡ get_or cache entry look_up
-    → look_up.shape ≡ shape → look_up.name ≡ name → IsPlaced paths shape name (place_in look_up)
-placed_at paths cache entry shape name look_up are within at same called =
-    let placed = placed_by paths look_up.shape look_up.name look_up.at look_up.cap look_up.rep look_up.is_there
+    → look_up.shape ≡ shape → look_up.name ≡ name → IsCachedSlot paths shape name (cached_in look_up)
+cached_at paths cache entry shape name look_up are within at same called =
+    let cached = cached_by paths look_up.shape look_up.name look_up.at look_up.cap look_up.rep look_up.is_there
     look_up.site look_up.slot (entry_at paths cache entry look_up are within at) in
-    subst (λ s. IsPlaced paths s name (place_in look_up)) same
-    (subst (λ n. IsPlaced paths look_up.shape n (place_in look_up)) called placed)
+    subst (λ s. IsCachedSlot paths s name (cached_in look_up)) same
+    (subst (λ n. IsCachedSlot paths look_up.shape n (cached_in look_up)) called cached)

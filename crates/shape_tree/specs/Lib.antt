@@ -3,6 +3,6 @@ pub mod ShapeLayouts
 pub mod Growth
 pub mod Nodes
 pub mod Trees
-pub mod Recalling
+pub mod CachedSlots
 pub mod Walks
 pub mod Laws

@@ -16,8 +16,8 @@ use Rattle.shape_tree.specs.declared.alterations.Alteration.{Alteration}
 use Rattle.shape_tree.specs.declared.alterations.Becomes.{Becomes}
 use Rattle.shape_tree.specs.declared.alterations.Becomes.TheVariants.{To, Gone}
 use Rattle.shape_tree.specs.declared.located.Located.{Located}
-use Rattle.shape_tree.specs.declared.located.WordPlace.{WordPlace}
-use Rattle.shape_tree.specs.declared.located.WordPlace.TheVariants.{InObject, InStore, Nowhere, Elsewhere}
+use Rattle.shape_tree.specs.declared.located.CachedSlot.{CachedSlot}
+use Rattle.shape_tree.specs.declared.located.CachedSlot.TheVariants.{InObject, InStore, Absent, Miss}
 use Rattle.shape_tree.specs.declared.look_ups.LookUp.{LookUp}
 use Rattle.shape_tree.specs.declared.look_ups.Site.{Site}
 use Rattle.shape_tree.specs.declared.look_ups.Site.TheVariants.{Own, Stored, Other}
@@ -125,14 +125,14 @@ found_in look_up =
     }))
     None
 
--- where an object of the shape has the word of the field, by the entry
-abbrev pub place_in : LookUp → WordPlace
-place_in look_up = by_site look_up.site
+-- what the entry has of its shape and name
+abbrev pub cached_in : LookUp → CachedSlot
+cached_in look_up = by_site look_up.site
   where
-    by_site : Site → WordPlace
-    by_site Own = InObject look_up.slot
-    by_site Stored = InStore look_up.slot
-    by_site Other = cond look_up.is_there Elsewhere Nowhere
+    by_site : Site → CachedSlot
+    by_site Own = InObject look_up.slot look_up.rep
+    by_site Stored = InStore look_up.slot look_up.rep
+    by_site Other = cond look_up.is_there Miss Absent
 
 -- the path has this cap, and the field at this place
 pub record HasLocated (path : Path) (found : Located) : Type 0 where

@@ -43,7 +43,7 @@ impl ShapeTree {
     {
         let fields = self.fields_of(shape);
         let name = fields[at as usize].name;
-        let next = self.next(self.ancestor(shape, at), PathField { name, rep })?;
+        let next = self.child(self.ancestor(shape, at), PathField { name, rep })?;
         self.there_along(next, &fields[at as usize + 1..])
     }
 
@@ -100,7 +100,7 @@ impl ShapeTree {
     {
         // Opens the tree: the proof needs what holds of each.
         let _ = &self.nodes;
-        match self.next(shape, field) {
+        match self.child(shape, field) {
             Some(next) => Ok(Step::Found(next)),
             None => {
                 self.room_for(1)?;
@@ -227,7 +227,7 @@ impl ShapeTree {
         let _ = &self.nodes;
         let fields = self.fields_of(shape);
         let name = fields[at as usize].name;
-        let Some(next) = self.next(self.ancestor(shape, at), PathField { name, rep }) else {
+        let Some(next) = self.child(self.ancestor(shape, at), PathField { name, rep }) else {
             // No path with a missing prefix is there.
             return fields.len() as u32 - at;
         };

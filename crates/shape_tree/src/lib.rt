@@ -8,7 +8,6 @@
 #![tactic(auto)]
 
 mod alterations;
-mod altering;
 mod cached;
 mod changing;
 mod full;
@@ -24,7 +23,7 @@ mod tree;
 mod walking;
 
 pub use full::ShapesFull;
-pub use located::{Located, Recalled, WordPlace};
+pub use located::{CachedSlot, Located};
 pub use object_graph::{PathField, Rep};
 pub use transition::Step;
 pub use tree::ShapeTree;

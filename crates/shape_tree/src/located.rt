@@ -16,26 +16,15 @@ pub struct Located {
     pub rep: Rep,
 }
 
-/// Where an object of a shape has the word of the field of a name, as far as it is at hand.
+/// What the look-up cache has of a shape and a name. A field that is not wide has its word in a slot.
 #[derive(Clone, Copy)]
-pub enum WordPlace {
-    /// In the in-object slot of this number.
-    InObject(u32),
-    /// In the slot of this number of the property store.
-    InStore(u32),
+pub enum CachedSlot {
+    /// The in-object slot of this number has the field's word, and this is the field's representation.
+    InObject(u32, Rep),
+    /// The slot of this number of the property store has it.
+    InStore(u32, Rep),
     /// There is no field of the name.
-    Nowhere,
-    /// It is a wide field, or it is to be sought.
-    Elsewhere,
-}
-
-/// What is at hand of a look-up by shape and name.
-#[derive(Clone, Copy)]
-pub enum Recalled {
-    /// The field was found.
-    Field(Located),
-    /// The path has no field of the name.
-    NoField,
-    /// It is to be sought.
-    Unknown,
+    Absent,
+    /// The field is wide, or the name was not looked up: `lookup` finds out.
+    Miss,
 }

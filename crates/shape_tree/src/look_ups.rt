@@ -7,9 +7,9 @@ ghost use Rattle.heap_command.specs.Commands.{cap_most};
 ghost use Rattle.object_graph.specs.declared.value.Rep.TheVariants.{Wide};
 ghost use Rattle.object_graph.specs.Invariants.{fields_most};
 ghost use Rattle.shape_tree.specs.declared.look_ups.Site.TheVariants.{Own, Stored};
-ghost use Rattle.shape_tree.specs.Nodes.{no_look_up, look_up_entries, found_in, place_in, TellsOf, IsSited, Keeps};
+ghost use Rattle.shape_tree.specs.Nodes.{no_look_up, look_up_entries, found_in, cached_in, TellsOf, IsSited, Keeps};
 
-use crate::located::{Located, WordPlace};
+use crate::located::{CachedSlot, Located};
 use object_graph::{PathField, Rep};
 
 /// How many entries the cache has.
@@ -182,16 +182,17 @@ impl LookUp {
         }
     }
 
-    /// Where an object of its shape has the word of the field.
+    /// What it has of its shape and name.
     #[inline(always)]
-    pub(crate) fn place(&self) -> WordPlace
-        ensures { result ≡ place_in self.now }
+    pub(crate) fn cached(&self) -> CachedSlot
+        ensures { result ≡ cached_in self.now }
     {
+        let slot = self.slot as u32;
         match self.site {
-            Site::Own => WordPlace::InObject(self.slot as u32),
-            Site::Stored => WordPlace::InStore(self.slot as u32),
-            Site::Other if self.is_there => WordPlace::Elsewhere,
-            Site::Other => WordPlace::Nowhere,
+            Site::Own => CachedSlot::InObject(slot, self.rep),
+            Site::Stored => CachedSlot::InStore(slot, self.rep),
+            Site::Other if self.is_there => CachedSlot::Miss,
+            Site::Other => CachedSlot::Absent,
         }
     }
 }

@@ -6,12 +6,12 @@ ghost use Rattle.object_graph.specs.Paths.{prefix_of};
 ghost use Rattle.heap_command.specs.Commands.{cap_most};
 ghost use Rattle.object_graph.specs.Invariants.{IsPath, fields_most};
 ghost use Rattle.shape_tree.specs.Shapes.{AreShapes, IsPathShape, IsShapeOf, shape_path, has_name, IsLocated};
-ghost use Rattle.shape_tree.specs.Recalling.{IsRecalled, IsPlaced};
+ghost use Rattle.shape_tree.specs.CachedSlots.{IsCachedSlot};
 ghost use Rattle.shape_tree.specs.ShapeLayouts.{IsInUse, layout_of, layout_word};
 ghost use Rattle.shape_tree.specs.Nodes.{IsNodeOf};
 
-use crate::located::{Located, Recalled, WordPlace};
-use crate::look_ups::{keep_look_up, look_up_index, place_of};
+use crate::located::{CachedSlot, Located};
+use crate::look_ups::{keep_look_up, look_up_index};
 use crate::node::Node;
 use crate::tree::{FIRST, ShapeTree};
 use object_graph::PathField;
@@ -117,22 +117,10 @@ impl ShapeTree {
         }
     }
 
-    /// The place of the field of this name in the path of a shape.
-    #[inline(always)]
-    pub fn find(&self, shape: u32, name: u32) -> Option<u32>
-        requires { IsPathShape self.now shape }
-        ensures found { let fields = (shape_path self.now shape).fields in
-            IfSome result (λ at.
-            option_map (λ field. field.name) (slice_get fields at) ≡ Some name) }
-        ensures none { IsNone result ↔ (has_name (shape_path self.now shape) name ≡ false) }
-    {
-        place_of(self.fields_of(shape), name)
-    }
-
     /// Where the field of this name stands in the path of a shape. What was found, a field or none, is kept at
     /// hand, so that it is found at once the next time.
     #[inline(always)]
-    pub fn locate(&mut self, shape: u32, name: u32) -> Option<Located>
+    pub fn lookup(&mut self, shape: u32, name: u32) -> Option<Located>
         requires { IsPathShape self.old shape }
         ensures found { IfSome result (λ found.
             IsLocated self.old found × (found.shape ≡ shape) × (found.name ≡ name)) }
@@ -149,33 +137,17 @@ impl ShapeTree {
         self.look_ups[entry].found()
     }
 
-    /// What is at hand of the look-up of this name in the path of a shape. Nothing is sought.
+    /// What the look-up cache has of this name in the path of a shape. Nothing is sought, and the shape may be any:
+    /// only those of paths are cached.
     #[inline(always)]
-    pub fn recall(&self, shape: u32, name: u32) -> Recalled
-        requires { IsPathShape self.now shape }
-        ensures { IsRecalled self.now shape name result }
-    {
-        let look_up = &self.look_ups[look_up_index(shape, name)];
-        if !look_up.is_for(shape, name) {
-            return Recalled::Unknown;
-        }
-        match look_up.found() {
-            Some(found) => Recalled::Field(found),
-            None => Recalled::NoField,
-        }
-    }
-
-    /// Where the word of the field of this name stands in an object of this shape, as far as it is at hand. Nothing is
-    /// sought, and the shape may be any.
-    #[inline(always)]
-    pub fn recall_place(&self, shape: u32, name: u32) -> WordPlace
-        ensures { IsPlaced self.now shape name result }
+    pub fn cached_slot(&self, shape: u32, name: u32) -> CachedSlot
+        ensures { IsCachedSlot self.now shape name result }
     {
         let kept = &self.look_ups[look_up_index(shape, name)];
         if !kept.is_for(shape, name) {
-            return WordPlace::Elsewhere;
+            return CachedSlot::Miss;
         }
-        kept.place()
+        kept.cached()
     }
 
     /// The shape of the path without its last field.

@@ -23,7 +23,7 @@ impl ShapeTree {
 
     /// The shape of the path with this field more, if it is there.
     #[inline(always)]
-    pub(crate) fn next(&self, shape: u32, field: PathField) -> Option<u32>
+    pub(crate) fn child(&self, shape: u32, field: PathField) -> Option<u32>
         requires { IsPathShape self.now shape }
         ensures { let path = extended (shape_path self.now shape) (field ∷ []) in
             MatchOption result (IsMissing self.now path) (IsShapeOf self.now path) }
@@ -36,12 +36,12 @@ impl ShapeTree {
         if cached.is_for(step) {
             return Some(cached.shape);
         }
-        self.look_up(shape, field)
+        self.child_in_table(shape, field)
     }
 
     /// The same by the table of transitions. It hashes, so it is kept out of line.
     #[inline(never)]
-    fn look_up(&self, shape: u32, field: PathField) -> Option<u32>
+    fn child_in_table(&self, shape: u32, field: PathField) -> Option<u32>
         requires { IsPathShape self.now shape }
         ensures { let path = extended (shape_path self.now shape) (field ∷ []) in
             MatchOption result (IsMissing self.now path) (IsShapeOf self.now path) }
@@ -79,7 +79,7 @@ impl ShapeTree {
         let mut shape = from;
         let mut rest = tail;
         while let [field, later @ ..] = rest {
-            let Some(next) = self.next(shape, *field) else {
+            let Some(next) = self.child(shape, *field) else {
                 return Walk { shape, rest };
             };
             shape = next;

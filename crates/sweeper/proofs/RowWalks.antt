@@ -1,23 +1,23 @@
--- A sweep along the row of a region: how it begins, that a cell stands where it comes to, and how it ends.
-use Rattle.std.proofs.Common.{◌≡◌, ◌≢◌, ℕ, ◌+◌, ◌≤◌, ◌<◌, inl, inr, List, [], ◌∷◌, Some, slice_get}
-use Rattle.std.proofs.Common.{refl, sym, ◌∙◌, ap, subst, arith}
+-- A sweep along the row of a region: how it begins, that the cells to come stand as they did, and how it ends.
+use Rattle.std.proofs.Common.{◌≡◌, ℕ, ◌+◌, ◌≤◌, inl, inr, List, [], ◌∷◌, Contains, slice_get}
+use Rattle.std.proofs.Common.{refl, sym, ◌∙◌, subst, arith}
 use Rattle.std.proofs.lemmas.Bool.{cases_lt}
+use Rattle.std.proofs.lemmas.List.Elements.{All-weaker, All-contains_itself}
 use Rattle.tagged_word.specs.Shapes.{shapes_most}
 use Rattle.page_space.specs.Extents.{Space, layouts_start}
 use Rattle.page_space.proofs.Starts.{layouts_start_is}
-use Rattle.cell_layout.specs.Cells.{IsCell, IsRow, none, layouts_in}
+use Rattle.cell_layout.specs.CellLaws.{ReadsAlike}
+use Rattle.cell_layout.specs.Cells.{IsRow, none, layouts_in}
 use Rattle.cell_layout.proofs.CellsThere.{slice_get-layouts_in, slice_get-layouts_past}
-use Rattle.cell_layout.proofs.OneCell.{cells_stay, cells_have_words}
-use Rattle.cell_layout.proofs.Rows.{row_begins, row_of_none, first_ends}
-use Rattle.cell_reading.specs.Standing.{StandsAt}
+use Rattle.cell_layout.proofs.Rows.{cell_within, rows_stay}
 use Rattle.heap_model.specs.Types.{Cell}
 use Rattle.heap_model.specs.Heaps.{Heap}
 use Rattle.heap_model.proofs.RegionRows.{row_between}
-use Rattle.heap_model.proofs.RowEnds.{first_word_counts}
 use Rattle.heap_table.specs.Seats.{heap_words}
 use Rattle.write_barrier.specs.MutatorState.{Mutator, heap_of}
-use Rattle.cell_reading.specs.Limits.{IsLimit}
-use Rattle.sweeper.specs.Sweeping.{InRow, MaySweep, Sweeping}
+use Rattle.heap_walk.specs.Limits.{IsLimit}
+use Rattle.heap_walk.specs.Walks.{StandAhead, IsNext}
+use Rattle.sweeper.specs.Sweeping.{InRow, MayPass, MaySweep, Sweeping}
 use Rattle.sweeper.proofs.Gaps.{ahead_stays}
 use Rattle.sweeper.proofs.SweptRows.{region_is_swept}
 use Rattle.sweeper.proofs.SweepSteps.{sweep_further}
@@ -48,14 +48,6 @@ walk_begins {first} {start = start} may is_limit =
       short = omega arith;
       before = λ of_page gap there. inr (may.sweeping.swept.below gap there);
     }
-
--- the next cell of the row, as it stands in the words of now
-pub record IsNext (first now : Mutator) (rest : List Cell) (at : ℕ) : Type 0 where
-  pub cell : Cell
-  pub more : List Cell
-  pub next : rest ≡ cell ∷ more
-  pub stands : StandsAt now.seat.space (heap_words now.seat) at cell
-  pub some : 1 ≤ cell.size
 
 module _ {first now : Mutator} {marked : List ℕ} {start end limit from at : ℕ}
     (state : InRow first now marked start end limit from at) where
@@ -90,75 +82,48 @@ module _ {first now : Mutator} {marked : List ℕ} {start end limit from at : �
         ∙ sym (slice_get-layouts_past heap.space heap.words shape past)
   ]
 
-  -- so a cell of the rest stands
-  cell_stands : (cell : Cell) → at ≤ cell.at → IsCell heap.space heap.words cell
-      → StandsAt now.seat.space words cell.at cell
-  cell_stands cell ahead is_cell =
-      let stays : IsCell heap.space words cell = cells_stay heap.space heap.words words cell is_cell
-      state.sweeping.swept.long (record {
-        first = word_stays cell.at ahead;
-        second = λ long. word_stays (cell.at + 1) (omega (arith, ahead));
+  -- so each cell of the rest is read as it was
+  read_alike : (cell : Cell) → Contains state.rest cell → ReadsAlike heap.space heap.words words cell
+  read_alike cell there =
+      let from = (cell_within heap.space heap.words at state.row.end state.rest cell state.to_come there).0 in
+      record {
+        first = word_stays cell.at from;
+        second = λ long. word_stays (cell.at + 1) (omega (arith, from));
         of_shape = layout_stays cell.header.shape;
-      }) in
-      record {
-        is_cell = subst (λ (space : Space). IsCell space words cell) (sym state.sweeping.seat.space) stays;
-        stands = refl;
       }
 
-  -- where the row has not ended
-  abbrev GoesOn : Type 0
-  GoesOn = (at < limit) × (slice_get words at ≢ Some 0)
-
-  -- at the end of the row it has
-  ended_by : at ≡ state.row.end → GoesOn → ⊥
-  ended_by same on = elim state.ends.stops [
-    | inl at_limit ↦ omega (arith, same, at_limit, on.0)
-    | inr zero ↦ on.1 (word_stays at (omega arith) ∙ ap (slice_get heap.words) same ∙ zero)
-  ]
-
-  -- where it has not ended, the rest has a first cell, which stands there
-  next_by : (rest : List Cell) → state.rest ≡ rest → GoesOn → IsNext first now state.rest at
-  next_by [] is on =
-      let Row_of : List Cell → Type 0 = λ all. IsRow heap.space heap.words at state.row.end all in
-      absurd (ended_by (row_of_none (subst Row_of is state.to_come)) on)
-  next_by (cell ∷ more) is on =
-      let Row_of : List Cell → Type 0 = λ all. IsRow heap.space heap.words at state.row.end all in
-      let begins = row_begins (subst Row_of is state.to_come) in
-      let Stands : ℕ → Type 0 = λ a. StandsAt now.seat.space words a cell in
+  -- and the rest stands in the words of now
+  pub rest_ahead : StandAhead now.seat.space words at limit state.row.end state.rest
+  rest_ahead =
+      let stays = rows_stay heap.space heap.words words at state.row.end state.rest state.to_come
+      state.sweeping.swept.long
+      (All-weaker (Contains state.rest) (ReadsAlike heap.space heap.words words) read_alike state.rest
+      (All-contains_itself state.rest)) in
+      let In : Space → Type 0 = λ space. IsRow space words at state.row.end state.rest in
       record {
-        cell = cell;
-        more = more;
-        next = is;
-        stands = subst Stands begins.starts (cell_stands cell (omega (arith, begins.starts)) begins.is_cell);
-        some = (cells_have_words heap.space heap.words cell begins.is_cell).0;
+        stand = subst In (sym state.sweeping.seat.space) stays;
+        ends = record {
+          within = state.ends.within;
+          stops = elim state.ends.stops [
+            | inl at_limit ↦ inl at_limit
+            | inr zero ↦ inr (word_stays state.row.end (comes_to state) ∙ zero)
+          ];
+        };
       }
 
-  -- so the next cell of the row stands where it has not ended
-  pub next_cell : GoesOn → IsNext first now state.rest at
-  next_cell on = next_by state.rest refl on
+  -- the next cell of the rest is passed by
+  pub may_pass : {cell : Cell} → IsNext now.seat.space words at limit state.row.end state.rest cell
+      → MayPass first now marked start end limit from cell
+  may_pass {cell} next =
+      let Next : ℕ → Type 0 = λ a.
+      (in_row : InRow first now marked start end limit from a) × (in_row.rest ≡ cell ∷ next.more) in
+      let (in_row, is) : Next cell.at = subst Next (sym next.stands.stands) (state, next.are) in
+      record { in_row = in_row; more = next.more; next = is }
 
-  -- where a cell stands the row has not ended
-  goes_on_by : (cell : Cell) (more : List Cell) → state.rest ≡ cell ∷ more → GoesOn
-  goes_on_by cell more is =
-      let Row_of : List Cell → Type 0 = λ all. IsRow heap.space heap.words at state.row.end all in
-      let begins = row_begins (subst Row_of is state.to_come) in
-      let ends = first_ends heap.space heap.words at state.row.end cell more begins in (
-        omega (arith, ends.0, state.ends.within),
-        λ zero. first_word_counts heap.space heap.words cell begins.is_cell
-            (ap (slice_get heap.words) begins.starts ∙ sym (word_stays at (omega arith)) ∙ zero),
-      )
-
-  -- so where it has, the sweep has come to its end
-  over_by : (rest : List Cell) → state.rest ≡ rest → (GoesOn → ⊥) → at ≡ state.row.end
-  over_by [] is over =
-      let Row_of : List Cell → Type 0 = λ all. IsRow heap.space heap.words at state.row.end all in
-      row_of_none (subst Row_of is state.to_come)
-  over_by (cell ∷ more) is over = absurd (over (goes_on_by cell more is))
-
-  -- and with it to the end of the region
-  pub walk_ends : {new : Mutator} → (GoesOn → ⊥) → Sweeping first new marked at → Sweeping first new marked end
+  -- at the end of its row the sweep has come to the end of the region
+  pub walk_ends : {new : Mutator} → at ≡ state.row.end → Sweeping first new marked at → Sweeping first new marked end
   walk_ends {new} over sweeping =
-      let ended = subst (Sweeping first new marked) (over_by state.rest refl over) sweeping in
+      let ended = subst (Sweeping first new marked) over sweeping in
       sweep_further end ended
       (region_is_swept end state.begun.whole.rows state.is.among state.is.used (ends_there state)
       (row_within state) ended.swept)

@@ -15,7 +15,7 @@ use Rattle.heap_table.specs.Seats.{RestStays, heap_words}
 use Rattle.heap_model.specs.Types.{Cell, Run}
 use Rattle.heap_model.specs.Heaps.{Heap, Row, HasCell}
 use Rattle.heap_model.specs.Kinds.{HasNoNumber}
-use Rattle.cell_reading.specs.Limits.{EndsBy}
+use Rattle.heap_walk.specs.Limits.{EndsBy}
 use Rattle.heap_model.specs.RegionRows.{StandsBetween, IsRowFrom}
 use Rattle.heap_model.specs.Wholeness.{Whole}
 use Rattle.heap_model.specs.Changes.{Patch, IsPatch, IsPatched, PatchesDisjoint, written}
@@ -137,7 +137,7 @@ pub record InRow (first now : Mutator) (marked : List ℕ) (start end limit from
   pub row : Row
   pub is : IsRowFrom (heap_of first) start row
   pub limit_within : limit ≤ end
-  pub ends : EndsBy (heap_of first) limit row.end
+  pub ends : EndsBy (heap_words first.seat) limit row.end
   pub from_start : start ≤ from
   pub front : List Cell
   pub stretch : List Cell

@@ -5,24 +5,12 @@ ghost use Rattle.heap_table.specs.declared.phase.Phase.TheVariants.{Quiet};
 ghost use Rattle.heap_model.specs.Wholeness.{Whole};
 ghost use Rattle.write_barrier.specs.MutatorState.{Mutator, heap_of};
 ghost use Rattle.sweeper.specs.Swept.{IsSweepable, Sweeps};
-ghost use Rattle.sweeper.specs.Sweeping.{IsBegun, MaySweep, Sweeping};
+ghost use Rattle.sweeper.specs.Sweeping.{IsBegun, Sweeping};
 
 use crate::covering::clear_pages;
 use crate::rows::sweep_row;
 use cell_list::CellList;
-use cell_reading::row_limit;
 use write_barrier::Main;
-
-/// Sweeps the region that stands between two addresses.
-fn sweep_region(main: &mut Main, marked: &CellList, start: u32, end: u32)
-    requires may { (first : Mutator) × MaySweep first main.old marked.now.addresses start end }
-    requires bound { marked.now.bound ≡ roots_start main.old.seat.space }
-    ensures { (first : Mutator) → MaySweep first main.old marked.now.addresses start end →
-        Sweeping first main.new marked.now.addresses end }
-{
-    let limit = row_limit(main, start, end);
-    sweep_row(main, marked, start, limit);
-}
 
 /// Sweeps all regions of cells.
 fn sweep_regions(main: &mut Main, marked: &CellList)
@@ -34,7 +22,7 @@ fn sweep_regions(main: &mut Main, marked: &CellList)
     let regions = main.regions();
     let mut at = 0;
     while let Some(end) = regions.cells_end(at) {
-        sweep_region(main, marked, at, end);
+        sweep_row(main, marked, at, end);
         at = end;
     }
 }

@@ -1,14 +1,13 @@
 //! Going along the row of a region, from cell to cell.
 ghost use Rattle.std.specs.Prelude.{◌≡◌, ℕ, ◌+◌, List};
 ghost use Rattle.page_space.specs.Extents.{roots_start};
-ghost use Rattle.write_barrier.specs.MutatorState.{Mutator, heap_of};
-ghost use Rattle.cell_reading.specs.Limits.{IsLimit};
+ghost use Rattle.write_barrier.specs.MutatorState.{Mutator};
 ghost use Rattle.sweeper.specs.Sweeping.{InRow, MayPass, MaySweep, Sweeping};
 
 use crate::covering::cover;
 use cell_layout::Cell;
 use cell_list::CellList;
-use cell_reading::{goes_on, known_cell};
+use heap_walk::Cells;
 use page_space::PAGE_WORDS;
 use write_barrier::Main;
 
@@ -49,22 +48,18 @@ fn pass(main: &mut Main, marked: &CellList, from: u32, cell: &Cell) -> u32
     from
 }
 
-/// Sweeps the row of the region that begins at an address.
-pub(crate) fn sweep_row(main: &mut Main, marked: &CellList, start: u32, limit: u32)
-    requires may { (first : Mutator) × (end : ℕ) ×
-        MaySweep first main.old marked.now.addresses start end × IsLimit (heap_of first) start end limit }
+/// Sweeps the row of the region that stands between two addresses. A stretch becomes a free cell when the
+/// walk is past its last cell, so no word is written that the walk still reads.
+pub(crate) fn sweep_row(main: &mut Main, marked: &CellList, start: u32, end: u32)
+    requires may { (first : Mutator) × MaySweep first main.old marked.now.addresses start end }
     requires bound { marked.now.bound ≡ roots_start main.old.seat.space }
-    ensures { (first : Mutator) (end : ℕ) → MaySweep first main.old marked.now.addresses start end →
-        IsLimit (heap_of first) start end limit → Sweeping first main.new marked.now.addresses end }
+    ensures { (first : Mutator) → MaySweep first main.old marked.now.addresses start end →
+        Sweeping first main.new marked.now.addresses end }
 {
-    // There is a word for each address before the marks.
-    main.addresses_fit();
+    let mut cells = Cells::between(main, start, end);
     let mut from = start;
-    let mut at = start;
-    'cells: while goes_on(main, at, limit) {
-        let cell = known_cell(main, at);
+    'cells: while let Some(cell) = cells.next(main) {
         from = pass(main, marked, from, &cell);
-        at += cell.size;
     }
-    end_stretch(main, from, at);
+    end_stretch(main, from, cells.at);
 }

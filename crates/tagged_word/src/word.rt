@@ -1,6 +1,6 @@
 //! A word of a slot, and the classes of its bits.
-ghost use Rattle.std.specs.Prelude.{◌≡◌, ◌≢◌, ◌<◌, ◌/◌, ◌%◌, ◌↔◌, ℤ, false, IsTrue};
-ghost use Rattle.std.specs.Prelude.{IsNone, IfSome, SomeIff};
+ghost use Rattle.std.specs.Prelude.{◌≡◌, ◌≢◌, ◌<◌, ◌/◌, ◌%◌, ◌↔◌, ℕ, ℤ, false, IsTrue};
+ghost use Rattle.std.specs.Prelude.{IsNone, IfSome, SomeIff, Some};
 ghost use Rattle.tagged_word.specs.Words.{small, IsClass, bits_of};
 ghost use Rattle.tagged_word.specs.Readings.{reference_in};
 
@@ -71,6 +71,26 @@ impl Word {
         } else {
             None
         }
+    }
+
+    /// Whether the word stands for a small integer: its lowest bit is 0, as no reference's and no odd value's is.
+    #[inline(always)]
+    pub fn is_small(self) -> bool
+        ensures bit { IsTrue result ↔ (self.0 % 2 ≡ 0) }
+        ensures small { (v : ℤ) → IsTrue (small v) → self.0 ≡ bits_of (Class.Small v) → IsTrue result }
+        ensures reference { (address : ℕ) → self.0 ≡ bits_of (Class.Ref address) → result ≡ false }
+        ensures odd { (code : ℕ) → self.0 ≡ bits_of (Class.Odd code) → result ≡ false }
+    {
+        self.0 % 2 == 0
+    }
+
+    /// The address that the word is known to refer to. Nothing is asked of its bits.
+    #[inline(always)]
+    pub fn known_address(self) -> u32
+        requires { (address : ℕ) × (reference_in self.0 ≡ Some address) }
+        ensures { reference_in self.0 ≡ Some result }
+    {
+        (self.0 / 4) as u32
     }
 
     /// What the word stands for; none for bits of no class.

@@ -1,7 +1,7 @@
 pub mod MutatorState
 pub mod Recording
 pub mod FreeCells
-pub mod Kept
+pub mod Model
 pub mod Lending
 pub mod Reading
 pub mod Opening

@@ -69,6 +69,11 @@ pub record MainShows (main : Mutator) (graph : Graph) : Type 0 where
   pub bounded : main.recorded.bound ≡ eden_start main.seat.space
   pub remembered : AreRemembered (heap_of main) main.recorded.slots
 
+-- The mutator may store words of cells and of variables: only it runs. A collection stores words under conditions of
+-- its own.
+abbrev pub MayStore : Mutator → Type 0
+MayStore main = main.seat.phase ≡ Quiet
+
 -- one word of the table is another
 abbrev pub put_word : Mutator → ℕ → ℕ → Mutator
 put_word main at word = record main { seat = record main.seat { table = slice_set main.seat.table at word } }

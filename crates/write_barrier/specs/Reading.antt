@@ -1,11 +1,8 @@
 -- What is read of a heap, and what reading leaves.
 use Rattle.std.specs.Prelude.{◌≡◌, ℕ, List, Some}
-use Rattle.std.proofs.Common.{◌∙◌, ap}
 use Rattle.heap_model.specs.Types.{Header, Cell}
 use Rattle.tagged_word.specs.Readings.{header_at}
-use Rattle.heap_table.specs.declared.phase.Phase.TheVariants.{Quiet}
 use Rattle.heap_model.specs.Heaps.{Heap, HasCell}
-use Rattle.write_barrier.specs.MutatorState.{Mutator}
 
 -- a header stands at the address
 pub record HasHeader (heap : Heap) (at : ℕ) : Type 0 where
@@ -16,7 +13,3 @@ pub record HasHeader (heap : Heap) (at : ℕ) : Type 0 where
 abbrev pub IsHeaderAt : Heap → ℕ → Header → Type 0
 IsHeaderAt heap at header =
     (cell : Cell) (words : List ℕ) → HasCell heap cell words → cell.at ≡ at → cell.header ≡ header
-
--- the phase is quiet where nothing has changed since it was
-pub stays_quiet : (old new : Mutator) → new ≡ old → old.seat.phase ≡ Quiet → new.seat.phase ≡ Quiet
-stays_quiet old new same quiet = ap (λ (main : Mutator). main.seat.phase) same ∙ quiet

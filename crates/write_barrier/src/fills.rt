@@ -6,7 +6,7 @@ ghost use Rattle.heap_table.specs.declared.phase.Phase.TheVariants.{Quiet};
 ghost use Rattle.heap_table.specs.Seats.{RestStays, heap_words};
 ghost use Rattle.heap_model.specs.Slots.{hole_word};
 ghost use Rattle.heap_model.specs.Remembered.{Touch};
-ghost use Rattle.write_barrier.specs.MutatorState.{forgets, with_table};
+ghost use Rattle.write_barrier.specs.MutatorState.{MayStore, forgets, with_table};
 ghost use Rattle.write_barrier.specs.Recording.{Touches, touched};
 ghost use Rattle.write_barrier.specs.Values.{with_range};
 
@@ -17,7 +17,7 @@ impl Main {
     /// Puts one word at so many addresses from one on. Of these nothing is recorded.
     #[inline(always)]
     pub(crate) fn fill(&mut self, at: u32, count: u32, word: u64)
-        requires quiet { self.old.seat.phase ≡ Quiet }
+        requires may_store { MayStore self.old }
         requires within { at + count ≤ marks_start self.old.seat.space }
         ensures filled { let words = replicate count word in
             let table = with_range self.old.seat.table at words in
@@ -36,7 +36,7 @@ impl Main {
     /// nothing: so it is as if each was stored in a slot, too.
     #[inline(always)]
     pub fn fill_holes(&mut self, at: u32, count: u32)
-        requires quiet { self.old.seat.phase ≡ Quiet }
+        requires may_store { MayStore self.old }
         requires within { at + count ≤ marks_start self.old.seat.space }
         ensures filled { let holes = replicate count hole_word in
             let table = with_range self.old.seat.table at holes in
@@ -52,7 +52,7 @@ impl Main {
     /// Makes so many words at an address 0, where no cell stands any more. What is recorded stays, so this is
     /// for a heap that ends.
     pub fn blank(&mut self, at: u32, count: u32)
-        requires quiet { self.old.seat.phase ≡ Quiet }
+        requires may_store { MayStore self.old }
         requires within { at + count ≤ marks_start self.old.seat.space }
         ensures blanked { let table = with_range self.old.seat.table at (replicate count 0) in
             self.new ≡ with_table self.old table }
@@ -84,7 +84,7 @@ impl Main {
     /// Judges the word that stands at an address of which nothing is recorded, as that of a slot.
     #[inline]
     fn judge_copy(&mut self, slot: u32)
-        requires quiet { self.old.seat.phase ≡ Quiet }
+        requires may_store { MayStore self.old }
         requires within { slot < marks_start self.old.seat.space }
         requires none { slot < self.old.recorded.bound → Contains self.old.recorded.slots slot → ⊥ }
         ensures rest { self.new ≡ record self.old { recorded = self.new.recorded } }
@@ -102,7 +102,7 @@ impl Main {
     /// Judges the words that stand at so many addresses from one on, as those of slots. Nothing is recorded
     /// of them yet.
     fn judge_copies(&mut self, at: u32, count: u32)
-        requires quiet { self.old.seat.phase ≡ Quiet }
+        requires may_store { MayStore self.old }
         requires within { at + count ≤ marks_start self.old.seat.space }
         requires none { (slot : ℕ) → at ≤ slot → slot < at + count → slot < self.old.recorded.bound
             → Contains self.old.recorded.slots slot → ⊥ }
@@ -119,7 +119,7 @@ impl Main {
     /// that was just made. The two stretches have no word in common. Where the copies are in a page, each
     /// that refers to a young cell is recorded, and no other.
     pub fn copy_slots(&mut self, from: u32, to: u32, count: u32)
-        requires quiet { self.old.seat.phase ≡ Quiet }
+        requires may_store { MayStore self.old }
         requires within { from + count ≤ marks_start self.old.seat.space }
         requires room { to + count ≤ marks_start self.old.seat.space }
         requires apart { AreDisjoint from to count }

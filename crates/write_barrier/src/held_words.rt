@@ -4,10 +4,9 @@ ghost use Rattle.tagged_word.specs.declared.word.Class.{Class};
 ghost use Rattle.tagged_word.specs.Words.{IsClass, bits_of};
 ghost use Rattle.tagged_word.specs.Readings.{reference_in};
 ghost use Rattle.page_space.specs.Extents.{marks_start};
-ghost use Rattle.heap_table.specs.declared.phase.Phase.TheVariants.{Quiet};
 ghost use Rattle.heap_table.specs.Seats.{heap_words};
 ghost use Rattle.handle_roots.specs.Roots.{FitsHeld, with_root};
-ghost use Rattle.write_barrier.specs.MutatorState.{heap_of, with_variable};
+ghost use Rattle.write_barrier.specs.MutatorState.{MayStore, heap_of, with_variable};
 ghost use Rattle.write_barrier.specs.Values as values;
 
 use crate::main_side::Main;
@@ -17,7 +16,7 @@ impl Main {
     /// Makes a variable hold what the word of a slot stands for.
     #[inline(always)]
     pub fn hold_word(&mut self, variable: u32, word: Word)
-        requires quiet { self.old.seat.phase ≡ Quiet }
+        requires may_store { MayStore self.old }
         requires known { variable < self.old.seat.space.variables }
         requires class { (class : Class) × IsClass class × (word.0 ≡ bits_of class) }
         requires within { (at : ℕ) → reference_in word.0 ≡ Some at
@@ -44,7 +43,7 @@ impl Main {
     /// too.
     #[inline(always)]
     fn hold_small(&mut self, variable: u32, word: Word)
-        requires quiet { self.old.seat.phase ≡ Quiet }
+        requires may_store { MayStore self.old }
         requires known { variable < self.old.seat.space.variables }
         requires even { word.0 % 2 ≡ 0 }
         ensures held { (class : Class) → IsClass class → word.0 ≡ bits_of class →

@@ -8,20 +8,19 @@ ghost use Rattle.tagged_word.specs.Readings.{header_at};
 ghost use Rattle.page_space.specs.Sizes.{AreWithin};
 ghost use Rattle.page_space.specs.Extents.{words_count, marks_start};
 ghost use Rattle.shape_tree.specs.Shapes.{AreShapes, IsPathShape, IsLocated, shape_path, has_name};
-ghost use Rattle.shape_tree.specs.Recalling.{IsRecalled, IsPlaced};
+ghost use Rattle.shape_tree.specs.CachedSlots.{IsCachedSlot};
 ghost use Rattle.nursery.specs.Young.{IsYoung};
-ghost use Rattle.heap_table.specs.declared.phase.Phase.TheVariants.{Quiet};
 ghost use Rattle.heap_table.specs.Seats.{heap_words};
 ghost use Rattle.write_barrier.specs.Lending.{LendsShapes, LendsNursery};
 ghost use Rattle.write_barrier.specs.MutatorState.{heap_of};
-ghost use Rattle.write_barrier.specs.Reading.{HasHeader, IsHeaderAt, stays_quiet};
+ghost use Rattle.write_barrier.specs.Reading.{HasHeader, IsHeaderAt};
 
 use free_runs::FreeRuns;
 use heap_table::MainSeat;
 use nursery::Nursery;
 use page_space::Regions;
 use remembered_set::Remembered;
-use shape_tree::{Located, Recalled, ShapeTree, WordPlace};
+use shape_tree::{CachedSlot, Located, ShapeTree};
 use std::marker::Model;
 use tagged_word::Header;
 use word_store::Reads;
@@ -42,7 +41,7 @@ impl Model for Main {
 
     ghost Value = { Mutator };
 
-    ghost use Rattle.write_barrier.specs.Kept.{mutator_of};
+    ghost use Rattle.write_barrier.specs.Model.{mutator_of};
 
     ghost view = { mutator_of };
 }
@@ -65,8 +64,7 @@ impl Main {
     /// The word at an address before the marks.
     #[inline(always)]
     pub fn word(&self, a: u32) -> u64
-        requires within { a < marks_start self.now.seat.space }
-        requires quiet { self.now.seat.phase ≡ Quiet }
+        requires { a < marks_start self.now.seat.space }
         ensures of_table { slice_get self.now.seat.table a ≡ Some result }
         ensures of_heap { slice_get (heap_words self.now.seat) a ≡ Some result }
     {
@@ -76,8 +74,7 @@ impl Main {
     /// The word at an offset of a cell, before the marks.
     #[inline(always)]
     pub fn slot(&self, cell: u32, offset: u32) -> u64
-        requires within { cell + offset < marks_start self.now.seat.space }
-        requires quiet { self.now.seat.phase ≡ Quiet }
+        requires { cell + offset < marks_start self.now.seat.space }
         ensures of_table { slice_get self.now.seat.table (cell + offset) ≡ Some result }
         ensures of_heap { slice_get (heap_words self.now.seat) (cell + offset) ≡ Some result }
     {
@@ -87,8 +84,7 @@ impl Main {
     /// The header that stands at an address: that of each cell there.
     #[inline(always)]
     pub fn header(&self, at: u32) -> Header
-        requires there { HasHeader (heap_of self.now) at }
-        requires quiet { self.now.seat.phase ≡ Quiet }
+        requires { HasHeader (heap_of self.now) at }
         ensures stands { header_at (heap_of self.now).words at ≡ Some result }
         ensures of_cell { IsHeaderAt (heap_of self.now) at result }
     {
@@ -151,32 +147,22 @@ impl Main {
 
     /// Where the field of this name stands in the path of a shape.
     #[inline(always)]
-    pub fn locate(&mut self, shape: u32, name: u32) -> Option<Located>
+    pub fn lookup(&mut self, shape: u32, name: u32) -> Option<Located>
         requires { IsPathShape self.old.paths shape }
         ensures found { IfSome result (λ found.
             IsLocated self.old.paths found × (found.shape ≡ shape) × (found.name ≡ name)) }
         ensures none { IsNone result ↔ (has_name (shape_path self.old.paths shape) name ≡ false) }
         ensures same { self.new ≡ self.old }
     {
-        self.shapes.locate(shape, name)
+        self.shapes.lookup(shape, name)
     }
 
-    /// What is at hand of the look-up of this name in the path of a shape. Nothing is sought.
+    /// What the look-up cache has of this name in the path of a shape. Nothing is sought, and the shape may be any.
     #[inline(always)]
-    pub fn recall(&self, shape: u32, name: u32) -> Recalled
-        requires { IsPathShape self.now.paths shape }
-        ensures { IsRecalled self.now.paths shape name result }
+    pub fn cached_slot(&self, shape: u32, name: u32) -> CachedSlot
+        ensures { IsCachedSlot self.now.paths shape name result }
     {
-        self.shapes.recall(shape, name)
-    }
-
-    /// Where the word of the field of this name stands in an object of this shape, as far as it is at hand. Nothing is
-    /// sought, and the shape may be any.
-    #[inline(always)]
-    pub fn recall_place(&self, shape: u32, name: u32) -> WordPlace
-        ensures { IsPlaced self.now.paths shape name result }
-    {
-        self.shapes.recall_place(shape, name)
+        self.shapes.cached_slot(shape, name)
     }
 
     /// The shapes, and the words before the marks, taken out of the heap. It takes no memory.
@@ -206,7 +192,7 @@ impl Main {
 impl Reads for Main {
     ghost words = { λ main. heap_words main.seat };
 
-    ghost IsSteady = { λ main. main.seat.phase ≡ Quiet };
+    ghost IsSteady = { λ _. Unit {0} };
 
     // A read changes nothing.
     ghost Rest = { λ old new. new ≡ old };
@@ -215,7 +201,7 @@ impl Reads for Main {
 
     ghost rest_again = { λ _ _ _ first then. then ∙ first };
 
-    ghost stays_steady = { stays_quiet };
+    ghost stays_steady = { λ _ _ _ _. tt };
 
     #[inline(always)]
     fn count(&self) -> u32 {

@@ -4,9 +4,9 @@ ghost use Rattle.tagged_word.specs.Words.{small};
 ghost use Rattle.heap_table.specs.declared.phase.Phase.TheVariants.{Quiet};
 ghost use Rattle.heap_table.specs.Seats.{heap_words};
 ghost use Rattle.handle_roots.specs.declared.held.Held.TheVariants.{Unbound, Int, Ref};
-ghost use Rattle.handle_roots.specs.Givens.{Gives, GivesHeld};
+ghost use Rattle.handle_roots.specs.Givens.{IsGivenFor, GivesHeld};
 ghost use Rattle.handle_roots.specs.Roots.{Holds, IsRoot, with_root};
-ghost use Rattle.write_barrier.specs.MutatorState.{with_variable};
+ghost use Rattle.write_barrier.specs.MutatorState.{MayStore, with_variable};
 
 use crate::main_side::Main;
 use handle_roots::{Given, Held, held_by};
@@ -80,7 +80,6 @@ impl Main {
     /// What a variable holds.
     #[inline(always)]
     pub fn held(&mut self, variable: u32) -> Held
-        requires quiet { self.old.seat.phase ≡ Quiet }
         requires known { variable < self.old.seat.space.variables }
         requires root { IsRoot self.old.seat.space (heap_words self.old.seat) variable }
         ensures holds { let words = heap_words self.old.seat in
@@ -95,7 +94,6 @@ impl Main {
     /// nothing.
     #[inline(always)]
     pub fn given(&mut self, variable: u32) -> Option<Given>
-        requires quiet { self.old.seat.phase ≡ Quiet }
         requires known { variable < self.old.seat.space.variables }
         requires root { IsRoot self.old.seat.space (heap_words self.old.seat) variable }
         ensures given { let words = heap_words self.old.seat in
@@ -109,7 +107,6 @@ impl Main {
     /// The address of the cell to which a variable refers, if it refers to one.
     #[inline(always)]
     pub fn referred(&mut self, variable: u32) -> Option<u32>
-        requires quiet { self.old.seat.phase ≡ Quiet }
         requires known { variable < self.old.seat.space.variables }
         requires root { IsRoot self.old.seat.space (heap_words self.old.seat) variable }
         ensures refers { let words = heap_words self.old.seat in
@@ -125,7 +122,6 @@ impl Main {
     /// The small integer that a variable holds, if it holds one.
     #[inline(always)]
     pub fn small(&mut self, variable: u32) -> Option<i64>
-        requires quiet { self.old.seat.phase ≡ Quiet }
         requires known { variable < self.old.seat.space.variables }
         requires root { IsRoot self.old.seat.space (heap_words self.old.seat) variable }
         ensures holds { let words = heap_words self.old.seat in
@@ -141,11 +137,10 @@ impl Main {
     /// The word of the small integer that a variable holds, if it holds one.
     #[inline(always)]
     pub fn small_word(&mut self, variable: u32) -> Option<Word>
-        requires quiet { self.old.seat.phase ≡ Quiet }
         requires known { variable < self.old.seat.space.variables }
         requires root { IsRoot self.old.seat.space (heap_words self.old.seat) variable }
         ensures holds { let words = heap_words self.old.seat in
-            IfSome result (λ word. (v : ℤ) × IsTrue (small v) × Gives (Given.Word word) (Int v)
+            IfSome result (λ word. (v : ℤ) × IsTrue (small v) × IsGivenFor (Given.Word word) (Int v)
             × Holds self.old.seat.space words variable (Int v)) }
         ensures none { let words = heap_words self.old.seat in
             IsNone result → (v : ℤ) → IsTrue (small v) → ¬ Holds self.old.seat.space words variable (Int v) }
@@ -158,7 +153,6 @@ impl Main {
     /// The integer that a variable holds in its second root word, if it holds one there.
     #[inline(always)]
     pub fn wide(&mut self, variable: u32) -> Option<i64>
-        requires quiet { self.old.seat.phase ≡ Quiet }
         requires known { variable < self.old.seat.space.variables }
         requires root { IsRoot self.old.seat.space (heap_words self.old.seat) variable }
         ensures holds { let words = heap_words self.old.seat in
@@ -174,7 +168,7 @@ impl Main {
     /// Makes a variable that holds an integer in its second root word hold another one there. Only that word changes.
     #[inline(always)]
     pub fn replace_wide(&mut self, variable: u32, v: i64)
-        requires quiet { self.old.seat.phase ≡ Quiet }
+        requires may_store { MayStore self.old }
         requires known { variable < self.old.seat.space.variables }
         requires was { let words = heap_words self.old.seat in
             (was : ℤ) × (small was ≡ false) × Holds self.old.seat.space words variable (Int was) }
@@ -193,7 +187,7 @@ impl Main {
     /// Makes a variable that holds a small integer hold another one. Only its first root word changes.
     #[inline(always)]
     pub fn replace_small(&mut self, variable: u32, v: i64)
-        requires quiet { self.old.seat.phase ≡ Quiet }
+        requires may_store { MayStore self.old }
         requires known { variable < self.old.seat.space.variables }
         requires was { let words = heap_words self.old.seat in
             (was : ℤ) × IsTrue (small was) × Holds self.old.seat.space words variable (Int was) }
@@ -212,7 +206,6 @@ impl Main {
     /// Whether a variable is bound to something.
     #[inline(always)]
     pub fn is_bound(&mut self, variable: u32) -> bool
-        requires quiet { self.old.seat.phase ≡ Quiet }
         requires known { variable < self.old.seat.space.variables }
         requires root { IsRoot self.old.seat.space (heap_words self.old.seat) variable }
         ensures bound { (held : Held) → let words = heap_words self.old.seat in
@@ -226,7 +219,7 @@ impl Main {
     /// Makes a variable hold what another one holds. Only its two root words change.
     #[inline(always)]
     pub fn copy(&mut self, from: u32, to: u32)
-        requires quiet { self.old.seat.phase ≡ Quiet }
+        requires may_store { MayStore self.old }
         requires known { from < self.old.seat.space.variables }
         requires target_known { to < self.old.seat.space.variables }
         requires root { IsRoot self.old.seat.space (heap_words self.old.seat) from }
@@ -247,7 +240,7 @@ impl Main {
     /// Makes a variable hold a value. Only its two root words change.
     #[inline(always)]
     pub fn hold(&mut self, variable: u32, value: Held)
-        requires quiet { self.old.seat.phase ≡ Quiet }
+        requires may_store { MayStore self.old }
         requires known { variable < self.old.seat.space.variables }
         ensures held { self.new ≡ with_variable self.old variable value }
         ensures heap { let words = heap_words self.old.seat in

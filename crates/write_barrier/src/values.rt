@@ -4,7 +4,6 @@ ghost use Rattle.tagged_word.specs.declared.word.Class.{Class};
 ghost use Rattle.tagged_word.specs.Words.{IsClass, bits_of};
 ghost use Rattle.tagged_word.specs.Readings.{reference_in};
 ghost use Rattle.page_space.specs.Extents.{marks_start};
-ghost use Rattle.heap_table.specs.declared.phase.Phase.TheVariants.{Quiet};
 ghost use Rattle.heap_model.specs.Needs.{is_box_at, is_box_word};
 ghost use Rattle.write_barrier.specs.MutatorState.{heap_of};
 ghost use Rattle.write_barrier.specs.Values as values;
@@ -16,8 +15,7 @@ use tagged_word::{Class, Header, Word, shape};
 impl Main {
     /// Whether a word refers to a box.
     pub fn is_box(&self, word: Word) -> bool
-        requires quiet { self.now.seat.phase ≡ Quiet }
-        requires within { (at : ℕ) → reference_in word.0 ≡ Some at
+        requires { (at : ℕ) → reference_in word.0 ≡ Some at
             → at < marks_start self.now.seat.space }
         ensures { result ≡ is_box_word (heap_of self.now) word.0 }
     {
@@ -31,8 +29,7 @@ impl Main {
     /// it is a hole, `undefined`.
     #[inline(always)]
     pub fn value_of_word(&self, word: Word) -> Held
-        requires quiet { self.now.seat.phase ≡ Quiet }
-        requires within { (at : ℕ) → reference_in word.0 ≡ Some at
+        requires { (at : ℕ) → reference_in word.0 ≡ Some at
             → at + 1 < marks_start self.now.seat.space }
         ensures { (class : Class) → IsClass class → word.0 ≡ bits_of class
             → result ≡ values.held_of_class (heap_of self.now) class }
@@ -47,8 +44,7 @@ impl Main {
 
     /// Whether the header of a box stands at an address.
     fn has_box(&self, at: u32) -> bool
-        requires quiet { self.now.seat.phase ≡ Quiet }
-        requires within { at < marks_start self.now.seat.space }
+        requires { at < marks_start self.now.seat.space }
         ensures { result ≡ is_box_at (heap_of self.now) (Some at) }
     {
         match Header::parse(Word(self.word(at))) {
@@ -60,8 +56,7 @@ impl Main {
     /// What a reference to an address stands for.
     #[inline(never)]
     fn value_at(&self, at: u32) -> Held
-        requires quiet { self.now.seat.phase ≡ Quiet }
-        requires within { at + 1 < marks_start self.now.seat.space }
+        requires { at + 1 < marks_start self.now.seat.space }
         ensures { let heap = heap_of self.now in
             result ≡ values.held_at heap at (is_box_at heap (Some at)) }
     {

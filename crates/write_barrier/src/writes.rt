@@ -4,11 +4,10 @@ ghost use Rattle.std.specs.Prelude.{◌≡◌, ◌+◌, ◌<◌, ◌≤◌, ◌�
 ghost use Rattle.tagged_word.specs.Headers.{IsHeader, header_bits};
 ghost use Rattle.tagged_word.specs.Readings.{reference_in};
 ghost use Rattle.page_space.specs.Extents.{layouts_start, marks_start};
-ghost use Rattle.heap_table.specs.declared.phase.Phase.TheVariants.{Quiet};
 ghost use Rattle.heap_table.specs.Seats.{heap_words};
 ghost use Rattle.shape_tree.specs.ShapeLayouts.{IsInUse, layout_word};
 ghost use Rattle.tagged_word.specs.Shapes.{first_path_shape};
-ghost use Rattle.write_barrier.specs.MutatorState.{put_word, forgets, is_young, judged, with_slot, with_word};
+ghost use Rattle.write_barrier.specs.MutatorState.{MayStore, put_word, forgets, is_young, judged, with_slot, with_word};
 ghost use Rattle.write_barrier.specs.Opening.{ChangesWithin, HasLayouts, LayoutsBelow};
 
 use crate::main_side::Main;
@@ -18,7 +17,7 @@ impl Main {
     /// Puts a word at an address before the marks. Nothing is recorded.
     #[inline(always)]
     pub(crate) fn put(&mut self, a: u32, word: u64)
-        requires quiet { self.old.seat.phase ≡ Quiet }
+        requires may_store { MayStore self.old }
         requires within { a < marks_start self.old.seat.space }
         ensures put { self.new ≡ put_word self.old a word }
         ensures heap { let words = heap_words self.old.seat in
@@ -30,7 +29,7 @@ impl Main {
     /// Puts a word at an offset of a cell, before the marks. Nothing is recorded.
     #[inline(always)]
     pub(crate) fn put_slot(&mut self, cell: u32, offset: u32, word: u64)
-        requires quiet { self.old.seat.phase ≡ Quiet }
+        requires may_store { MayStore self.old }
         requires within { cell + offset < marks_start self.old.seat.space }
         ensures put { self.new ≡ put_word self.old (cell + offset) word }
         ensures heap { let words = heap_words self.old.seat in
@@ -64,7 +63,7 @@ impl Main {
     /// word changes.
     #[inline(always)]
     pub(crate) fn put_young(&mut self, a: u32, word: u64)
-        requires quiet { self.old.seat.phase ≡ Quiet }
+        requires may_store { MayStore self.old }
         requires within { a < marks_start self.old.seat.space }
         requires behind { self.old.recorded.bound ≤ a }
         ensures written { self.new ≡ with_word self.old a word }
@@ -105,7 +104,7 @@ impl Main {
     /// changes.
     #[inline(always)]
     pub fn write(&mut self, a: u32, word: u64)
-        requires quiet { self.old.seat.phase ≡ Quiet }
+        requires may_store { MayStore self.old }
         requires within { a < marks_start self.old.seat.space }
         ensures written { self.new ≡ with_word self.old a word }
         ensures heap { let words = heap_words self.old.seat in
@@ -118,7 +117,7 @@ impl Main {
     /// Puts a word at an offset of a cell, before the marks: in no slot. No other word changes.
     #[inline(always)]
     pub fn write_slot(&mut self, cell: u32, offset: u32, word: u64)
-        requires quiet { self.old.seat.phase ≡ Quiet }
+        requires may_store { MayStore self.old }
         requires within { cell + offset < marks_start self.old.seat.space }
         ensures written { self.new ≡ with_word self.old (cell + offset) word }
         ensures heap { let words = heap_words self.old.seat in
@@ -132,7 +131,7 @@ impl Main {
     /// Puts a value in the slot of a cell at an offset. No other word changes.
     #[inline(always)]
     pub fn store(&mut self, cell: u32, offset: u32, value: Word)
-        requires quiet { self.old.seat.phase ≡ Quiet }
+        requires may_store { MayStore self.old }
         requires within { cell + offset < marks_start self.old.seat.space }
         ensures stored { self.new ≡ with_slot self.old (cell + offset) value.0 }
         ensures heap { let words = heap_words self.old.seat in
@@ -150,7 +149,7 @@ impl Main {
     /// what a pair of a table refers to; a scavenge takes it as a slot like others.
     #[inline]
     pub fn store_weak(&mut self, cell: u32, offset: u32, value: Word)
-        requires quiet { self.old.seat.phase ≡ Quiet }
+        requires may_store { MayStore self.old }
         requires within { cell + offset < marks_start self.old.seat.space }
         ensures stored { self.new ≡ with_slot self.old (cell + offset) value.0 }
         ensures heap { let words = heap_words self.old.seat in
@@ -162,7 +161,7 @@ impl Main {
     /// Puts the header of a cell at an address. No other word changes.
     #[inline(always)]
     pub fn set_header(&mut self, a: u32, header: Header)
-        requires quiet { self.old.seat.phase ≡ Quiet }
+        requires may_store { MayStore self.old }
         requires within { a < marks_start self.old.seat.space }
         requires is { IsHeader header }
         ensures written { self.new ≡ with_word self.old a (header_bits header) }
@@ -175,7 +174,7 @@ impl Main {
     /// Makes the layout word of a shape in use that of the shapes. It was 0, or that already: a
     /// layout word never becomes another.
     pub fn set_layout(&mut self, shape: u32)
-        requires quiet { self.old.seat.phase ≡ Quiet }
+        requires may_store { MayStore self.old }
         requires in_use { IsInUse self.old.paths shape }
         requires free { let at = layouts_start self.old.seat.space + shape in
             let stands = slice_get (heap_words self.old.seat) at in
@@ -195,7 +194,7 @@ impl Main {
     /// Puts the layout words of the shapes from one on: those of the shapes below it are there, and
     /// from it on they are 0. No other word changes.
     pub fn set_layouts(&mut self, first: u32)
-        requires quiet { self.old.seat.phase ≡ Quiet }
+        requires may_store { MayStore self.old }
         requires from { 1 ≤ first }
         requires below { first ≤ first_path_shape + length self.old.paths }
         requires layouts { LayoutsBelow self.old first }
@@ -215,7 +214,7 @@ impl Main {
     /// quiet.
     #[inline]
     pub fn made(&mut self, a: u32)
-        requires quiet { self.old.seat.phase ≡ Quiet }
+        requires may_store { MayStore self.old }
         requires within { a < marks_start self.old.seat.space }
         ensures same { self.new ≡ self.old }
     {}
@@ -224,7 +223,7 @@ impl Main {
     /// is quiet.
     #[inline]
     pub fn blacken(&mut self, cell: u32)
-        requires quiet { self.old.seat.phase ≡ Quiet }
+        requires may_store { MayStore self.old }
         requires within { cell < marks_start self.old.seat.space }
         ensures same { self.new ≡ self.old }
     {}

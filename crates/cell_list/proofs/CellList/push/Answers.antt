@@ -1,7 +1,7 @@
 use Rattle.std.proofs.Common.{◌≡◌, ◌∙◌, sym, ap, subst, List, ℕ, ◌∷◌, ◌++◌, ◌<◌, [], Contains, arith}
 use Rattle.std.proofs.lemmas.Bool.{false≢true}
 use Rattle.cell_list.specs.Listing.{Listing, IsListing}
-use Rattle.cell_list.specs.Kept.{listing_of}
+use Rattle.cell_list.specs.Model.{listing_of}
 use Rattle.cell_list.proofs.Flags.{Tell, tell_pushed, is_pushed, pushed_are_few}
 use Rattle.cell_list.proofs.CellList.push.Goals as goal
 

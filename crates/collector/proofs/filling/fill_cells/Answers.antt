@@ -1,7 +1,6 @@
-use Rattle.std.proofs.Common.{◌≡◌, ◌≤◌, ℕ, refl, sym, ◌∙◌, subst, arith}
+use Rattle.std.proofs.Common.{◌≡◌, ◌≤◌, ℕ, refl, subst, arith}
 use Rattle.page_space.specs.Extents.{Space, CellsEndAt, roots_start}
-use Rattle.write_barrier.specs.MutatorState.{Mutator, heap_of}
-use Rattle.heap_model.specs.RegionRows.{StandsBetween}
+use Rattle.write_barrier.specs.MutatorState.{heap_of}
 use Rattle.heap_model.proofs.RegionSeams.{first_seam, next_seam, seam_stands, seam_at_roots}
 use Rattle.collector.specs.Filling.{FillsWithin}
 use Rattle.collector.proofs.FilledWords.{fills_none, fills_more}
@@ -11,31 +10,25 @@ pub loop-end-init : goal.loop-end-init
 loop-end-init c = record {
   seam = first_seam c.args.main.now.seat.space;
   fills = fills_none (heap_of c.args.main.now) c.args.words.now 0;
-  same = refl;
 }
 
 pub fill_region-requires-clause-stands : goal.fill_region-requires-clause-stands
 fill_region-requires-clause-stands c =
     let space = c.args.main.now.seat.space in
     let Ends : Space → Type 0 = λ space. CellsEndAt space c.loop-end.at c.in-Some.end in
-    let Stands : Mutator → Type 0 = λ main. StandsBetween main.seat.space c.loop-end.at c.in-Some.end in
-    subst Stands (sym c.loop-end.invariant.same)
-    (seam_stands space c.loop-end.at c.in-Some.end c.loop-end.invariant.seam c.regions-regions.ensures.within
-    (subst Ends c.regions-regions.ensures.regions c.in-Some.ensures.cells))
+    seam_stands space c.loop-end.at c.in-Some.end c.loop-end.invariant.seam c.regions-regions.ensures.within
+    (subst Ends c.regions-regions.ensures.regions c.in-Some.ensures.cells)
 
 pub loop-end-preserved : goal.loop-end-preserved
 loop-end-preserved c =
     let space = c.args.main.now.seat.space in
     let Ends : Space → Type 0 = λ space. CellsEndAt space c.loop-end.at c.in-Some.end in
-    let Fills : Mutator → Type 0 = λ main.
-    FillsWithin (heap_of main) c.loop-end.words c.fill_region.new.words c.loop-end.at c.in-Some.end in
     record {
       seam = (next_seam space c.loop-end.at c.in-Some.end c.loop-end.invariant.seam c.regions-regions.ensures.within
           (subst Ends c.regions-regions.ensures.regions c.in-Some.ensures.cells)).next;
       fills = fills_more (heap_of c.args.main.now) c.args.words.now c.loop-end.words c.fill_region.new.words 0
           c.loop-end.at c.in-Some.end (omega arith) (omega (arith, c.in-Some.ensures.ahead)) c.loop-end.invariant.fills
-          (subst Fills c.loop-end.invariant.same c.fill_region.ensures.filled);
-      same = c.fill_region.ensures.same ∙ c.loop-end.invariant.same;
+          c.fill_region.ensures;
     }
 
 -- the roots begin where no region of cells goes on

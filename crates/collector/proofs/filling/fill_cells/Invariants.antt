@@ -1,4 +1,4 @@
-use Rattle.std.proofs.Common.{◌≡◌, ◌-◌}
+use Rattle.std.proofs.Common.{◌-◌}
 use Rattle.page_space.specs.Extents.{words_count}
 use Rattle.write_barrier.specs.MutatorState.{heap_of}
 use Rattle.collector.specs.Filling.{FillsWithin}
@@ -9,7 +9,6 @@ abbrev pub invariant-loop-end : goal.invariant-loop-end
 invariant-loop-end l = record {
   seam : IsSeam l.fn.main.seat.space l.at;
   fills : FillsWithin (heap_of l.fn.main) l.fn.words l.words 0 l.at;
-  same : l.main ≡ l.fn.main;
 }
 
 abbrev pub decreases-loop-end : goal.decreases-loop-end

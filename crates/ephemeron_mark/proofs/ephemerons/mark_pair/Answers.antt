@@ -9,8 +9,8 @@ use Rattle.ephemeron_mark.proofs.WaitingKeys.{waiting_stays, waits_for_one}
 use Rattle.ephemeron_mark.proofs.ReadPairs.{read_pair, no_key, no_value}
 use Rattle.ephemeron_mark.proofs.ephemerons.mark_pair.Goals as goal
 
-pub word-requires-clause-within : goal.word-requires-clause-within
-word-requires-clause-within c =
+pub word-requires : goal.word-requires
+word-requires c =
     omega (arith, before_marks c.args.main.now.seat.space (c.args.at + 1) c.requires.pair.within)
 
 pub returns-in_default-clause-done : goal.returns-in_default-clause-done
@@ -18,8 +18,8 @@ returns-in_default-clause-done c key value refers value_refers =
     absurd (no_key c.requires.marking c.requires.pair c.word.result key value c.addresses_fit.ensures.fit
     c.word.ensures.of_heap (sym c.address.ensures ∙ c.in_default.is) refers value_refers)
 
-pub slot-requires-clause-within : goal.slot-requires-clause-within
-slot-requires-clause-within c = before_marks c.args.main.now.seat.space (c.args.at + 1) c.requires.pair.within
+pub slot-requires : goal.slot-requires
+slot-requires c = before_marks c.args.main.now.seat.space (c.args.at + 1) c.requires.pair.within
 
 pub returns-in_default-address-clause-done : goal.returns-in_default-address-clause-done
 returns-in_default-address-clause-done c key value refers value_refers =

@@ -9,8 +9,8 @@ use Rattle.ephemeron_mark.proofs.VisitedCells.{no_fewer, next_visited, stands_to
 use Rattle.ephemeron_mark.proofs.NotedMaps.{maps_stay, next_noted}
 use Rattle.ephemeron_mark.proofs.visits.visit_all.Goals as goal
 
-pub known_cell-cell-requires-clause-stands : goal.known_cell-cell-requires-clause-stands
-known_cell-cell-requires-clause-stands c =
+pub known_cell-cell-requires : goal.known_cell-cell-requires
+known_cell-cell-requires c =
     let marked = at_is_in c.loop-next.cells.addresses c.loop-next.next c.get.result c.get.ensures in
     stands_to_read c.loop-next.invariant.grown.marking c.get.result marked
 

@@ -1,7 +1,7 @@
 -- The pair that is taken off was the last.
 use Rattle.std.proofs.Common.{rules, ◌≡◌, ◌∙◌, ◌∷◌, ◌++◌, [], List, subst, arith}
 use Rattle.ephemeron_mark.specs.declared.waiting.WaitingPair.{WaitingPair}
-use Rattle.ephemeron_mark.specs.Kept.{AreTold}
+use Rattle.ephemeron_mark.specs.Model.{AreTold}
 use Rattle.ephemeron_mark.proofs.AddedPairs.{key_told, told_taken}
 use Rattle.ephemeron_mark.proofs.waiting.forget_pairs.Goals as goal
 

@@ -1,6 +1,6 @@
 -- The last pairs of keys are told of the pairs that are left.
 use Rattle.std.proofs.Common.{◌≡◌, length, vec_capacity}
-use Rattle.ephemeron_mark.specs.Kept.{AreTold}
+use Rattle.ephemeron_mark.specs.Model.{AreTold}
 use Rattle.ephemeron_mark.proofs.waiting.forget_pairs.Given as goal
 
 abbrev pub invariant-loop-pair : goal.invariant-loop-pair

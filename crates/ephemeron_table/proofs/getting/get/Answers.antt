@@ -15,12 +15,12 @@ use Rattle.ephemeron_table.proofs.getting.get.Goals as goal
 pub table_of-table-requires-clause-there : goal.table_of-table-requires-clause-there
 table_of-table-requires-clause-there c = shown_there (weak_shown c.requires.shown.shows c.requires.shown.is)
 
-pub number_at-requires-clause-within : goal.number_at-requires-clause-within
-number_at-requires-clause-within c =
+pub number_at-requires : goal.number_at-requires
+number_at-requires c =
     place_before_marks c.requires.shown.shows.shows.whole.sized c.requires.shown.is_key.place
 
-pub value_of_word-requires-clause-within : goal.value_of_word-requires-clause-within
-value_of_word-requires-clause-within c =
+pub value_of_word-requires : goal.value_of_word-requires
+value_of_word-requires c =
     let shows = c.requires.shown.shows in
     let comes = c.in-Key.ensures.0 in
     let told = key_told c.table_of-table.result c.in-Key.place (weak_shown shows c.requires.shown.is)

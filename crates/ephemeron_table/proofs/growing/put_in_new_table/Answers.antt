@@ -36,12 +36,12 @@ rehash-requires-clause-to c =
     c.in_ok-at.ensures.at c.grown-capacity.ensures c.in_ok-at.ensures.reserved
     c.begin_table.ensures.puts
 
-pub begin_table-requires-clause-quiet : goal.begin_table-requires-clause-quiet
-begin_table-requires-clause-quiet c =
+pub begin_table-requires-clause-may_store : goal.begin_table-requires-clause-may_store
+begin_table-requires-clause-may_store c =
     ap (λ (main : Mutator). main.seat.phase) c.in_ok-at.ensures.reserved ∙ c.requires.can.quiet
 
-pub rehash-requires-clause-quiet : goal.rehash-requires-clause-quiet
-rehash-requires-clause-quiet c =
+pub rehash-requires-clause-may_store : goal.rehash-requires-clause-may_store
+rehash-requires-clause-may_store c =
     c.begin_table.ensures.puts.beside.phase ∙ ap (λ (main : Mutator). main.seat.phase) c.in_ok-at.ensures.reserved
     ∙ c.requires.can.quiet
 
@@ -84,13 +84,13 @@ boxed_word-word-requires-clause-within c v boxed =
     c.in_ok-at.ensures.at c.grown-capacity.ensures in
     omega (arith, before, two, ap (λ (s : Space). marks_start s) space)
 
-pub boxed_word-word-requires-clause-quiet : goal.boxed_word-word-requires-clause-quiet
-boxed_word-word-requires-clause-quiet c =
+pub boxed_word-word-requires-clause-may_store : goal.boxed_word-word-requires-clause-may_store
+boxed_word-word-requires-clause-may_store c =
     c.rehash.ensures.changes.rest.phase ∙ c.begin_table.ensures.puts.beside.phase
     ∙ ap (λ (main : Mutator). main.seat.phase) c.in_ok-at.ensures.reserved ∙ c.requires.can.quiet
 
-pub insert_rehashed-requires-clause-quiet : goal.insert_rehashed-requires-clause-quiet
-insert_rehashed-requires-clause-quiet c =
+pub insert_rehashed-requires-clause-may_store : goal.insert_rehashed-requires-clause-may_store
+insert_rehashed-requires-clause-may_store c =
     c.boxed_word-word.ensures.made.beside.phase ∙ c.rehash.ensures.changes.rest.phase
     ∙ c.begin_table.ensures.puts.beside.phase ∙ ap (λ (main : Mutator). main.seat.phase) c.in_ok-at.ensures.reserved
     ∙ c.requires.can.quiet
@@ -110,8 +110,8 @@ insert_rehashed-requires-clause-key c =
     ∙ c.begin_table.ensures.puts.beside.space ∙ ap (λ (main : Mutator). main.seat.space) c.in_ok-at.ensures.reserved in
     subst (λ (s : Space). c.args.key < marks_start s) (sym space) c.requires.can.key_within
 
-pub made-requires-clause-quiet : goal.made-requires-clause-quiet
-made-requires-clause-quiet c =
+pub made-requires-clause-may_store : goal.made-requires-clause-may_store
+made-requires-clause-may_store c =
     c.insert_rehashed.ensures.words.beside.phase ∙ c.boxed_word-word.ensures.made.beside.phase
     ∙ c.rehash.ensures.changes.rest.phase ∙ c.begin_table.ensures.puts.beside.phase
     ∙ ap (λ (main : Mutator). main.seat.phase) c.in_ok-at.ensures.reserved ∙ c.requires.can.quiet
@@ -126,8 +126,8 @@ made-requires-clause-within c =
     ∙ c.rehash.ensures.changes.rest.space in
     subst (λ (s : Space). c.in_ok-at.at < marks_start s) (sym space) (begins_before _ _ _ within)
 
-pub store-requires-clause-quiet : goal.store-requires-clause-quiet
-store-requires-clause-quiet c =
+pub store-requires-clause-may_store : goal.store-requires-clause-may_store
+store-requires-clause-may_store c =
     ap (λ (main : Mutator). main.seat.phase) c.made.ensures.same ∙ c.insert_rehashed.ensures.words.beside.phase
     ∙ c.boxed_word-word.ensures.made.beside.phase ∙ c.rehash.ensures.changes.rest.phase
     ∙ c.begin_table.ensures.puts.beside.phase ∙ ap (λ (main : Mutator). main.seat.phase) c.in_ok-at.ensures.reserved
@@ -141,8 +141,8 @@ store-requires-clause-within c =
     ∙ c.begin_table.ensures.puts.beside.space ∙ ap (λ (main : Mutator). main.seat.space) c.in_ok-at.ensures.reserved in
     subst (λ (s : Space). c.args.map + 1 < marks_start s) (sym space) (slot_before _ _ c.requires.can.map_within)
 
-pub write_slot-requires-clause-quiet : goal.write_slot-requires-clause-quiet
-write_slot-requires-clause-quiet c =
+pub write_slot-requires-clause-may_store : goal.write_slot-requires-clause-may_store
+write_slot-requires-clause-may_store c =
     ap (λ (main : Mutator). main.seat.phase) c.store.ensures.stored
     ∙ ap (λ (main : Mutator). main.seat.phase) c.made.ensures.same ∙ c.insert_rehashed.ensures.words.beside.phase
     ∙ c.boxed_word-word.ensures.made.beside.phase ∙ c.rehash.ensures.changes.rest.phase

@@ -10,8 +10,8 @@ use Rattle.ephemeron_table.proofs.maps.put.Goals as goal
 pub table_of-table-requires-clause-there : goal.table_of-table-requires-clause-there
 table_of-table-requires-clause-there c = shown_there (weak_shown c.requires.shown.shows c.requires.shown.is)
 
-pub number_at-requires-clause-within : goal.number_at-requires-clause-within
-number_at-requires-clause-within c =
+pub number_at-requires : goal.number_at-requires
+number_at-requires c =
     place_before_marks c.requires.shown.shows.shows.whole.sized c.requires.shown.is_key.place
 
 pub put_there-requires-clause-held : goal.put_there-requires-clause-held

@@ -12,8 +12,8 @@ use Rattle.ephemeron_table.proofs.NewKeys.{lacks_new}
 use Rattle.ephemeron_table.proofs.TablesRead.{count_within}
 use Rattle.ephemeron_table.proofs.maps.put_new.Goals as goal
 
-pub slot-count-requires-clause-within : goal.slot-count-requires-clause-within
-slot-count-requires-clause-within c =
+pub slot-count-requires : goal.slot-count-requires
+slot-count-requires c =
     let shown = c.requires.shown in
     count_within shown.shows.shows.whole (shown_there (weak_shown shown.shows shown.is))
 

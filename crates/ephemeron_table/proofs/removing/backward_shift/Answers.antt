@@ -60,8 +60,8 @@ returns-in_default c =
           far.shifting next few c.place-next.ensures none;
     }
 
-pub number_at-number-requires-clause-within : goal.number_at-number-requires-clause-within
-number_at-number-requires-clause-within c =
+pub number_at-number-requires : goal.number_at-number-requires
+number_at-number-requires c =
     let within = table_within c.args.main.now c.args.table c.requires.within c.addresses_fit.ensures.heap_counted in
     let far = c.loop-passed.invariant in
     let few = c.loop-passed-test.true in

@@ -10,8 +10,8 @@ use Rattle.ephemeron_table.proofs.TablesRead.{weak_sound, weak_pairs, slot_withi
 use Rattle.ephemeron_table.proofs.TablesRead.{table_is_none}
 use Rattle.ephemeron_table.proofs.table.table_of.Goals as goal
 
-pub slot-requires-clause-within : goal.slot-requires-clause-within
-slot-requires-clause-within c = slot_within c.requires.whole.whole c.requires.there
+pub slot-requires : goal.slot-requires
+slot-requires c = slot_within c.requires.whole.whole c.requires.there
 
 -- the capacity of the table that was found is before the marks
 capacity_within : (c : goal.In-Some) → c.in-Some.at + 1 < marks_start c.args.main.now.seat.space
@@ -21,8 +21,8 @@ capacity_within c =
     c.slot.ensures.of_heap (sym c.address.ensures ∙ c.in-Some.is)).1 in
     omega (arith, cell_before_marks c.requires.whole.whole.sized one.refers.has, one.size, one.stands)
 
-pub slot-requires-in-Some-clause-within : goal.slot-requires-in-Some-clause-within
-slot-requires-in-Some-clause-within c = capacity_within c
+pub slot-requires-in-Some : goal.slot-requires-in-Some
+slot-requires-in-Some c = capacity_within c
 
 pub overflow_cast-result : goal.overflow_cast-result
 overflow_cast-result c =

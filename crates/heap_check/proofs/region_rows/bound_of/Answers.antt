@@ -1,6 +1,6 @@
 use Rattle.std.proofs.Common.{sym, subst}
 use Rattle.heap_model.specs.Images.{image_heap}
-use Rattle.heap_check.specs.declared.row.Bound.{Bound}
+use Rattle.heap_check.specs.declared.region_rows.Bound.{Bound}
 use Rattle.heap_check.specs.RegionRows.{BoundsFrom}
 use Rattle.heap_model.proofs.RegionRows.{start_inside}
 use Rattle.heap_check.proofs.UsedRows.{used_within, bounds_from}

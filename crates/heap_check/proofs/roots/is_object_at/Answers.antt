@@ -3,7 +3,7 @@ use Rattle.std.proofs.lemmas.Bool.{false≢true}
 use Rattle.heap_model.specs.Types.{Cell}
 use Rattle.heap_model.specs.Images.{image_heap}
 use Rattle.heap_model.specs.Heaps.{words_of_cell}
-use Rattle.tagged_word.specs.Cells.{is_object_kind}
+use Rattle.heap_model.specs.Slots.{is_object_kind}
 use Rattle.heap_model.proofs.CellsApart.{one_at}
 use Rattle.heap_check.proofs.roots.is_object_at.Goals as goal
 

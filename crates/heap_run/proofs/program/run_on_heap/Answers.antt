@@ -18,15 +18,16 @@ returns g c = λ bytes is.
     let script = c.args.script.now in
     let space = c.args.heap.main.seat.space in
     let heap : Heap = heap_of c.run_script-finished.new.heap.main in
-    let image = c.into_image.result in
-    let imaged = c.into_image.ensures in
+    let kept = c.keep.ensures in
+    let image = c.keep.result.image in
+    let imaged = kept.image in
     let finishes = finishes_imaged (counts_at_end c.args.inspection) finished _ _ _ _ laws_hold imaged ran.finishes in
     let keepable : IsKeepable space.sizes script image = record {
       regions = imaged.space ∙ ran.space
           ∙ ap (λ (n : ℕ). record { sizes = space.sizes; variables = n }) c.requires.variables;
       blank = images_are_blank heap (image_heap image) ran.finishes.reached.shown.whole imaged;
     } in
-    rw c.need.ensures
+    rw (kept.need, kept.line, kept.executed)
     (Runs-finished (counts_at_end c.args.inspection) space.sizes bytes script image finished.how finished.line
     finished.executed c.conclude-status.result
     _ _ _ _ _ _ is keepable finishes

@@ -17,15 +17,16 @@ returns g c = λ seed forms is.
     let script = c.args.script.now in
     let space = c.args.heap.main.seat.space in
     let heap : Heap = heap_of c.run_script-finished.new.heap.main in
-    let image = c.into_image.result in
-    let imaged = c.into_image.ensures in
+    let kept = c.keep.ensures in
+    let image = c.keep.result.image in
+    let imaged = kept.image in
     let finishes = finishes_imaged true finished _ _ _ _ laws_hold imaged (rw c.new-tally.ensures at ran.finishes) in
     let keepable : IsKeepable space.sizes script image = record {
       regions = imaged.space ∙ ran.space
           ∙ ap (λ (n : ℕ). record { sizes = space.sizes; variables = n }) c.requires.variables;
       blank = images_are_blank heap (image_heap image) ran.finishes.reached.shown.whole imaged;
     } in
-    rw c.need.ensures
+    rw (kept.need, kept.line, kept.executed)
     (Soaks-finished space.sizes seed forms script image c.run_script-finished.new.sink finished.how finished.line
     finished.executed c.conclude-status.result c.of_soak.result _ _ _ _ is keepable finishes c.of_soak.ensures
     (record { written = c.conclude-status.ensures.written; failed = c.conclude-status.ensures.failed })

@@ -10,8 +10,8 @@ tries-init c = record {
   out = refl;
 }
 
-pub execute-requires : goal.execute-requires
-execute-requires c =
+pub attempt-requires : goal.attempt-requires
+attempt-requires c =
     let now = c.tries.invariant in
     let (graph, shown, made) = c.requires.shown in
     record {
@@ -23,23 +23,23 @@ execute-requires c =
       room = rw now.out c.requires.room;
     }
 
-pub make_way-requires-clause-servable : goal.make_way-requires-clause-servable
-make_way-requires-clause-servable c =
+pub make_room_for-requires-clause-servable : goal.make_room_for-requires-clause-servable
+make_room_for-requires-clause-servable c =
     let now = c.tries.invariant in
-    servable c.args.script.now.fields c.execute.new.heap now.ready now.objects c.in-Err.ensures.rest c.requires.shown
+    servable c.args.script.now.fields c.attempt.new.heap now.ready now.objects c.in-Err.ensures.rest c.requires.shown
     c.in-Err.ensures.carried c.requires.within
 
-pub make_way-requires-clause-clearable : goal.make_way-requires-clause-clearable
-make_way-requires-clause-clearable c =
+pub make_room_for-requires-clause-clearable : goal.make_room_for-requires-clause-clearable
+make_room_for-requires-clause-clearable c =
     let now = c.tries.invariant in
-    clearable c.args.script.now.fields c.execute.new.heap now.ready now.objects c.in-Err.ensures.rest
+    clearable c.args.script.now.fields c.attempt.new.heap now.ready now.objects c.in-Err.ensures.rest
     c.requires.shown c.in-Err.ensures.carried
 
-pub make_way-requires-clause-shown : goal.make_way-requires-clause-shown
-make_way-requires-clause-shown c =
+pub make_room_for-requires-clause-shown : goal.make_room_for-requires-clause-shown
+make_room_for-requires-clause-shown c =
     let now = c.tries.invariant in
     let (graph, shown, made) = c.requires.shown in
-    let same = unchanged c.args.script.now.fields c.execute.new.heap now.ready now.objects c.in-Err.ensures.rest
+    let same = unchanged c.args.script.now.fields c.attempt.new.heap now.ready now.objects c.in-Err.ensures.rest
     c.requires.shown c.in-Err.ensures.carried in
     (graph, rw same (now.ready.shows graph shown))
 
@@ -57,21 +57,21 @@ tries-preserved c =
     let (text, tries, out-is) =
     c.in-Err.ensures.carried graph (now.ready.shows graph shown) (now.objects ∙ made) in
     record {
-      ready = ready_next c.args.script.now.fields c.execute.new.heap now.ready now.objects c.in-Err.ensures.rest
-          c.requires.shown c.in-Err.ensures.carried c.make_way.ensures.shows c.make_way.ensures.rest
+      ready = ready_next c.args.script.now.fields c.attempt.new.heap now.ready now.objects c.in-Err.ensures.rest
+          c.requires.shown c.in-Err.ensures.carried c.make_room_for.ensures.shows c.make_room_for.ensures.rest
           c.in-Some.ensures.way;
-      objects = c.in-Err.ensures.uncounted refl ∙ now.objects;
+      objects = c.in-Err.ensures.counted ∙ now.objects;
       out = out-is ∙ now.out;
     }
 
-pub returns-in_default-make_way-clause-carried : goal.returns-in_default-make_way-clause-carried
-returns-in_default-make_way-clause-carried c = λ graph shown made.
+pub returns-in_default-make_room_for-clause-carried : goal.returns-in_default-make_room_for-clause-carried
+returns-in_default-make_room_for-clause-carried c = λ graph shown made.
     let now = c.tries.invariant in
     let (text, tries, out-is) =
     c.in-Err.ensures.carried graph (now.ready.shows graph shown) (now.objects ∙ made) in (
       text,
-      stops c.args.script.now.fields c.execute.new.heap now.ready now.objects c.in-Err.ensures.rest c.requires.shown
-          c.in-Err.ensures.carried c.make_way.ensures.shows c.make_way.ensures.rest c.laws_of_counts.ensures.full
-          c.laws_of_fitting.ensures.nowhere c.in_default-make_way.ensures.way graph shown made,
+      stops c.args.script.now.fields c.attempt.new.heap now.ready now.objects c.in-Err.ensures.rest c.requires.shown
+          c.in-Err.ensures.carried c.make_room_for.ensures.shows c.make_room_for.ensures.rest c.laws_of_counts.ensures.full
+          c.laws_of_fitting.ensures.nowhere c.in_default-make_room_for.ensures.way graph shown made,
       out-is ∙ now.out,
     )

@@ -70,29 +70,29 @@ begin_store-requires-clause-apart c =
     run_apart c.args.list c.args.store run c.requires.can.is
     (omega (arith, c.grown-capacity.ensures, c.requires.few, c.requires.full))
 
-pub begin_store-requires-clause-quiet : goal.begin_store-requires-clause-quiet
-begin_store-requires-clause-quiet c =
+pub begin_store-requires-clause-may_store : goal.begin_store-requires-clause-may_store
+begin_store-requires-clause-may_store c =
     ap (λ (main : Mutator). main.seat.phase) c.in_ok-at.ensures.reserved ∙ c.requires.can.ready.whole.quiet
 
-pub boxed_word-word-requires-clause-quiet : goal.boxed_word-word-requires-clause-quiet
-boxed_word-word-requires-clause-quiet c =
+pub boxed_word-word-requires-clause-may_store : goal.boxed_word-word-requires-clause-may_store
+boxed_word-word-requires-clause-may_store c =
     c.begin_store.ensures.puts.beside.phase
     ∙ ap (λ (main : Mutator). main.seat.phase) c.in_ok-at.ensures.reserved ∙ c.requires.can.ready.whole.quiet
 
-pub store-requires-clause-quiet : goal.store-requires-clause-quiet
-store-requires-clause-quiet c =
+pub store-requires-clause-may_store : goal.store-requires-clause-may_store
+store-requires-clause-may_store c =
     c.boxed_word-word.ensures.made.beside.phase ∙ c.begin_store.ensures.puts.beside.phase
     ∙ ap (λ (main : Mutator). main.seat.phase) c.in_ok-at.ensures.reserved ∙ c.requires.can.ready.whole.quiet
 
-pub store-requires-2-clause-quiet : goal.store-requires-2-clause-quiet
-store-requires-2-clause-quiet c =
+pub store-requires-2-clause-may_store : goal.store-requires-2-clause-may_store
+store-requires-2-clause-may_store c =
     ap (λ (main : Mutator). main.seat.phase) c.made.ensures.same
     ∙ ap (λ (main : Mutator). main.seat.phase) c.store.ensures.stored
     ∙ c.boxed_word-word.ensures.made.beside.phase ∙ c.begin_store.ensures.puts.beside.phase
     ∙ ap (λ (main : Mutator). main.seat.phase) c.in_ok-at.ensures.reserved ∙ c.requires.can.ready.whole.quiet
 
-pub write_slot-requires-clause-quiet : goal.write_slot-requires-clause-quiet
-write_slot-requires-clause-quiet c =
+pub write_slot-requires-clause-may_store : goal.write_slot-requires-clause-may_store
+write_slot-requires-clause-may_store c =
     ap (λ (main : Mutator). main.seat.phase) c.store-2.ensures.stored
     ∙ ap (λ (main : Mutator). main.seat.phase) c.made.ensures.same
     ∙ ap (λ (main : Mutator). main.seat.phase) c.store.ensures.stored

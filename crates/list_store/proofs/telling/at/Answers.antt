@@ -8,8 +8,8 @@ use Rattle.write_barrier.specs.MutatorState.{heap_of}
 use Rattle.list_store.specs.ListChanges.{TellsWord}
 use Rattle.list_store.proofs.telling.at.Goals as goal
 
-pub value_of_word-requires-clause-within : goal.value_of_word-requires-clause-within
-value_of_word-requires-clause-within c =
+pub value_of_word-requires : goal.value_of_word-requires
+value_of_word-requires c =
     let (value, element, by) =
     c.in_ok-word.ensures c.requires.graph c.requires.list c.requires.shows c.requires.is in
     by.within

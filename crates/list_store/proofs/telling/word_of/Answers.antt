@@ -22,8 +22,8 @@ returns-in_default c graph one shows is =
 pub store_of-store-requires-clause-there : goal.store_of-store-requires-clause-there
 store_of-store-requires-clause-there c = shown_beside (list_shown c.requires.shows c.requires.is)
 
-pub slot-requires-clause-within : goal.slot-requires-clause-within
-slot-requires-clause-within c =
+pub slot-requires : goal.slot-requires
+slot-requires c =
     let ready = shown_ready c.requires.shows (list_shown c.requires.shows c.requires.is) c.count_of.ensures.counted in
     let below = place_below c.count_of.result c.in-Some.place _ (sym c.checked_index.ensures ∙ c.in-Some.is) in
     (place_stands c.store_of-store.result c.in-Some.place ready c.store_of-store.ensures below).within

@@ -1,4 +1,4 @@
-use Rattle.seat_steps.proofs.Tested.{same_test}
+use Rattle.core_parts.proofs.Tested.{same_test}
 use Rattle.mark_core.proofs.cells.is_slot.Goals as goal
 
 pub returns : goal.returns

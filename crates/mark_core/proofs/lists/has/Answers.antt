@@ -1,5 +1,5 @@
 use Rattle.std.proofs.Common.{sym, ◌∙◌}
-use Rattle.seat_steps.proofs.Joining.{in_found, found_in}
+use Rattle.core_parts.proofs.Joining.{in_found, found_in}
 use Rattle.mark_core.proofs.lists.has.Goals as goal
 
 pub returns : goal.returns

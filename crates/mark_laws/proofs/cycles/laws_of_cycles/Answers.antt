@@ -1,3 +1,4 @@
+use Rattle.mark_laws.proofs.BlackLeads.{black_leads_on}
 use Rattle.mark_laws.proofs.Led.{led_is_black, sure_is_black}
 use Rattle.mark_laws.proofs.RestartSettles.{restarts_stay_settled}
 use Rattle.mark_laws.proofs.WholeAgain.{restarts_stay_whole}
@@ -8,6 +9,9 @@ returns-clause-led c = led_is_black
 
 pub returns-clause-sure : goal.returns-clause-sure
 returns-clause-sure c = sure_is_black
+
+pub returns-clause-black : goal.returns-clause-black
+returns-clause-black c = black_leads_on
 
 pub returns-clause-restart : goal.returns-clause-restart
 returns-clause-restart c = restarts_stay_whole

@@ -88,7 +88,7 @@ pub is_bound-requires : goal.is_bound-requires
 is_bound-requires c =
     let shows = c.requires.shown.1 in
     let known = subst (NamesBelow c.args.main.now.seat.space.variables) c.in-Var.is c.requires.within.1 in
-    record { quiet = shows.quiet; known = known; root = is_root c.in-Var.from shows known }
+    record { known = known; root = is_root c.in-Var.from shows known }
 
 pub returns-then-not-is_bound : goal.returns-then-not-is_bound
 returns-then-not-is_bound c = record {

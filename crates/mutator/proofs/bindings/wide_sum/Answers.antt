@@ -1,5 +1,5 @@
 -- The sum of two integers, the first of which is not small, and the second is: within 62 bits it does not wrap.
-use Rattle.std.proofs.Common.{◌+ℤ◌, ◌∙◌, w64, SFits, Some, rules}
+use Rattle.std.proofs.Common.{◌+ℤ◌, ◌∙◌, w64, SFits, rules}
 use Rattle.std.proofs.lemmas.Int.{int_wrap_fits, wrapping_add_is}
 use Rattle.mutator.proofs.HeldValues.{is_root}
 use Rattle.mutator.proofs.IntegerSums.{finds_sum}
@@ -22,6 +22,6 @@ returns-else-is_small-clause-found c graph names shows =
     let first_fits : SFits w64 first = search rules in
     let second_fits : SFits w64 second = search rules in
     let fits : SFits w64 (first +ℤ second) = search rules in
-    finds_sum names graph c.args.x c.args.v.now first second (Some _)
-    (integer_held c.args.x first shows c.requires.within.0 c.in_ok-first.ensures.holds.1) (is graph after)
-    (fits, wrapping_add_is w64 first second first_fits second_fits ∙ int_wrap_fits w64 (first +ℤ second) fits)
+    finds_sum names graph c.args.x c.args.v.now first second _
+    (integer_held c.args.x first shows c.requires.within.0 c.in_ok-first.ensures.holds.1) (is graph after) fits
+    (wrapping_add_is w64 first second first_fits second_fits ∙ int_wrap_fits w64 (first +ℤ second) fits)

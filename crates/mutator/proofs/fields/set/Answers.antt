@@ -1,51 +1,67 @@
--- The field comes to have the value, or the command stops with why it cannot.
+-- The value is read first: a small integer by its word, and any other.
+use Rattle.std.proofs.Common.{[], Some, ◌∙◌, subst}
 use Rattle.heap_command.specs.declared.command.Command.TheVariants.{Set}
-use Rattle.mutator.specs.Stops.{stop_of}
-use Rattle.mutator.proofs.FieldsSet.{setting_known, setting_shown, set_carried, set_stopped}
-use Rattle.mutator.proofs.StoppedBy.{stopped_with}
-use Rattle.mutator.proofs.StillShown.{shows_still, stands_still, value_still}
+use Rattle.object_graph.specs.Graphs.{value_of}
+use Rattle.write_barrier.specs.MutatorState.{Mutator}
+use Rattle.mutator.specs.CarriesOut.{Carries}
+use Rattle.mutator.proofs.SmallWords.{small_given}
+use Rattle.mutator.proofs.StillShown.{some_still, shows_still, given_still}
 use Rattle.mutator.proofs.fields.set.Goals as goal
 
-pub plain-requires : goal.plain-requires
-plain-requires c =
+pub set_value-requires-clause-shown : goal.set_value-requires-clause-shown
+set_value-requires-clause-shown o c =
     let (graph, shows) = c.requires.shown in
-    let both = (c.in_ok-target.ensures.found graph shows).both in
-    value_still graph both.first c.in_ok-target.target c.target_and_given.ensures.same shows both.stands_first
+    (graph, c.args.v.now, shows_still c.small_word.ensures.same shows, small_given (c.in-Some.ensures.found graph shows))
 
-pub set-requires : goal.set-requires
-set-requires c =
+pub set_value-requires-clause-is : goal.set_value-requires-clause-is
+set_value-requires-clause-is o c =
     let (graph, shows) = c.requires.shown in
-    let same = c.target_and_given.ensures.same in
-    let read = c.in_ok-target.ensures.found graph shows in
-    let found = c.in_ok-found.ensures graph read.both.first (shows_still same shows)
-    (stands_still same read.both.stands_first) in
-    (read.second, read.gives, setting_shown (setting_known c.args.x c.args.v same shows read.both found))
+    let found = c.in-Some.ensures.found graph shows in (found.v, found.small, found.gives)
 
-pub returns : goal.returns
-returns c = record {
-  carried = λ graph names shows.
-      let same = c.target_and_given.ensures.same in
-      let read = c.in_ok-target.ensures.found graph shows in
-      let found = c.in_ok-found.ensures graph read.both.first (shows_still same shows)
-      (stands_still same read.both.stands_first) in
-      let setting = setting_known c.args.x c.args.v same shows read.both found in
-      set_carried names c.args.f same setting
-      (c.in_ok-set.ensures read.second read.gives graph setting.plain setting.value setting.shows setting.stands
-      setting.held);
-}
+pub returns-in-Some : goal.returns-in-Some
+returns-in-Some o c =
+    let same = c.small_word.ensures.same in
+    let (came, says, carried) = c.set_value.ensures.carried in
+    record {
+      carried = (
+        came,
+        says,
+        λ graph names shows.
+            subst (λ (main : Mutator). Carries names main c.set_value.new.main graph
+            (Set c.args.x c.args.f c.args.v.now) [] came) same
+            (carried graph names c.args.v.now (shows_still same shows)
+            (small_given (c.in-Some.ensures.found graph shows))),
+      );
+    }
 
-pub returns-in_err-set : goal.returns-in_err-set
-returns-in_err-set c = record {
-  carried = λ graph names shows.
-      let same = c.target_and_given.ensures.same in
-      let read = c.in_ok-target.ensures.found graph shows in
-      let found = c.in_ok-found.ensures graph read.both.first (shows_still same shows)
-      (stands_still same read.both.stands_first) in
-      let setting = setting_known c.args.x c.args.v same shows read.both found in
-      let stop = c.in_err-set.field-0.0 in
-      let sets = c.in_err-set.ensures read.second read.gives graph setting.plain setting.value setting.shows
-      setting.stands setting.held in
-      stopped_with c.set.new.main graph names (Set c.args.x c.args.f c.args.v) c.from_residual-in_err-set.result
-      (stop_of stop) same c.from_residual-in_err-set.ensures.1
-      (set_stopped c.set.new.main names c.args.f stop setting sets);
-}
+pub given-requires-clause-shown : goal.given-requires-clause-shown
+given-requires-clause-shown o c = some_still c.small_word.ensures.same c.requires.shown
+
+pub set_value-requires-in-Some-given-clause-shown : goal.set_value-requires-in-Some-given-clause-shown
+set_value-requires-in-Some-given-clause-shown o c =
+    let (graph, shows) = c.requires.shown in
+    let still = shows_still c.small_word.ensures.same shows in (
+      graph,
+      c.args.v.now,
+      shows_still c.given.ensures.same still,
+      given_still graph (value_of graph c.args.v.now) (Some c.in-Some-given.value) c.given.ensures.same
+          (c.in-Some-given.ensures.found graph still),
+    )
+
+pub returns-in-Some-given : goal.returns-in-Some-given
+returns-in-Some-given o c =
+    let same = c.given.ensures.same ∙ c.small_word.ensures.same in
+    let (came, says, carried) = c.set_value-in-Some-given.ensures.carried in
+    record {
+      carried = (
+        came,
+        says,
+        λ graph names shows.
+            let still = shows_still c.small_word.ensures.same shows in
+            subst (λ (main : Mutator). Carries names main c.set_value-in-Some-given.new.main graph
+            (Set c.args.x c.args.f c.args.v.now) [] came) same
+            (carried graph names c.args.v.now (shows_still same shows)
+            (given_still graph (value_of graph c.args.v.now) (Some c.in-Some-given.value) c.given.ensures.same
+            (c.in-Some-given.ensures.found graph still))),
+      );
+    }

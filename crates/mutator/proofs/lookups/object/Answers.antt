@@ -13,8 +13,8 @@ use Rattle.mutator.specs.Reading.{StandsFor}
 use Rattle.mutator.proofs.ObjectsAt.{held_object, found_object}
 use Rattle.mutator.proofs.lookups.object.Goals as goal
 
-pub header-shape-requires-clause-there : goal.header-shape-requires-clause-there
-header-shape-requires-clause-there c =
+pub header-shape-requires : goal.header-shape-requires
+header-shape-requires c =
     let shown = c.requires in
     let there = held_object c.in-Ref.at shown.value shown.shows
     (subst (λ h. StandsFor c.args.main.now shown.graph shown.value h) c.in-Ref.is shown.stands) in

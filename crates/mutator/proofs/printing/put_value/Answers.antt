@@ -13,8 +13,8 @@ use Rattle.mutator.proofs.ValueTexts.{line_put, object_told}
 use Rattle.mutator.proofs.printing.put_value.Goals as goal
 use Rattle.mutator.proofs.printing.put_value.Goals.{in-Unbound, in-Int, in-Ref}
 
-pub header-header-requires-clause-there : goal.header-header-requires-clause-there
-header-header-requires-clause-there c =
+pub header-header-requires : goal.header-header-requires
+header-header-requires c =
     let P : Held → Type 0 = λ h. StandsFor c.args.main.now c.requires.shown.graph c.requires.shown.value h in
     let held = held_object c.in-Ref.at c.requires.shown.value c.requires.shown.shows
     (subst P c.in-Ref.is c.requires.shown.stands) in

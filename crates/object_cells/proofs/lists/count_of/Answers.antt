@@ -3,8 +3,8 @@ use Rattle.std.proofs.Common.{arith}
 use Rattle.object_cells.proofs.ListCells.{sound_at, count_within, count_read}
 use Rattle.object_cells.proofs.lists.count_of.Goals as goal
 
-pub slot-requires-clause-within : goal.slot-requires-clause-within
-slot-requires-clause-within c = count_within c.requires.whole.whole c.requires.there
+pub slot-requires : goal.slot-requires
+slot-requires c = count_within c.requires.whole.whole c.requires.there
 
 pub overflow_cast-result : goal.overflow_cast-result
 overflow_cast-result c =

@@ -10,8 +10,8 @@ use Rattle.object_cells.proofs.CellsRead.{cell_before_marks}
 use Rattle.object_cells.proofs.StoresRead.{read_store, store_is, store_is_none}
 use Rattle.object_cells.proofs.stores.store_of.Goals as goal
 
-pub slot-requires-clause-within : goal.slot-requires-clause-within
-slot-requires-clause-within c =
+pub slot-requires : goal.slot-requires
+slot-requires c =
     let there = c.requires.there in
     omega (
       arith,
@@ -28,8 +28,8 @@ length_within c =
     (sym c.address.ensures ∙ c.in-Some.is)).found in
     omega (arith, cell_before_marks c.requires.whole.whole.sized one.refers.has, one.size, one.stands)
 
-pub slot-requires-in-Some-clause-within : goal.slot-requires-in-Some-clause-within
-slot-requires-in-Some-clause-within c = length_within c
+pub slot-requires-in-Some : goal.slot-requires-in-Some
+slot-requires-in-Some c = length_within c
 
 pub overflow_cast-result : goal.overflow_cast-result
 overflow_cast-result c =

@@ -4,7 +4,7 @@ use Rattle.std.proofs.lemmas.List.{with_items_is, length-set}
 use Rattle.page_space.specs.Sizes.{page_words, pages_most}
 use Rattle.remembered_set.specs.Bits.{flags_of}
 use Rattle.remembered_set.specs.Flags.{AreClear}
-use Rattle.remembered_set.specs.Kept.{shown}
+use Rattle.remembered_set.specs.Model.{shown}
 use Rattle.remembered_set.specs.Recorded.{Recorded, forgotten}
 use Rattle.remembered_set.proofs.Ascending.{is_forgotten}
 use Rattle.remembered_set.proofs.Bounds.{bound_is, as_many_words, flags_long}

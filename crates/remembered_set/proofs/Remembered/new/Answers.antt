@@ -2,7 +2,7 @@ use Rattle.std.proofs.Common.{◌≡◌, ℕ, ◌*◌, arith, ap, ◌∙◌, fal
 use Rattle.std.proofs.lemmas.List.{length-replicate}
 use Rattle.page_space.specs.Sizes.{page_words}
 use Rattle.remembered_set.specs.Bits.{flags_of}
-use Rattle.remembered_set.specs.Kept.{shown}
+use Rattle.remembered_set.specs.Model.{shown}
 use Rattle.remembered_set.proofs.Slots.{is_recorded}
 use Rattle.remembered_set.proofs.Shown.{slots_of-replicate}
 use Rattle.remembered_set.proofs.Words.{length-flags_of, flags_of-zeros}

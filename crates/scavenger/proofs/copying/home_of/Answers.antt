@@ -4,8 +4,8 @@ use Rattle.scavenger.proofs.LoopTargets.{refers_by, has_target, target_before_ma
 use Rattle.scavenger.proofs.LoopMoves.{home_moves}
 use Rattle.scavenger.proofs.copying.home_of.Goals as goal
 
-pub word-word-requires-clause-within : goal.word-word-requires-clause-within
-word-word-requires-clause-within c =
+pub word-word-requires : goal.word-word-requires
+word-word-requires c =
     let move = c.requires.spaces.2 in
     let may = move.may in
     target_before_marks may.scavenging c.args.at

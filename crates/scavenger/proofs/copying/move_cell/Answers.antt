@@ -7,25 +7,27 @@ use Rattle.scavenger.proofs.LoopMoves.{cell_there, cell_found, copied_stays, you
 use Rattle.scavenger.proofs.LoopMoves.{list_is_short, found_moves}
 use Rattle.scavenger.proofs.copying.move_cell.Goals as goal
 
-pub known_cell-cell-requires-clause-stands : goal.known_cell-cell-requires-clause-stands
-known_cell-cell-requires-clause-stands c =
+pub known_cell_by-cell-requires-clause-stands : goal.known_cell_by-cell-requires-clause-stands
+known_cell_by-cell-requires-clause-stands c =
     let one = cell_there c.args.word c.requires.spaces.2 c.requires.read c.requires.unmoved in
-    (one.0, new_is_cell one.1.state one.1.new, one.1.stands)
+    (one.0, record { is_cell = new_is_cell one.1.state one.1.new; stands = one.1.stands })
 
 pub place_for-to-requires-clause-some : goal.place_for-to-requires-clause-some
 place_for-to-requires-clause-some c =
     let main = c.args.main.now in
-    let found = cell_found c.args.word c.known_cell-cell.result c.requires.spaces.2 c.requires.read c.requires.unmoved
-    c.known_cell-cell.ensures in
-    (cells_have_words main.seat.space (heap_words main.seat) c.known_cell-cell.result
+    let found = cell_found c.args.word c.known_cell_by-cell.result c.requires.spaces.2 c.requires.read
+    c.requires.unmoved
+    c.known_cell_by-cell.ensures.one in
+    (cells_have_words main.seat.space (heap_words main.seat) c.known_cell_by-cell.result
     (new_is_cell found.state found.new)).0
 
 pub place_for-to-requires-clause-few : goal.place_for-to-requires-clause-few
 place_for-to-requires-clause-few c =
     let main = c.args.main.now in
-    let found = cell_found c.args.word c.known_cell-cell.result c.requires.spaces.2 c.requires.read c.requires.unmoved
-    c.known_cell-cell.ensures in
-    let few = (cells_have_words main.seat.space (heap_words main.seat) c.known_cell-cell.result
+    let found = cell_found c.args.word c.known_cell_by-cell.result c.requires.spaces.2 c.requires.read
+    c.requires.unmoved
+    c.known_cell_by-cell.ensures.one in
+    let few = (cells_have_words main.seat.space (heap_words main.seat) c.known_cell_by-cell.result
     (new_is_cell found.state found.new)).1 in
     omega (arith, few)
 
@@ -34,46 +36,44 @@ place_for-to-requires-clause-free c = stand_free c.requires.spaces.2.may.scaveng
 
 pub place_for-to-requires-clause-within : goal.place_for-to-requires-clause-within
 place_for-to-requires-clause-within c =
-    let found = cell_found c.args.word c.known_cell-cell.result c.requires.spaces.2 c.requires.read c.requires.unmoved
-    c.known_cell-cell.ensures in
+    let found = cell_found c.args.word c.known_cell_by-cell.result c.requires.spaces.2 c.requires.read
+    c.requires.unmoved
+    c.known_cell_by-cell.ensures.one in
     omega (arith, copy_before_marks found.state found.new, c.addresses_fit.ensures.fit)
-
-pub place_for-to-requires-clause-few_stayed : goal.place_for-to-requires-clause-few_stayed
-place_for-to-requires-clause-few_stayed c =
-    let found = cell_found c.args.word c.known_cell-cell.result c.requires.spaces.2 c.requires.read c.requires.unmoved
-    c.known_cell-cell.ensures in
-    let few = few_words found.state found.new in
-    let young = young_before_marks c.args.main.now.seat.space in
-    omega (arith, found.state.counted.few, few, young, c.addresses_fit.ensures.fit)
 
 pub copy_cell-requires-clause-quiet : goal.copy_cell-requires-clause-quiet
 copy_cell-requires-clause-quiet c =
-    let found = cell_found c.args.word c.known_cell-cell.result c.requires.spaces.2 c.requires.read c.requires.unmoved
-    c.known_cell-cell.ensures in
+    let found = cell_found c.args.word c.known_cell_by-cell.result c.requires.spaces.2 c.requires.read
+    c.requires.unmoved
+    c.known_cell_by-cell.ensures.one in
     (found_may_be_copied found (c.place_for-to.ensures c.requires.spaces.0 c.requires.spaces.1)).quiet
 
 pub copy_cell-requires-clause-is : goal.copy_cell-requires-clause-is
 copy_cell-requires-clause-is c =
-    let found = cell_found c.args.word c.known_cell-cell.result c.requires.spaces.2 c.requires.read c.requires.unmoved
-    c.known_cell-cell.ensures in
+    let found = cell_found c.args.word c.known_cell_by-cell.result c.requires.spaces.2 c.requires.read
+    c.requires.unmoved
+    c.known_cell_by-cell.ensures.one in
     (found_may_be_copied found (c.place_for-to.ensures c.requires.spaces.0 c.requires.spaces.1)).is
 
 pub copy_cell-requires-clause-room : goal.copy_cell-requires-clause-room
 copy_cell-requires-clause-room c =
-    let found = cell_found c.args.word c.known_cell-cell.result c.requires.spaces.2 c.requires.read c.requires.unmoved
-    c.known_cell-cell.ensures in
+    let found = cell_found c.args.word c.known_cell_by-cell.result c.requires.spaces.2 c.requires.read
+    c.requires.unmoved
+    c.known_cell_by-cell.ensures.one in
     (found_may_be_copied found (c.place_for-to.ensures c.requires.spaces.0 c.requires.spaces.1)).room
 
 pub copy_cell-requires-clause-apart : goal.copy_cell-requires-clause-apart
 copy_cell-requires-clause-apart c =
-    let found = cell_found c.args.word c.known_cell-cell.result c.requires.spaces.2 c.requires.read c.requires.unmoved
-    c.known_cell-cell.ensures in
+    let found = cell_found c.args.word c.known_cell_by-cell.result c.requires.spaces.2 c.requires.read
+    c.requires.unmoved
+    c.known_cell_by-cell.ensures.one in
     (found_may_be_copied found (c.place_for-to.ensures c.requires.spaces.0 c.requires.spaces.1)).apart
 
-pub overflow_add-progress : goal.overflow_add-progress
-overflow_add-progress c =
-    let found = cell_found c.args.word c.known_cell-cell.result c.requires.spaces.2 c.requires.read c.requires.unmoved
-    c.known_cell-cell.ensures in
+pub overflow_add-worker : goal.overflow_add-worker
+overflow_add-worker c =
+    let found = cell_found c.args.word c.known_cell_by-cell.result c.requires.spaces.2 c.requires.read
+    c.requires.unmoved
+    c.known_cell_by-cell.ensures.one in
     let same = copied_stays c.place_for-to.new.progress c.place_for-to.result
     (c.place_for-to.ensures c.requires.spaces.0 c.requires.spaces.1) in
     let few = few_words found.state found.new in
@@ -81,12 +81,15 @@ overflow_add-progress c =
 
 pub push_reserved-requires : goal.push_reserved-requires
 push_reserved-requires c =
-    let found = cell_found c.args.word c.known_cell-cell.result c.requires.spaces.2 c.requires.read c.requires.unmoved
-    c.known_cell-cell.ensures in
+    let found = cell_found c.args.word c.known_cell_by-cell.result c.requires.spaces.2 c.requires.read
+    c.requires.unmoved
+    c.known_cell_by-cell.ensures.one in
     omega (arith, list_is_short found, c.requires.room)
 
 pub returns-clause-moved : goal.returns-clause-moved
 returns-clause-moved c start all front state slot place are stood refers left =
-    found_moves state slot place c.args.at c.args.word c.place_for-to.result c.known_cell-cell.result stood refers left
-    c.requires.read c.requires.unmoved c.known_cell-cell.ensures (c.place_for-to.ensures all are) c.copy_cell.ensures
+    found_moves state slot place c.args.at c.args.word c.place_for-to.result c.known_cell_by-cell.result stood refers
+    left
+    c.requires.read c.requires.unmoved c.known_cell_by-cell.ensures.one (c.place_for-to.ensures all are)
+    c.copy_cell.ensures
     c.push_reserved.ensures.items

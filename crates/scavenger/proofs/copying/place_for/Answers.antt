@@ -5,17 +5,22 @@ use Rattle.heap_model.specs.Types.{Cell, Run}
 use Rattle.write_barrier.specs.MutatorState.{Mutator}
 use Rattle.scavenger.specs.declared.progress.Progress.{Progress}
 use Rattle.scavenger.specs.Following.{IsFreeAt}
-use Rattle.scavenger.specs.Walking.{IsToPromote, Places, stays_in_vain}
+use Rattle.scavenger.specs.Walking.{IsToPromote, Places, stays_young}
 use Rattle.scavenger.proofs.copying.place_for.Goals.{then-size-progress+in_default, else-size-progress}
 use Rattle.scavenger.proofs.copying.place_for.Goals as goal
 
 pub returns-then-not-are_promoted : goal.returns-then-not-are_promoted
 returns-then-not-are_promoted c all are =
     let main = c.args.main.now in
-    Places.stays refl (λ promote.
+    let now : Progress = c.args.progress.now in
+    let goes : Places main main all c.args.at c.args.size now (stays_young now c.args.size) now.fill =
+    Places.stays refl (λ (promote : IsToPromote main.seat.space all c.args.at).
     let is : IsTrue c.are_promoted.result =
     (c.are_promoted.ensures main.seat.space main.young.half all are).1 promote in
-    let is_not = c.if-not-are_promoted.true in cc)
+    let is_not = c.if-not-are_promoted.true in cc) in
+    subst (Places main main all c.args.at c.args.size now c.stays_young.new.self) (sym c.stays_young.ensures.to)
+    (subst (λ (after : Progress). Places main main all c.args.at c.args.size now after now.fill)
+    (sym c.stays_young.ensures.stays) goes)
 
 pub returns-in-Some : goal.returns-in-Some
 returns-in-Some c all are =
@@ -41,7 +46,7 @@ returns c all are =
     let promote : IsToPromote main.seat.space all c.args.at =
     (c.are_promoted.ensures main.seat.space main.young.half all are).0 is in
     let Goes : Mutator → Progress → Type 0 = λ new progress.
-    Places main new all c.args.at c.args.size now (stays_in_vain progress c.args.size) progress.fill in
+    Places main new all c.args.at c.args.size now (stays_young progress c.args.size) progress.fill in
     let goes : Goes mid c.if-size-progress.progress =
     elim c.if-size-progress.branch [
       | then-size-progress+in_default w ↦
@@ -53,6 +58,6 @@ returns c all are =
           subst (λ (new : Mutator). Goes new c.if-size-progress.progress) (sym w.main-is)
           (subst (Goes main) (sym w.progress-is) (Places.passes refl promote w.if-size-progress.false))
     ] in
-    subst (Places main mid all c.args.at c.args.size now c.stays_in_vain.new.self) (sym c.stays_in_vain.ensures.to)
+    subst (Places main mid all c.args.at c.args.size now c.stays_young-2.new.self) (sym c.stays_young-2.ensures.to)
     (subst (λ (after : Progress). Places main mid all c.args.at c.args.size now after c.if-size-progress.progress.fill)
-    (sym c.stays_in_vain.ensures.stays) goes)
+    (sym c.stays_young-2.ensures.stays) goes)

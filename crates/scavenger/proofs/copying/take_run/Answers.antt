@@ -1,9 +1,8 @@
 -- The front of a free run is taken, and the rest of it becomes a free cell.
-use Rattle.std.proofs.Common.{◌≡◌, ◌+◌, ◌-◌, ◌<◌, ◌≤◌, ℕ, List, refl, sym, ap, subst, arith}
+use Rattle.std.proofs.Common.{◌≡◌, ◌+◌, ◌-◌, ◌≤◌, ℕ, List, refl, sym, ap, subst, arith}
 use Rattle.page_space.specs.Extents.{marks_start}
 use Rattle.free_runs.specs.FreeRuns.{TakesFront}
 use Rattle.cell_layout.specs.Cells.{IsCell}
-use Rattle.cell_layout.proofs.OneCell.{cells_have_words}
 use Rattle.heap_table.specs.Seats.{Seat, heap_words}
 use Rattle.heap_model.specs.Types.{Cell, Run}
 use Rattle.write_barrier.specs.MutatorState.{Mutator}
@@ -11,25 +10,17 @@ use Rattle.scavenger.specs.Walking.{CutsFreeCell}
 use Rattle.scavenger.proofs.CodePlaces.{free_of, run_taken}
 use Rattle.scavenger.proofs.copying.take_run.Goals as goal
 
-pub word-requires-clause-within : goal.word-requires-clause-within
-word-requires-clause-within c =
-    let counted = c.addresses_fit.ensures.heap_counted in
-    let found = free_of {main = c.args.main.now} c.requires.free c.in_ok-run.ensures.taken counted in
-    let main = c.args.main.now in
-    let same : c.take_free.new.self.seat ≡ main.seat = ap (λ (one : Mutator). one.seat) c.take_free.ensures.rest in
-    let some = (cells_have_words main.seat.space (heap_words main.seat) found.free found.is.is_cell).0 in
-    subst (λ (seat : Seat). c.in_ok-run.run'.at < marks_start seat.space) (sym same)
-    (omega (arith, some, found.ends))
-
-pub known_cell-free-requires-clause-stands : goal.known_cell-free-requires-clause-stands
-known_cell-free-requires-clause-stands c =
+pub known_cell-free-requires : goal.known_cell-free-requires
+known_cell-free-requires c =
     let counted = c.addresses_fit.ensures.heap_counted in
     let found = free_of {main = c.args.main.now} c.requires.free c.in_ok-run.ensures.taken counted in
     let same : c.take_free.new.self.seat ≡ c.args.main.now.seat =
     ap (λ (one : Mutator). one.seat) c.take_free.ensures.rest in (
       found.free,
-      subst (λ (seat : Seat). IsCell seat.space (heap_words seat) found.free) (sym same) found.is.is_cell,
-      found.is.stands,
+      record {
+        is_cell = subst (λ (seat : Seat). IsCell seat.space (heap_words seat) found.free) (sym same) found.is.is_cell;
+        stands = found.is.stands;
+      },
     )
 
 pub overflow_add-run : goal.overflow_add-run
@@ -45,9 +36,11 @@ overflow_sub-free c =
     let same : c.take_free.new.self.seat ≡ c.args.main.now.seat =
     ap (λ (one : Mutator). one.seat) c.take_free.ensures.rest in
     let known : c.known_cell-free.result ≡ found.free =
-    c.known_cell-free.ensures found.free
-    (subst (λ (seat : Seat). IsCell seat.space (heap_words seat) found.free) (sym same) found.is.is_cell)
-    found.is.stands in
+    c.known_cell-free.ensures.one found.free
+    (record {
+      is_cell = subst (λ (seat : Seat). IsCell seat.space (heap_words seat) found.free) (sym same) found.is.is_cell;
+      stands = found.is.stands;
+    }) in
     omega (arith, found.enough, ap (λ (one : Cell). one.size) known)
 
 pub put_free_cell-requires-clause-within : goal.put_free_cell-requires-clause-within
@@ -57,9 +50,11 @@ put_free_cell-requires-clause-within c =
     let same : c.take_free.new.self.seat ≡ c.args.main.now.seat =
     ap (λ (one : Mutator). one.seat) c.take_free.ensures.rest in
     let known : c.known_cell-free.result ≡ found.free =
-    c.known_cell-free.ensures found.free
-    (subst (λ (seat : Seat). IsCell seat.space (heap_words seat) found.free) (sym same) found.is.is_cell)
-    found.is.stands in
+    c.known_cell-free.ensures.one found.free
+    (record {
+      is_cell = subst (λ (seat : Seat). IsCell seat.space (heap_words seat) found.free) (sym same) found.is.is_cell;
+      stands = found.is.stands;
+    }) in
     let size = ap (λ (one : Cell). one.size) known in
     let at : ℕ = c.in_ok-run.run'.at + c.args.size + (c.known_cell-free.result.size - c.args.size) in
     subst (λ (seat : Seat). at ≤ marks_start seat.space) (sym same) (omega (arith, found.enough, found.ends, size))
@@ -73,9 +68,11 @@ returns-clause-taken c =
     let found = free_of {main = c.args.main.now} c.requires.free c.in_ok-run.ensures.taken counted in
     let same : c.take_free.new.self.seat ≡ main.seat = ap (λ (one : Mutator). one.seat) c.take_free.ensures.rest in
     let known : c.known_cell-free.result ≡ found.free =
-    c.known_cell-free.ensures found.free
-    (subst (λ (seat : Seat). IsCell seat.space (heap_words seat) found.free) (sym same) found.is.is_cell)
-    found.is.stands in
+    c.known_cell-free.ensures.one found.free
+    (record {
+      is_cell = subst (λ (seat : Seat). IsCell seat.space (heap_words seat) found.free) (sym same) found.is.is_cell;
+      stands = found.is.stands;
+    }) in
     let size = ap (λ (one : Cell). one.size) known in
     let takes : CutsFreeCell main new c.args.size run c.known_cell-free.result =
     run_taken c.known_cell-free.result c.take_free.ensures.rest c.in_ok-run.ensures.taken

@@ -10,7 +10,7 @@ use Rattle.scavenger.proofs.LoopGoing.{same_spaces, same_young, changes_since, m
 use Rattle.scavenger.proofs.LoopSlots.{ScansOn, copy_ends, offset_in_cell, slot_behind, slot_is_live, slots_go_on}
 use Rattle.scavenger.proofs.LoopSlots.{slots_pass, slots_done}
 use Rattle.cell_layout.proofs.NextSlots.{all_below}
-use Rattle.scavenger.proofs.SlotEnds.{least_itself, reaches_next}
+use Rattle.heap_walk.proofs.SlotEnds.{least_itself, reaches_next}
 use Rattle.scavenger.proofs.scanning.follow_before.Goals as goal
 use Rattle.scavenger.proofs.scanning.follow_before.Goals.{then-is_scavenge_slot, else-is_scavenge_slot}
 
@@ -20,10 +20,11 @@ loop-offset-init c =
     let eden = eden_start c.args.main.now.seat.space in
     record {
       scanned = λ start all end are scanned.
-          slots_pass 0 (subst (λ (from : ℕ). IsScanned start c.args.main.now all c.args.progress.now
-          c.args.list.now.items cell (at_copy end eden from (cell.at + cell.size))) (sym (add-zero cell.at)) scanned)
+          slots_pass 0 (subst (λ (from : ℕ). IsScanned start c.args.main.now all c.args.worker.now.progress
+          c.args.worker.now.list.items cell (at_copy end eden from (cell.at + cell.size))) (sym (add-zero cell.at))
+          scanned)
           1 (λ other there reached. slot_behind scanned other there);
-      grows = grows_nothing c.args.progress.now c.args.list.now.items;
+      grows = grows_nothing c.args.worker.now.progress c.args.worker.now.list.items;
       capacity = refl;
     }
 
@@ -75,31 +76,33 @@ loop-offset-preserved c =
           let there = c.is_scavenge_slot.ensures.0 w.if-is_scavenge_slot.true in
           let step : (start : Mutator) (all : Bool) (end : ℕ)
           → AreSpaces c.args.main.now.seat.space c.args.main.now.young.half all c.args.spaces.now
-          → IsScanned start c.args.main.now all c.args.progress.now c.args.list.now.items cell
+          → IsScanned start c.args.main.now all c.args.worker.now.progress c.args.worker.now.list.items cell
           (at_copy end eden cell.at to)
-          → ScansOn start w.follow.new.main all c.loop-offset.progress w.follow.new.progress c.loop-offset.list.items
-          w.follow.new.list.items cell (at_copy end eden (cell.at + (offset + 1)) to) =
+          → ScansOn start w.follow.new.main all c.loop-offset.worker.progress w.follow.new.worker.progress
+          c.loop-offset.worker.list.items
+          w.follow.new.worker.list.items cell (at_copy end eden (cell.at + (offset + 1)) to) =
           λ start all end are begun.
           let scanned = invariant.scanned start all end are begun in
-          slots_go_on offset scanned w.follow.new.main w.follow.new.progress w.follow.new.list.items offset slot
+          slots_go_on offset scanned w.follow.new.main w.follow.new.worker.progress w.follow.new.worker.list.items
+          offset slot
           (least_itself (scavenge_offsets cell.layout cell.length) offset there) refl (λ front state place stood.
           w.follow.ensures.followed start all front state place
           (same_spaces c.args.spaces.now (changes_since begun.scavenging.changes scanned.scavenging.changes) are) stood) in
-          rw w.main-is (rw w.progress-is (rw w.list-is (record {
+          rw w.main-is (rw w.worker-is (record {
             scanned = λ start all end are begun. (step start all end are begun).scanned;
             grows = grows_again invariant.grows (step given.start given.all given.end given.are given.scanned).grown;
             capacity = w.follow.ensures.capacity ∙ invariant.capacity;
-          })))
+          }))
       | else-is_scavenge_slot w ↦
           let none = λ (there : Contains (scavenge_offsets cell.layout cell.length) offset).
           false≢true (sym w.if-is_scavenge_slot.false ∙ c.is_scavenge_slot.ensures.1 there) in
-          rw w.main-is (rw w.progress-is (rw w.list-is (record {
+          rw w.main-is (rw w.worker-is (record {
             scanned = λ start all end are begun.
                 slots_pass offset (invariant.scanned start all end are begun) (offset + 1)
                 (reaches_next (scavenge_offsets cell.layout cell.length) offset none);
             grows = invariant.grows;
             capacity = invariant.capacity;
-          })))
+          }))
     ]
 
 pub returns-clause-scavenging : goal.returns-clause-scavenging

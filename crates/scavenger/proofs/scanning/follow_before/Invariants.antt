@@ -10,10 +10,10 @@ abbrev pub invariant-loop-offset : goal.invariant-loop-offset
 invariant-loop-offset l = record {
   scanned : (start : Mutator) (all : Bool) (end : ℕ)
       → AreSpaces l.fn.main.seat.space l.fn.main.young.half all l.spaces
-      → IsScanned start l.fn.main all l.fn.progress l.fn.list.items l.cell
+      → IsScanned start l.fn.main all l.fn.worker.progress l.fn.worker.list.items l.cell
       (at_copy end (eden_start l.fn.main.seat.space) l.cell.at (l.cell.at + l.cell.size))
-      → IsScanned start l.main all l.progress l.list.items l.cell
+      → IsScanned start l.main all l.worker.progress l.worker.list.items l.cell
       (at_copy end (eden_start l.fn.main.seat.space) (l.cell.at + l.offset) (l.cell.at + l.cell.size));
-  grows : HasGrown l.fn.progress l.progress l.fn.list.items l.list.items;
-  capacity : vec_capacity l.list ≡ vec_capacity l.fn.list;
+  grows : HasGrown l.fn.worker.progress l.worker.progress l.fn.worker.list.items l.worker.list.items;
+  capacity : vec_capacity l.worker.list ≡ vec_capacity l.fn.worker.list;
 }

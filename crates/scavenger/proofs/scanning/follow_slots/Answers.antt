@@ -4,7 +4,7 @@ use Rattle.tagged_word.specs.Cells.{scavenge_offsets}
 use Rattle.tagged_word.proofs.Layouts.{fits}
 use Rattle.scavenger.proofs.LoopSlots.{offset_in_cell}
 use Rattle.cell_layout.proofs.NextSlots.{all_below}
-use Rattle.scavenger.proofs.SlotEnds.{plain_ends, store_ends, store_words}
+use Rattle.heap_walk.proofs.SlotEnds.{plain_ends, store_ends, store_words}
 use Rattle.scavenger.proofs.scanning.follow_slots.Goals as goal
 
 pub overflow_add-slots_end : goal.overflow_add-slots_end

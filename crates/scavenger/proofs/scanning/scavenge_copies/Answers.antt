@@ -17,7 +17,7 @@ pub copy_at-cell-requires : goal.copy_at-cell-requires
 copy_at-cell-requires c =
     let given = c.requires.scavenging in
     let state = c.copies.invariant.scavenging given.0 given.1 given.2 given.3 given.4 in
-    record { there = taken_is_there c.pop.new.self.items c.in-Some.at state c.in-Some.ensures.items }
+    taken_is_there c.pop.new.self.items c.in-Some.at state c.in-Some.ensures.items
 
 -- the copy that is taken from the list is scanned, whatever the scavenge began with
 scanned : (start first old : Mutator) (all : Bool) (progress : Progress) (todo rest : List ℕ) (end at : ℕ) (cell : Cell)
@@ -42,7 +42,8 @@ follow_slots-requires-clause-scanned c =
       all = given.1;
       end = given.2;
       are = same_spaces c.args.spaces.now changes given.3;
-      scanned = scanned given.0 c.args.main.now c.copies.main given.1 c.copies.progress c.copies.list.items
+      scanned = scanned given.0 c.args.main.now c.copies.main given.1 c.copies.worker.progress
+          c.copies.worker.list.items
           c.pop.new.self.items given.2 c.in-Some.at c.copy_at-cell.result (same_eden changes) c.in-Some.ensures.items
           c.copy_at-cell.ensures state;
     }
@@ -61,7 +62,7 @@ copies-smaller c =
     let changes = changes_since given.4.changes state.changes in
     let next = c.follow_slots.ensures.scavenging given.0 given.1 given.2
     (same_spaces c.args.spaces.now changes given.3)
-    (scanned given.0 c.args.main.now c.copies.main given.1 c.copies.progress c.copies.list.items
+    (scanned given.0 c.args.main.now c.copies.main given.1 c.copies.worker.progress c.copies.worker.list.items
     c.pop.new.self.items given.2 c.in-Some.at c.copy_at-cell.result (same_eden changes) c.in-Some.ensures.items
     c.copy_at-cell.ensures state) in
     let few = copied_few next in
@@ -77,10 +78,10 @@ copies-preserved c = record {
       let state = c.copies.invariant.scavenging start all end are begun in
       let changes = changes_since begun.changes state.changes in
       let next = c.follow_slots.ensures.scavenging start all end (same_spaces c.args.spaces.now changes are)
-      (scanned start c.args.main.now c.copies.main all c.copies.progress c.copies.list.items
+      (scanned start c.args.main.now c.copies.main all c.copies.worker.progress c.copies.worker.list.items
       c.pop.new.self.items end c.in-Some.at c.copy_at-cell.result (same_eden changes) c.in-Some.ensures.items
       c.copy_at-cell.ensures state) in
-      subst (λ (eden : ℕ). Scavenging start c.follow_slots.new.main all c.follow_slots.new.progress
-      c.follow_slots.new.list.items (at_copy end eden 0 0)) (same_eden changes) next;
+      subst (λ (eden : ℕ). Scavenging start c.follow_slots.new.main all c.follow_slots.new.worker.progress
+      c.follow_slots.new.worker.list.items (at_copy end eden 0 0)) (same_eden changes) next;
   capacity = c.follow_slots.ensures.capacity ∙ c.pop.ensures.capacity ∙ c.copies.invariant.capacity;
 }

@@ -10,11 +10,12 @@ abbrev pub invariant-copies : goal.invariant-copies
 invariant-copies l = record {
   scavenging : (start : Mutator) (all : Bool) (end : ℕ)
       → AreSpaces l.fn.main.seat.space l.fn.main.young.half all l.spaces
-      → Scavenging start l.fn.main all l.fn.progress l.fn.list.items
+      → Scavenging start l.fn.main all l.fn.worker.progress l.fn.worker.list.items
       (at_copy end (eden_start l.fn.main.seat.space) 0 0)
-      → Scavenging start l.main all l.progress l.list.items (at_copy end (eden_start l.fn.main.seat.space) 0 0);
-  capacity : vec_capacity l.list ≡ vec_capacity l.fn.list;
+      → Scavenging start l.main all l.worker.progress l.worker.list.items
+      (at_copy end (eden_start l.fn.main.seat.space) 0 0);
+  capacity : vec_capacity l.worker.list ≡ vec_capacity l.fn.worker.list;
 }
 
 abbrev pub decreases-copies : goal.decreases-copies
-decreases-copies l = (l.fn.main.seat.space.sizes.young - l.progress.copied) + length l.list.items
+decreases-copies l = (l.fn.main.seat.space.sizes.young - l.worker.progress.copied) + length l.worker.list.items

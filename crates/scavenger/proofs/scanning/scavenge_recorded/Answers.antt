@@ -65,5 +65,5 @@ recorded-preserved c = record {
 pub returns-clause-scavenging : goal.returns-clause-scavenging
 returns-clause-scavenging c start all end are begun =
     let state = c.recorded.invariant.scavenging start all end are begun in
-    subst (λ (eden : ℕ). Scavenging start c.recorded.main all c.recorded.progress c.recorded.list.items
+    subst (λ (eden : ℕ). Scavenging start c.recorded.main all c.recorded.worker.progress c.recorded.worker.list.items
     (at_recorded end eden)) (sym (same_eden begun.changes)) (recorded_done state c.in_default.ensures.next)

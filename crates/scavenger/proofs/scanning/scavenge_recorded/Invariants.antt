@@ -10,9 +10,9 @@ abbrev pub invariant-recorded : goal.invariant-recorded
 invariant-recorded l = record {
   scavenging : (start : Mutator) (all : Bool) (end : ℕ)
       → AreSpaces l.fn.main.seat.space l.fn.main.young.half all l.spaces
-      → Scavenging start l.fn.main all l.fn.progress l.fn.list.items (at_recorded end 0)
-      → Scavenging start l.main all l.progress l.list.items (at_recorded end l.from);
-  capacity : vec_capacity l.list ≡ vec_capacity l.fn.list;
+      → Scavenging start l.fn.main all l.fn.worker.progress l.fn.worker.list.items (at_recorded end 0)
+      → Scavenging start l.main all l.worker.progress l.worker.list.items (at_recorded end l.from);
+  capacity : vec_capacity l.worker.list ≡ vec_capacity l.fn.worker.list;
 }
 
 abbrev pub decreases-recorded : goal.decreases-recorded

@@ -14,7 +14,7 @@ loop-variable-init c = record {
   scavenging = λ start all are state.
       let same = ap (λ (space : Space). roots_start space) state.changes.seat.space in
       let first : roots_start c.args.main.now.seat.space ≡ root_at start.seat.space 0 = omega (arith, same) in
-      subst (λ (root : ℕ). Scavenging start c.args.main.now all c.args.progress.now c.args.list.now.items
+      subst (λ (root : ℕ). Scavenging start c.args.main.now all c.args.worker.now.progress c.args.worker.now.list.items
       (at_root root)) first state;
   capacity = refl;
 }
@@ -82,5 +82,5 @@ returns-clause-scavenging c start all are begun =
       ends,
       kinds.layouts,
     ) in
-    subst (λ (root : ℕ). Scavenging start c.loop-variable.main all c.loop-variable.progress
-    c.loop-variable.list.items (at_root root)) last state
+    subst (λ (root : ℕ). Scavenging start c.loop-variable.main all c.loop-variable.worker.progress
+    c.loop-variable.worker.list.items (at_root root)) last state

@@ -11,7 +11,9 @@ abbrev pub invariant-loop-variable : goal.invariant-loop-variable
 invariant-loop-variable l = record {
   scavenging : (start : Mutator) (all : Bool)
       → AreSpaces l.fn.main.seat.space l.fn.main.young.half all l.spaces
-      → Scavenging start l.fn.main all l.fn.progress l.fn.list.items (at_root (roots_start l.fn.main.seat.space))
-      → Scavenging start l.main all l.progress l.list.items (at_root (root_at start.seat.space l.variable));
-  capacity : vec_capacity l.list ≡ vec_capacity l.fn.list;
+      → Scavenging start l.fn.main all l.fn.worker.progress l.fn.worker.list.items
+      (at_root (roots_start l.fn.main.seat.space))
+      → Scavenging start l.main all l.worker.progress l.worker.list.items
+      (at_root (root_at start.seat.space l.variable));
+  capacity : vec_capacity l.worker.list ≡ vec_capacity l.fn.worker.list;
 }

@@ -1,10 +1,10 @@
 -- A scavenge of a heap that shows a graph begins, goes on and ends.
-use Rattle.std.proofs.Common.{◌∙◌, List, refl, sym, ap, subst, arith}
+use Rattle.std.proofs.Common.{◌∙◌, List, sym, ap, subst, arith}
 use Rattle.page_space.specs.Extents.{Space, layouts_start}
 use Rattle.nursery.specs.Young.{Young}
 use Rattle.free_runs.specs.FreeRuns.{AreFree}
 use Rattle.heap_model.specs.Types.{Run}
-use Rattle.scavenger.proofs.Ended.{ends_are_scavenges, ends_tell}
+use Rattle.scavenger.proofs.Ended.{ends_are_scavenges}
 use Rattle.scavenger.proofs.LoopGoing.{same_young}
 use Rattle.scavenger.proofs.LoopStages.{comes_first, comes_on, comes_to_copies, comes_to_end}
 use Rattle.scavenger.proofs.LoopEnds.{HasEnded, has_ended, fill_fits, bound_below}
@@ -148,7 +148,7 @@ turn-requires c =
 
 -- the scavenge has ended
 ended : (c : goal.After-main-2-1) → HasEnded c.args.main.now
-    (record c.empty_left.new.main { young = c.turn.new.self }) c.args.promote_all c.scavenge_copies.new.progress
+    (record c.empty_left.new.main { young = c.turn.new.self }) c.args.promote_all
 ended c =
     let main = c.args.main.now in
     let all = c.args.promote_all in
@@ -165,7 +165,7 @@ ended c =
     let bound = bound_below copies.state in
     let half_is = c.half-half.ensures ∙ ap (λ (young : Young). young.half) c.nursery_mut.ensures.young in
     has_ended main c.scavenge_copies.new.main c.empty_left.new.main c.new-spaces.result all
-    c.scavenge_copies.new.progress c.half-half.result c.nursery_mut-2.result.now c.turn.new.self
+    c.scavenge_copies.new.worker.progress c.half-half.result c.nursery_mut-2.result.now c.turn.new.self
     c.regions.ensures.within copies.were half_is state c.empty_left.ensures.emptied c.empty_left.ensures.changes
     c.empty_left.ensures.free (c.empty_left.ensures.recorded bound.0 bound.1) c.nursery_mut-2.ensures.young
     c.turn.ensures
@@ -196,9 +196,3 @@ returns-clause-keeps c =
           (ends_are_scavenges c.args.main.now _ graph all end.fixed end.homes end.words end.fill end.refused shown young
           apart end.ended).2 rooms;
     }
-
-pub returns-clause-told : goal.returns-clause-told
-returns-clause-told c =
-    let end = ended c in
-    ends_tell c.args.main.now _ c.args.promote_all end.fixed end.homes end.words end.fill end.refused
-    c.scavenge_copies.new.progress _ c.used_fits.ensures.is_young (left_apart c) end.ended end.counted refl refl

@@ -9,8 +9,8 @@ use Rattle.scavenger.proofs.LoopTargets.{refers_by, refers_nowhere, passed, fail
 use Rattle.scavenger.proofs.LoopMoves.{done_already}
 use Rattle.scavenger.proofs.slots.follow.Goals as goal
 
-pub word-requires-clause-within : goal.word-requires-clause-within
-word-requires-clause-within c =
+pub word-requires : goal.word-requires
+word-requires c =
     let may = c.requires.spaces.2 in
     slot_before_marks may.scavenging c.args.slot may.place may.stood c.addresses_fit.ensures.heap_counted
 
@@ -47,8 +47,8 @@ home_of-home-requires-clause-spaces c =
       },
     )
 
-pub store-requires-clause-quiet : goal.store-requires-clause-quiet
-store-requires-clause-quiet c =
+pub store-requires-clause-may_store : goal.store-requires-clause-may_store
+store-requires-clause-may_store c =
     let main = c.args.main.now in
     let may = c.requires.spaces.2 in
     let refers = refers_by (heap_words main.seat) c.args.slot c.word.result c.in-Some.at c.word.ensures.of_heap

@@ -20,8 +20,8 @@ refused-here lines i none open' done whole stop lt e h =
     (drop-index lines i none lt) in
     subst (λ answer. IsBad answer stop) (sym here ∙ e) (h (map (λ line. line.now) (drop (i + 1) lines)))
 
-pub returns-in_err-hear-clause-refused : goal.returns-in_err-hear-clause-refused
-returns-in_err-hear-clause-refused c =
+pub returns-in_err-read_line-clause-refused : goal.returns-in_err-read_line-clause-refused
+returns-in_err-read_line-clause-refused c =
     handed_on (IsBad _) _ c.from_residual.result c.from_residual.ensures.1
     (refused-here c.args.lines.now c.loop-i.i (record { ref_ptr = (0, 0); now = [] })
-    c.loop-i.statements.opened _ _ _ c.loop-i-test.true c.loop-i.invariant c.in_err-hear.ensures.refused)
+    c.loop-i.statements.opened _ _ _ c.loop-i-test.true c.loop-i.invariant c.in_err-read_line.ensures.refused)

@@ -26,8 +26,8 @@ next_may {first} {main} {at = at} {end} told begun from_begin sweeping seam same
       sweeping = sweeping;
     }
 
-pub sweep_region-requires-clause-may : goal.sweep_region-requires-clause-may
-sweep_region-requires-clause-may c =
+pub sweep_row-requires-clause-may : goal.sweep_row-requires-clause-may
+sweep_row-requires-clause-may c =
     let begun = c.requires.begun in (
       begun.0,
       next_may c.regions-regions.result begun.1 begun.2 (c.loop-end.invariant.sweeping begun.0 begun.1 begun.2)
@@ -41,7 +41,7 @@ loop-end-preserved c =
       seam = (next_seam c.args.main.now.seat.space c.loop-end.at c.in-Some.end c.loop-end.invariant.seam
           c.regions-regions.ensures.within (subst Ends c.regions-regions.ensures.regions c.in-Some.ensures.cells)).next;
       sweeping = λ first begun sweeping.
-          c.sweep_region.ensures first
+          c.sweep_row.ensures first
           (next_may c.regions-regions.result begun sweeping (c.loop-end.invariant.sweeping first begun sweeping)
           c.loop-end.invariant.seam c.regions-regions.ensures.regions c.in-Some.ensures.cells);
     }

@@ -13,8 +13,6 @@ returns-clause-opened c =
       record {
         main = opened.0;
         rows = ap length opened.1.free ∙ length-map-range_with_len whole_row 0 main.seat.space.sizes.pages;
-        regions = search rules;
-        ready = search rules;
         listed = search rules;
         marks = ap (λ (marked : Marked). marked.bound) c.in_ok-marking.ensures ∙ c.cells_end.ensures
             ∙ ap roots_start (sym c.in_ok-main.ensures.regions);

@@ -5,7 +5,7 @@ use Rattle.cell_list.specs.Listing.{Listing}
 use Rattle.cell_list.proofs.Flags.{listed_are_few}
 use Rattle.ephemeron_mark.specs.declared.waiting.WaitingPair.{WaitingPair}
 use Rattle.ephemeron_mark.specs.Pairs.{Waits, WaitsFor}
-use Rattle.ephemeron_mark.specs.Kept.{keys_of, waits_of, AreTold}
+use Rattle.ephemeron_mark.specs.Model.{keys_of, waits_of, AreTold}
 use Rattle.ephemeron_mark.proofs.LastPairs.{as_many_keys, keys_with}
 use Rattle.ephemeron_mark.proofs.AddedPairs.{told_added}
 use Rattle.ephemeron_mark.proofs.AddedWaits.{push_of_new, push_of_listed, listed_waits, added_waits, added_kept}

@@ -2,7 +2,7 @@
 use Rattle.std.proofs.Common.{◌<◌, ◌≤◌, ℕ, length, sym, ◌∙◌, subst, arith}
 use Rattle.std.proofs.lemmas.List.{get_or_past, get_or_default}
 use Rattle.ephemeron_mark.specs.Pairs.{Waits, IsLastOf}
-use Rattle.ephemeron_mark.specs.Kept.{keys_of}
+use Rattle.ephemeron_mark.specs.Model.{keys_of}
 use Rattle.ephemeron_mark.proofs.AddedPairs.{told_of_all}
 use Rattle.ephemeron_mark.proofs.waiting.Waiting.last.Goals as goal
 

@@ -10,5 +10,5 @@ any_slot-requires c = omega (arith, marks_start_within c.args.self.now.space)
 pub returns-clause-of_heap : goal.returns-clause-of_heap
 returns-clause-of_heap c =
     let counted : length c.args.self.now.table ≡ words_count c.args.self.now.space = omega arith in
-    slice_get-heap_words c.args.self.now (c.args.cell + c.args.offset) counted c.requires.within
+    slice_get-heap_words c.args.self.now (c.args.cell + c.args.offset) counted c.requires
     ∙ c.any_slot.ensures

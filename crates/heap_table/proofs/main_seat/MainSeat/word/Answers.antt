@@ -10,4 +10,4 @@ any_word-requires c = omega (arith, marks_start_within c.args.self.now.space)
 pub returns-clause-of_heap : goal.returns-clause-of_heap
 returns-clause-of_heap c =
     let counted : length c.args.self.now.table ≡ words_count c.args.self.now.space = omega arith in
-    slice_get-heap_words c.args.self.now c.args.a counted c.requires.within ∙ c.any_word.ensures
+    slice_get-heap_words c.args.self.now c.args.a counted c.requires ∙ c.any_word.ensures

@@ -2,7 +2,7 @@
 use Rattle.std.proofs.Common.{◌≡◌, ◌∙◌, ◌+◌, ap, arith}
 use Rattle.word_store.specs.Copies.{copied}
 use Rattle.heap_table.specs.Seats.{Seat, heap_words}
-use Rattle.write_barrier.specs.Kept.{mutator_of}
+use Rattle.write_barrier.specs.Model.{mutator_of}
 use Rattle.write_barrier.specs.MutatorState.{Mutator, forgets, with_table}
 use Rattle.write_barrier.proofs.StretchTouches.{copy_touch}
 use Rattle.write_barrier.proofs.main_side.Main.copy_words.Goals as goal

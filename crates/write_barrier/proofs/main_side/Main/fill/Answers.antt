@@ -3,7 +3,7 @@ use Rattle.std.proofs.Common.{◌≡◌, ◌∙◌, ◌+◌, ◌++◌, ℕ, take
 use Rattle.std.specs.Prelude.{replicate}
 use Rattle.std.proofs.lemmas.List.{length-replicate}
 use Rattle.heap_table.specs.Seats.{Seat, heap_words}
-use Rattle.write_barrier.specs.Kept.{mutator_of}
+use Rattle.write_barrier.specs.Model.{mutator_of}
 use Rattle.write_barrier.specs.MutatorState.{Mutator, forgets, with_table}
 use Rattle.write_barrier.proofs.StretchTouches.{stretch_touch}
 use Rattle.write_barrier.proofs.main_side.Main.fill.Goals as goal

@@ -9,19 +9,19 @@ use Rattle.heap_model.proofs.CellsApart.{has_is_cell}
 use Rattle.write_barrier.proofs.main_side.Main.header.Goals as goal
 
 -- the word reads as the header
-read_there : (c : goal.After-word) → header_in c.word.result ≡ Some c.requires.there.header
-read_there c = sym (ap (option_and_then header_in) c.word.ensures.of_heap) ∙ c.requires.there.stands
+read_there : (c : goal.After-word) → header_in c.word.result ≡ Some c.requires.header
+read_there c = sym (ap (option_and_then header_in) c.word.ensures.of_heap) ∙ c.requires.stands
 
 pub of_bits-requires : goal.of_bits-requires
 of_bits-requires c =
-    let from = header_from c.word.result c.requires.there.header (read_there c) in
-    (c.requires.there.header, from.0, from.1)
+    let from = header_from c.word.result c.requires.header (read_there c) in
+    (c.requires.header, from.0, from.1)
 
 pub returns-clause-stands : goal.returns-clause-stands
 returns-clause-stands c =
-    let header = c.requires.there.header in
+    let header = c.requires.header in
     let from = header_from c.word.result header (read_there c.before) in
-    c.requires.there.stands ∙ sym (ap Some (c.of_bits.ensures header from.0 from.1))
+    c.requires.stands ∙ sym (ap Some (c.of_bits.ensures header from.0 from.1))
 
 pub returns-clause-of_cell : goal.returns-clause-of_cell
 returns-clause-of_cell c cell words has stands =

@@ -9,9 +9,9 @@ use Rattle.write_barrier.specs.MutatorState.{heap_of}
 use Rattle.write_barrier.proofs.ClassValues.{held_by_class, small_back}
 use Rattle.write_barrier.proofs.main_side.Main.value_of_word.Goals as goal
 
-pub value_at-requires-clause-within : goal.value_at-requires-clause-within
-value_at-requires-clause-within c =
-    c.requires.within c.in-Some-Ref.at
+pub value_at-requires : goal.value_at-requires
+value_at-requires c =
+    c.requires c.in-Some-Ref.at
     (reference_to c.args.word.0 c.in-Some-Ref.at (subst IsClass c.in-Some-Ref.field-0-is c.in-Some-Ref.ensures.one.0)
     (c.in-Some-Ref.ensures.one.1 ∙ ap bits_of c.in-Some-Ref.field-0-is))
 

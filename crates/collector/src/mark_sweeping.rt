@@ -1,0 +1,41 @@
+//! What is live is marked, dead entries are cleared, and what is not marked is made free.
+ghost use Rattle.std.specs.Prelude.{◌≡◌, length};
+ghost use Rattle.page_space.specs.Extents.{roots_start};
+ghost use Rattle.object_graph.specs.Graphs.{Graph};
+ghost use Rattle.heap_table.specs.declared.phase.Phase.TheVariants.{Quiet};
+ghost use Rattle.write_barrier.specs.MutatorState.{MainShows};
+ghost use Rattle.collector.specs.MarkSwept.{MarkSweeps, Ungrants};
+
+use ephemeron_clear::clear;
+use ephemeron_mark::{Marking, mark_live};
+use page_space::Run;
+use sweeper::sweep;
+use write_barrier::Main;
+
+/// Grants nothing any more. What was granted are fillers of a page, which stay.
+fn ungrant(main: &mut Main)
+    requires quiet { main.old.seat.phase ≡ Quiet }
+    requires tied { main.old.young.space ≡ main.old.seat.space }
+    ensures { Ungrants main.old main.new }
+{
+    main.grant(Run { at: 0, words: 0 });
+}
+
+/// Keeps what is live and makes all else free: it marks the live cells, takes out the pairs of weak maps
+/// whose keys are dead, and sweeps. Only the mutator runs. What was granted is granted no more: its words
+/// are fillers of a page, which the sweep makes free.
+pub(crate) fn mark_sweep(main: &mut Main, marking: &mut Marking)
+    requires shown { (graph : Graph) × MainShows main.old graph }
+    requires rows { length main.old.free ≡ main.old.seat.space.sizes.pages }
+    requires bound { marking.old.bound ≡ roots_start main.old.seat.space }
+    ensures collected { (graph : Graph) → MainShows main.old graph → MarkSweeps main.old main.new graph }
+    ensures bound { marking.new.bound ≡ marking.old.bound }
+{
+    ungrant(main);
+    // The sizes are within their limits.
+    main.addresses_fit();
+    mark_live(main, marking);
+    let marked = marking.cells();
+    clear(main, marking.maps(), marked);
+    sweep(main, marked);
+}

@@ -1,2 +1,0 @@
-pub mod CollectedHeaps
-mod FilledHeaps

@@ -1,5 +1,0 @@
-use Rattle.exact_heaps.proofs.FilledHeaps.{full_is_filled}
-use Rattle.exact_heaps.proofs.laws.laws_of_full_heaps.Goals as goal
-
-pub returns : goal.returns
-returns c = full_is_filled

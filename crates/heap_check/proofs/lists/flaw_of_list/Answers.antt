@@ -1,0 +1,22 @@
+use Rattle.std.proofs.Common.{arith}
+use Rattle.tagged_word.specs.declared.layout.Kind.TheVariants as kind
+use Rattle.heap_model.specs.Images.{image_heap}
+use Rattle.heap_model.specs.Heaps.{words_of_cell}
+use Rattle.heap_model.proofs.CellWords.{words_are_size, words_by_kind}
+use Rattle.heap_check.proofs.ElementFlaws.{first_lacks_store}
+use Rattle.heap_check.proofs.lists.flaw_of_list.Goals as goal
+
+-- a list has three words
+pub word_of-store-requires-clause-within : goal.word_of-store-requires-clause-within
+word_of-store-requires-clause-within c =
+    omega (arith, words_are_size c.requires.stands, words_by_kind kind.List c.requires.stands c.requires.list)
+
+pub flaw_of_elements-requires-clause-beside : goal.flaw_of_elements-requires-clause-beside
+flaw_of_elements-requires-clause-beside c =
+    record { word = c.word_of-store.result; slot = c.word_of-store.ensures; is = c.in-Some.ensures.beside }
+
+pub returns-in-None : goal.returns-in-None
+returns-in-None c =
+    let heap = image_heap c.args.image.now in
+    first_lacks_store heap c.args.cell (words_of_cell heap c.args.cell) c.word_of-store.result c.slot_flaw.result
+    c.word_of-store.ensures c.in-None.ensures.spans c.slot_flaw.ensures

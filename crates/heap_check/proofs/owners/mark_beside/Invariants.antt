@@ -1,0 +1,16 @@
+-- What stands beside the objects before an address is flagged.
+use Rattle.std.proofs.Common.{◌-◌}
+use Rattle.page_space.specs.Extents.{roots_start}
+use Rattle.heap_model.specs.Images.{image_heap}
+use Rattle.image_walk.specs.NextCell.{IsBoundary}
+use Rattle.heap_check.specs.Names.{MarksBesideBefore}
+use Rattle.heap_check.proofs.owners.mark_beside.Given as goal
+
+abbrev pub invariant-loop-cell : goal.invariant-loop-cell
+invariant-loop-cell l = record {
+  boundary : IsBoundary (image_heap l.image) l.at;
+  flags : MarksBesideBefore (image_heap l.image) l.at l.beside;
+}
+
+abbrev pub decreases-loop-cell : goal.decreases-loop-cell
+decreases-loop-cell l = roots_start l.image.regions - l.at

@@ -1,9 +1,0 @@
-use Rattle.std.proofs.Common.{ℕ, ◌≤◌, ◌<◌}
-use Rattle.heap_model.specs.Images.{image_heap}
-use Rattle.heap_model.specs.Slots.{IsSlotWord}
-use Rattle.heap_check.specs.Spans.{WordAt}
-use Rattle.heap_check.proofs.stores.are_slot_words.Given as goal
-
-abbrev pub invariant-loop-at : goal.invariant-loop-at
-invariant-loop-at l =
-    (at : ℕ) → l.fn.span.from ≤ at → at < l.at → WordAt (image_heap l.image) at (IsSlotWord (image_heap l.image))

@@ -1,5 +1,0 @@
-use Rattle.std.proofs.Common.{◌≡◌, ℕ, ◌^◌, ◌<◌}
-use Rattle.heap_check.proofs.tables.is_power_of_two.Given as goal
-
-abbrev pub invariant-loop-power : goal.invariant-loop-power
-invariant-loop-power l = (power : ℕ) → power < l.power → l.n ≡ 2 ^ power → ⊥

@@ -1,9 +1,0 @@
-use Rattle.std.proofs.Common.{ℕ, ◌<◌}
-use Rattle.heap_model.specs.Images.{image_heap}
-use Rattle.heap_check.specs.TablePairs.{table_pairs}
-use Rattle.heap_check.proofs.Probing.{PassesPair}
-use Rattle.heap_check.proofs.weak.is_probed.Given as goal
-
-abbrev pub invariant-loop-steps : goal.invariant-loop-steps
-invariant-loop-steps l =
-    (steps : ℕ) → steps < l.steps → PassesPair (table_pairs (image_heap l.image) l.table) l.number l.fn.at steps

@@ -1,7 +1,0 @@
-use Rattle.std.proofs.Common.{◌≡◌, ℕ, ◌<◌, Some, slice_get}
-use Rattle.heap_model.specs.Types.{Entry}
-use Rattle.heap_judge.proofs.entries.has_entry.Given as goal
-
-abbrev pub invariant-loop-entry : goal.invariant-loop-entry
-invariant-loop-entry l =
-    (at : ℕ) (entry : Entry) → slice_get l.entries at ≡ Some entry → at < l.entry-index → entry.key ≡ l.key → ⊥

@@ -1,9 +1,0 @@
-use Rattle.std.proofs.Common.{refl, arith}
-use Rattle.heap_judge.proofs.EachItem.{same_items}
-use Rattle.heap_judge.proofs.paths.has_paths.Goals as goal
-
-pub returns : goal.returns
-returns c = (
-  λ done. same_items c.args.shapes.now c.args.paths.now (omega arith) (λ k below. c.loop-at.invariant k (omega arith)),
-  λ same. refl,
-)

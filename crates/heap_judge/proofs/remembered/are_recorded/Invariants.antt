@@ -1,6 +1,0 @@
-use Rattle.heap_model.specs.Images.{image_heap}
-use Rattle.heap_judge.specs.Recorded.{AreRecordedTo}
-use Rattle.heap_judge.proofs.remembered.are_recorded.Given as goal
-
-abbrev pub invariant-loop-at : goal.invariant-loop-at
-invariant-loop-at l = AreRecordedTo (image_heap l.image) l.slots l.at-counter

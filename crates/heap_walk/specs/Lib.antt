@@ -1,0 +1,3 @@
+pub mod Standing
+pub mod Limits
+pub mod Walks

@@ -1,0 +1,12 @@
+pub mod SpanWords
+pub mod WordSorts
+pub mod SlotKinds
+pub mod StoreSlots
+pub mod Boundaries
+pub mod RegionStarts
+pub mod CellsOnward
+pub mod FirstCells
+pub mod ObjectNaming
+pub mod NamedSlots
+pub mod EachSlot
+pub mod PairWords

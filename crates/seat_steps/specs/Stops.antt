@@ -1,8 +1,0 @@
--- Why steps stop.
-use Rattle.seat_steps.specs.declared.stop.StepStop.{StepStop}
-use Rattle.seat_steps.specs.declared.stop.StepStop.TheVariants.{NotEnabled, NoMemory}
-
--- the stop is for want of memory, and not for an event
-abbrev pub WantsMemory : StepStop → Type 0
-WantsMemory (NotEnabled at) = ⊥
-WantsMemory (NoMemory refusal) = Unit {0}

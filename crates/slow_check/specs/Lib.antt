@@ -1,0 +1,14 @@
+pub mod NamingSlots
+pub mod NoTables
+pub mod PathFields
+pub mod Places
+pub mod ShownSlots
+pub mod KeyPairs
+pub mod Reached
+pub mod Bindings
+pub mod Recorded
+pub mod FreeCells
+pub mod Moves
+pub mod MovedCells
+pub mod NeededCells
+pub mod DeadCells
