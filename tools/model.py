@@ -8,8 +8,9 @@ where words are found is there: how many words each cell has, which cells its sl
 where it stands in a page. It is written from docs/ and the definitions of needs and rooms, and reads nothing of the
 program, so what it says is a value from outside for rows/.
 
-A cycle of marking is a truth value that lines put: `mark` opens one, and `finish`, `gc` and `census` end it. `finish`
-collects the heap fully where one is open. `gen` and `soak` take their script from tools/generated.
+A cycle of marking is a truth value that lines put: `mark` opens one, and `finish`, `gc` and `census` end it. A `mark`
+that opens one promotes all that is young, and `finish` collects the heap fully where one is open. `gen` and `soak` take
+their script from tools/generated.
 
 With `--lines` the number of executed lines is told on standard error. The grammar is in model_script.py, cells and heap
 are in model_heap.py.
@@ -256,6 +257,8 @@ class Machine:
         self.heap.scavenge(False)
 
     def do_mark(self):
+        if not self.in_cycle:
+            self.heap.begin_cycle()
         self.in_cycle = True
 
     def do_finish(self):

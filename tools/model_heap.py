@@ -319,6 +319,12 @@ class Heap:
         self.scavenge(True)
         return found
 
+    def begin_cycle(self):
+        """Promotes all that is young, as a cycle of marking begins: by a full collection where a survivor stays young."""
+        self.scavenge(True)
+        if self.survivors:
+            self.collect()
+
     def sweep(self, live):
         """Makes each stretch of words between these cells, which are in order, a free run of its page."""
         self.runs = [[] for _ in self.runs]

@@ -1,5 +1,5 @@
 -- The steps of marking, clearing and sweeping, one after the other, come to what they should.
-use Rattle.std.proofs.Common.{◌≡◌, ℕ, List, sym, ◌∙◌, ap, subst, arith}
+use Rattle.std.proofs.Common.{◌≡◌, ℕ, ◌<◌, ◌↔◌, List, sym, ◌∙◌, ap, subst, arith}
 use Rattle.page_space.specs.Sizes.{AreWithin}
 use Rattle.page_space.specs.Extents.{Space, eden_start}
 use Rattle.nursery.specs.Young.{Young, no_run, other_half, with_granted}
@@ -7,7 +7,7 @@ use Rattle.object_graph.specs.Graphs.{Graph}
 use Rattle.heap_table.specs.Seats.{RestStays}
 use Rattle.heap_table.specs.Staying.{rest_stays_again}
 use Rattle.heap_model.specs.Types.{Run}
-use Rattle.heap_model.specs.Heaps.{Heap}
+use Rattle.heap_model.specs.Heaps.{Heap, words_of_cell}
 use Rattle.heap_model.specs.Rooms.{RoomsAreNoFuller}
 use Rattle.heap_model.specs.Showing.{Shows}
 use Rattle.heap_model.specs.Collectable.{IsCollectable}
@@ -19,7 +19,8 @@ use Rattle.live_cells.proofs.KeptOnly.{swept_keeps_no_other}
 use Rattle.write_barrier.specs.MutatorState.{Mutator, heap_of, IsTied, AvoidsFree, MainShows}
 use Rattle.object_cells.proofs.TakenRuns.{bumped_none}
 use Rattle.ephemeron_clear.specs.Clearing.{Clears}
-use Rattle.sweeper.specs.Swept.{Sweeps, place_if_marked}
+use Rattle.sweeper.specs.Swept.{Sweeps, IsOfMarked, place_if_marked}
+use Rattle.collector.specs.SweptRuns.{IsLiveWord, AreSwept}
 use Rattle.collector.specs.MarkSwept.{LiveCellsStay, MarkSweeps, Ungrants}
 use Rattle.collector.proofs.Ungranted.{heap_stays, ungranted_remembered}
 use Rattle.collector.proofs.ClearedHeap.{IsMarked, still_collectable, still_live, still_shown}
@@ -68,6 +69,39 @@ module _ {old bare cleared new : Mutator} {graph : Graph} {maps marked : List �
         of_cell = record { from = is.from; below = is.below };
       })))
 
+  -- just the words of live cells are those of marked ones
+  of_marked : (at : ℕ) → IsOfMarked (heap_of cleared) marked at ↔ IsLiveWord (heap_of bare) at
+  of_marked at = (
+    λ is. record {
+      cell = is.cell;
+      words = words_of_cell (heap_of bare) is.cell;
+      has = steps.clears.takes.cells.stood is.cell is.words is.has;
+      live = (steps.is_marked.live is.cell.at).0 is.among;
+      of_cell = record { from = is.from; below = is.below };
+    },
+    λ is. record {
+      cell = is.cell;
+      words = words_of_cell (heap_of cleared) is.cell;
+      has = steps.clears.takes.cells.stays is.cell is.words is.has;
+      among = (steps.is_marked.live is.cell.at).1 is.live;
+      from = is.of_cell.from;
+      below = is.of_cell.below;
+    },
+  )
+
+  -- so free runs have all other words of pages
+  swept : AreSwept (heap_of bare) new.free
+  swept = record {
+    words = λ at below.
+        let space = steps.clears.takes.uses.beside.space in
+        let in_page = subst (λ (one : Space). at < eden_start one) (sym space) below in
+        let filled = steps.sweeps.filled at in_page in (
+          λ free is. filled.0 free ((of_marked at).1 is),
+          λ none. filled.1 (λ is. none ((of_marked at).0 is)),
+        );
+    apart = steps.sweeps.apart;
+  }
+
   -- what is left of objects
   after : SweptAfter bare cleared (heap_of new) graph maps marked
   after = record {
@@ -92,7 +126,7 @@ module _ {old bare cleared new : Mutator} {graph : Graph} {maps marked : List �
   apart : AvoidsFree new.young.granted new.free
   apart = subst (λ (young : Young). AvoidsFree young.granted new.free) (sym young_is) (none_avoids new.free)
 
-  -- regions, phase, marks and board are the same
+  -- regions and phase are the same
   rest : RestStays old.seat new.seat
   rest =
       rest_stays_again old.seat cleared.seat new.seat
@@ -161,7 +195,7 @@ module _ {old bare cleared new : Mutator} {graph : Graph} {maps marked : List �
     shows = still_shows;
     keeps = keeps;
     dead = dead;
-    runs = steps.sweeps.apart;
+    swept = subst (λ (heap : Heap). AreSwept heap new.free) same_heap swept;
     rows = steps.sweeps.rows ∙ ap (λ (space : Space). space.sizes.pages) (sym steps.sweeps.seat.space);
     cells = subst (λ (heap : Heap). LiveCellsStay heap (heap_of new)) same_heap (live_stays after);
     rooms = subst (λ (heap : Heap). RoomsAreNoFuller heap (heap_of new) graph) same_heap (rooms_no_fuller after);

@@ -122,6 +122,9 @@ module _ {old mid new : Mutator} {graph : Graph} (shown : MainShows old graph) (
         dead = dead;
         free = (keeps.shows graph sweeps.shows).free;
         apart = scavenged.apart;
+        swept = mid.free;
+        swept_are = sweeps.swept;
+        backs = scavenged.backs;
         places = places;
         rooms = rooms;
         emptied = ap (λ (one : Young). one.used) scavenged.young;

@@ -1,8 +1,7 @@
 -- In a heap that keeps exactly what can be reached, and into which so many words don't fit, each page has a live cell.
 use Rattle.std.proofs.Common.{◌≡◌, ℕ, ◌+◌, ◌*◌, ◌<◌, ◌≤◌, ◌⊎◌, inl, inr, Bool, true, false, List, [], ◌∷◌, Contains}
-use Rattle.std.proofs.Common.{IsTrue, refl, sym, subst, arith}
-use Rattle.std.proofs.lemmas.Bool.{false≢true, cases_lt}
-use Rattle.tagged_word.specs.declared.layout.Kind.TheVariants as kind
+use Rattle.std.proofs.Common.{IsTrue, refl, subst, arith}
+use Rattle.std.proofs.lemmas.Bool.{cases_lt}
 use Rattle.tagged_word.specs.Cells.{is_free_kind}
 use Rattle.tagged_word.proofs.Members.{first_in, rest_in, in_cases}
 use Rattle.page_space.specs.declared.region.Region.TheVariants.{Page}
@@ -11,20 +10,18 @@ use Rattle.page_space.specs.Extents.{Extent}
 use Rattle.page_space.proofs.Standing.{extent_of}
 use Rattle.object_graph.specs.Graphs.{Graph}
 use Rattle.cell_layout.proofs.Rows.{cell_within}
-use Rattle.heap_model.specs.Types.{Kind, Cell}
+use Rattle.heap_model.specs.Types.{Cell}
 use Rattle.heap_model.specs.Heaps.{Heap, Row, IsUsedRow, EndsUsed, HasCell, cell_extents, words_of_cell}
-use Rattle.heap_model.specs.Slots.{is_object_kind, IsPlace}
-use Rattle.heap_model.specs.Wholeness.{HasRows, IsOwnedKind}
+use Rattle.heap_model.specs.Wholeness.{HasRows}
 use Rattle.heap_model.proofs.CellsApart.{IsOfCell, cells_apart}
 use Rattle.heap_model.proofs.RegionRows.{row_of}
 use Rattle.heap_model.proofs.RowCovers.{covered}
 use Rattle.heap_model.proofs.StaysCollectable.{object_not_free, owned_not_free}
 use Rattle.live_cells.specs.Exact.{Exact, Fits, IsDeadWord}
-use Rattle.live_cells.specs.Laws.{BelongsToReached}
 use Rattle.live_cells.proofs.DeadWords.{named_is_owned}
-use Rattle.live_cells.proofs.KeptOnly.{place_of_owner}
 use Rattle.write_barrier.proofs.FirstRuns.{page_among}
 use Rattle.collector.specs.Filled.{HasLiveCell, FullIsFilled}
+use Rattle.collector.proofs.LiveLists.{used_is_live, young_is_live, old_is_live}
 
 -- each of these cells is free
 abbrev AreFreeCells : List Cell → Type 0
@@ -53,33 +50,6 @@ all_or_one (cell ∷ more) = elim (all_or_one more) [
   | inl others ↦ with_first cell more (is_free_kind cell.layout.kind) refl others
   | inr one ↦ inr (record { cell = one.cell; among = rest_in cell more one.cell one.among; used = one.used })
 ]
-
--- a cell that is not free is an object's, or a store, a table or a box
-object_or_owned : (k : Kind) → is_free_kind k ≡ false → IsTrue (is_object_kind k) ⊎ IsOwnedKind k
-object_or_owned kind.Plain used = inl refl
-object_or_owned kind.List used = inl refl
-object_or_owned kind.Weak used = inl refl
-object_or_owned kind.Store used = inr tt
-object_or_owned kind.Table used = inr tt
-object_or_owned kind.Boxed used = inr tt
-object_or_owned kind.Filler used = absurd (false≢true (sym used))
-object_or_owned kind.Gap used = absurd (false≢true (sym used))
-
--- in a heap that keeps exactly what can be reached it is live
-used_is_live : {heap : Heap} {graph : Graph} {cell : Cell} {words : List ℕ} → Exact heap graph
-    → HasCell heap cell words → is_free_kind cell.layout.kind ≡ false → BelongsToReached heap graph cell.at
-used_is_live {heap} {cell = cell} {words} exact has used =
-    elim (object_or_owned cell.layout.kind used) [
-      | inl object ↦
-          let place : IsPlace heap cell.header.object cell.at =
-          record { cell = cell; words = words; has = has; stands = refl; object = object; carries = refl } in
-          BelongsToReached.place cell.header.object place
-          (exact.keeps.reached cell.header.object cell.at place)
-      | inr owned ↦
-          let named = exact.keeps.named cell words has owned in
-          BelongsToReached.named named.owner named.slot named.names
-          (exact.keeps.reached named.owner.header.object named.owner.at (place_of_owner named.names))
-    ]
 
 -- the row of a page
 record PageRow (heap : Heap) (page : ℕ) : Type 0 where
@@ -151,5 +121,7 @@ full_is_filled heap graph n exact full = record {
     | inl over ↦ over
     | inr room ↦ absurd (full (Fits.young room))
   ];
+  live = young_is_live exact;
   pages = λ few page there. page_is_live heap graph n page exact full few there;
+  old = λ few. old_is_live heap graph (λ page there. page_is_live heap graph n page exact full few there);
 }

@@ -18,5 +18,8 @@ pub mod ClearedHeap
 pub mod SweptObjects
 pub mod Collected
 pub mod CollectedHeaps
+mod LiveLists
 pub mod FilledHeaps
+mod BornFronts
+pub mod BornHeaps
 pub mod RowSteps

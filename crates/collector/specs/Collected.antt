@@ -14,7 +14,9 @@ use Rattle.live_cells.specs.Exact.{Exact}
 use Rattle.live_cells.specs.Fitting.{DeadIsFree}
 use Rattle.live_cells.specs.Live.{IsLive, IsRootTarget}
 use Rattle.write_barrier.specs.MutatorState.{Mutator, heap_of, MainShows}
+use Rattle.scavenger.specs.Backs.{AreBacks}
 use Rattle.scavenger.specs.Laws.{IsStuck}
+use Rattle.collector.specs.SweptRuns.{AreSwept}
 
 -- What a full collection leaves of a heap that shows a graph, and whose pages have these free runs then.
 pub record LeavesExact (old new : Heap) (rows : List (List Run)) (graph : Graph) : Type 0 where
@@ -25,6 +27,10 @@ pub record LeavesExact (old new : Heap) (rows : List (List Run)) (graph : Graph)
   pub dead : DeadIsFree new rows
   pub free : AreFreeRuns new rows
   pub apart : AreFree rows
+  -- each of them is the back of one that the sweep left: cells that were promoted took the fronts
+  pub swept : List (List Run)
+  pub swept_are : AreSwept old swept
+  pub backs : AreBacks swept rows
   -- each live cell of a page stands where it stood
   pub places : (cell : Cell) (words : List ℕ) → HasCell old cell words → cell.at < eden_start old.space
       → IsLive old (IsRootTarget old) cell.at → (others : List ℕ) × HasCell new cell others

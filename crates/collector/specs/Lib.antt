@@ -5,9 +5,11 @@ pub mod Lending
 pub mod Images
 pub mod ImageLaws
 pub mod Filling
+pub mod SweptRuns
 pub mod MarkSwept
 pub mod Collected
 pub mod CollectionLaws
+pub mod Born
 pub mod Filled
 pub mod Counted
 pub mod Passing

@@ -1,7 +1,6 @@
 -- What marking, clearing and sweeping come to, as one call.
 use Rattle.std.specs.Prelude.{◌≡◌, ℕ, List, length}
 use Rattle.nursery.specs.Young.{no_run, with_granted}
-use Rattle.free_runs.specs.FreeRuns.{AreFree}
 use Rattle.object_graph.specs.Graphs.{Graph}
 use Rattle.heap_table.specs.Seats.{RestStays, heap_words}
 use Rattle.heap_model.specs.Types.{Cell}
@@ -12,6 +11,7 @@ use Rattle.live_cells.specs.Fitting.{DeadIsFree}
 use Rattle.live_cells.specs.Live.{IsLive, IsRootTarget}
 use Rattle.write_barrier.specs.MutatorState.{Mutator, heap_of, MainShows}
 use Rattle.write_barrier.specs.Recording.{Touches, untouched}
+use Rattle.collector.specs.SweptRuns.{AreSwept}
 
 -- Nothing is granted any more, and nothing was written or recorded.
 pub record Ungrants (old new : Mutator) : Type 0 where
@@ -34,15 +34,15 @@ pub record MarkSweeps (old new : Mutator) (graph : Graph) : Type 0 where
   pub shows : MainShows new graph
   -- each object that stands can be reached, and each store, table and box is one's
   pub keeps : KeepsNoOther (heap_of new) graph
-  -- each other word of a page is in a free run, and free runs neither overlap nor touch, in a row for each page
+  -- each other word of a page is in a free run; these have just the words that no live cell had, in a row for each page
   pub dead : DeadIsFree (heap_of new) new.free
-  pub runs : AreFree new.free
+  pub swept : AreSwept (heap_of old) new.free
   pub rows : length new.free ≡ new.seat.space.sizes.pages
   -- live cells stand where they stood
   pub cells : LiveCellsStay (heap_of old) (heap_of new)
   -- objects have the capacity that they had, and no more of it filled
   pub rooms : RoomsAreNoFuller (heap_of old) (heap_of new) graph
-  -- regions, phase, marks and board, and field paths are the same
+  -- regions, phase and field paths are the same
   pub seat : RestStays old.seat new.seat
   pub paths : new.paths ≡ old.paths
   -- as much of eden is used, and as much has survived; but nothing is granted any more

@@ -1,4 +1,5 @@
-//! Laws of full collections, of full heaps, and of images.
+//! Laws of full collections, of cycles of marking, of full heaps, and of images.
+ghost use Rattle.collector.specs.Born.{ExactIsBorn};
 ghost use Rattle.collector.specs.CollectionLaws.{SweptAndScavengedIsCollected};
 ghost use Rattle.collector.specs.Filled.{FullIsFilled};
 ghost use Rattle.collector.specs.ImageLaws.{ImagesShow, ImagesAreBlank, ImagesKeepStores};
@@ -28,6 +29,12 @@ pub fn laws_of_images()
 /// free runs.
 pub fn laws_of_collections()
     ensures { SweptAndScavengedIsCollected }
+{}
+
+/// A full collection leaves all that a collection has to leave which ends a cycle of marking, if nothing that was lost
+/// when the cycle began can be reached. So nothing is kept that was lost then.
+pub fn laws_of_cycles()
+    ensures { ExactIsBorn }
 {}
 
 /// In a heap that keeps exactly what can be reached, and into which so many words don't fit, survivors,

@@ -5,8 +5,9 @@
 //! is open.
 //! Invariant: none over the mutator's side, which is lent. `HeapShows` of `specs/States.antt` is
 //! what holds between two commands. `MakesRoom` of `specs/Making.antt` says how room is made, and
-//! `CollectsAll` of `specs/Collected.antt` what a full collection leaves. `IsImageOf` of `specs/Images.antt`
-//! says what an image is, and `laws_of_images` what it shows.
+//! `CollectsAll` of `specs/Collected.antt` what a full collection leaves. `BeginsCycle` and `LeavesBorn` of
+//! `specs/Born.antt` say what is done where a cycle begins and ends. `IsImageOf` of `specs/Images.antt` says what an
+//! image is, and `laws_of_images` what it shows.
 #![tactic(auto)]
 
 mod blanking;
@@ -22,5 +23,5 @@ mod script_heap;
 
 pub use census::Census;
 pub use imaging::image_room;
-pub use laws::{laws_of_full_heaps, laws_of_images};
+pub use laws::{laws_of_cycles, laws_of_full_heaps, laws_of_images};
 pub use script_heap::Heap;

@@ -244,7 +244,7 @@ module _ {old new : Mutator} {map key count earlier : ℕ} {table : Table} {valu
       ap (λ all. slice_get all (map + count_offset)) grows.puts.words.heap
       ∙ slice_get-set_same linked (map + count_offset) count (omega (arith, linked_long, counted, grows.can.map_within))
 
-  -- no word from the marks on was put
+  -- nothing but heap words was put
   grown_beside : RestStays old.seat new.seat
   grown_beside =
       let puts = grows.puts in

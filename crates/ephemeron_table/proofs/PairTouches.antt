@@ -3,7 +3,6 @@ use Rattle.std.proofs.Common.{◌≡◌, ℕ, ◌+◌, ◌<◌, ◌≤◌, ◌�
 use Rattle.std.proofs.Common.{length-set}
 use Rattle.page_space.specs.Extents.{marks_start}
 use Rattle.heap_table.specs.Seats.{heap_words}
-use Rattle.heap_table.proofs.HeapWords.{heap_words-put}
 use Rattle.heap_model.specs.Remembered.{Touch}
 use Rattle.write_barrier.specs.MutatorState.{Mutator, with_slot}
 use Rattle.write_barrier.specs.Recording.{Touches, touched, touched_one, touched_again, touched_then}
@@ -61,7 +60,7 @@ pair_stored {old} {keyed} table place key value counted within first next =
     ap (λ (main : Mutator). marks_start main.seat.space) first in
     let long : length (heap_words keyed.seat) ≡ marks_start keyed.seat.space =
     ap (λ (main : Mutator). length (heap_words main.seat)) first
-    ∙ ap length (heap_words-put old.seat from key (omega (arith, within))) ∙ length-set (heap_words old.seat) from key
+    ∙ length-set (heap_words old.seat) from key
     ∙ counted ∙ sym marks in
     let one : Touches old keyed (touched_one Touch.Stored from) =
     subst (λ (main : Mutator). Touches old main (touched_one Touch.Stored from)) (sym first)

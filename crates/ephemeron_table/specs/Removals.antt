@@ -37,8 +37,7 @@ pub record ShiftsBack (old new : Mutator) (table : Table) (place hole : ℕ) : T
   pub found : FindsAll (numbers (heap_of old) (pairs_of (heap_words old.seat) table))
       → FindsAll (slice_set (numbers (heap_of old) (pairs_of (heap_words new.seat) table)) hole None)
 
--- The pair at the place of the map's table was removed, and the count is one less. All other words are as they were,
--- those of the marks and the board too.
+-- The pair at the place of the map's table was removed, and the count is one less. All other words are as they were.
 pub record RemovesAt (old new : Mutator) (map : ℕ) (table : Table) (place : ℕ) : Type 0 where
   pub rest : RestStays old.seat new.seat
   pub paths : new.paths ≡ old.paths

@@ -1,6 +1,6 @@
 -- What follows of a run from what it comes to and what the sink took.
 use Rattle.std.proofs.Common.{arith, ◌≡◌, ◌≢◌, ℕ, Bool, List, [], ◌∷◌, Option, Some}
-use Rattle.std.proofs.Common.{None, IfSome, Err, refl, sym, ◌∙◌, subst, false, true, lit<, ◌⊎◌, inl, inr}
+use Rattle.std.proofs.Common.{None, Err, refl, sym, ◌∙◌, subst, false, true, lit<, ◌⊎◌, inl, inr}
 use Rattle.std.specs.Prelude.{Contains}
 use Rattle.object_graph.specs.Run.{Told}
 use Rattle.script_text.specs.Scripts.{ScriptText}
@@ -27,8 +27,9 @@ use Rattle.heap_run.specs.declared.last_line.LastLine.{LastLine}
 use Rattle.heap_run.specs.declared.last_line.LastLine.TheVariants as last
 use Rattle.heap_run.specs.Texts.{last_bytes, status_of, sink_fault_status}
 use Rattle.heap_run.specs.Answers.{Input, ReadsAll, Answer, unopened, refusal_of, last_line_of, soak_line_of}
-use Rattle.heap_run.specs.Answers.{Comes, Taken, Answers, Runs, IsKeptAt, IsKeptBy, IsKeptFor, KeepsGraph, AsksToRun}
-use Rattle.heap_run.specs.Answers.{AsksToSoak, AsksToGenerate, IsScriptFor}
+use Rattle.heap_run.specs.Answers.{Comes, Taken, Answers, Runs, AsksToRun, AsksToSoak, AsksToGenerate}
+use Rattle.heap_run.specs.AnswerLaws.{IsKeptAt, IsKeptBy, IsKeptFor, KeepsGraph, KeptIsOfScript, KeptWasRead}
+use Rattle.heap_run.specs.AnswerLaws.{KeptGoesWithStatus}
 
 -- no last line has the status of a sink that failed
 pub status-apart : (line : LastLine) → status_of line ≢ sink_fault_status
@@ -46,15 +47,8 @@ status-apart (last.Checked counts) e = cc
 status-apart (last.Soaked soaked) e = cc
 status-apart (last.Flawed flaw) e = cc
 
--- a heap is kept of the script that the words ask to be run, and shows the graph that this leads to
-abbrev KeepsScript : List (List ℕ) → Input → Option Kept → Type 0
-KeepsScript words input kept =
-    IfSome kept (λ kept. (sizes : Sizes) × (script : List ℕ) × IsScriptFor words input.before sizes script
-    × KeepsGraph sizes (reading script) kept)
-
--- so it is of each run
-pub keeps-comes : (words : List (List ℕ)) (input : Input) (answer : Answer) → Comes words input answer
-    → KeepsScript words input answer.kept
+-- a heap that is kept is of the script that the words ask to be run
+pub keeps-comes : KeptIsOfScript
 keeps-comes words input _ (Comes.bad_words refused unread steady) = tt
 keeps-comes words input _ (Comes.no_memory begins read) = tt
 keeps-comes words input _ (Comes.read_fault checks sizes asks rose) = tt
@@ -80,9 +74,7 @@ no_soak words true sizes other seed forms asks soaks =
     absurd (cc)
 
 -- where a heap is kept of a script that was read, nothing of the source is left
-pub reads-comes : (words : List (List ℕ)) (input : Input) (answer : Answer) → Comes words input answer
-    → (checks : Bool) (sizes : Sizes) → AsksToRun words checks sizes
-    → IfSome answer.kept (λ _. IfSome input.before (λ _. input.after ≡ Some []))
+pub reads-comes : KeptWasRead
 reads-comes words input _ (Comes.bad_words refused unread steady) check these wants = tt
 reads-comes words input _ (Comes.no_memory begins read) check these wants = tt
 reads-comes words input _ (Comes.read_fault checks sizes asks rose) check these wants = tt
@@ -183,7 +175,7 @@ opened-line words input _ (Comes.ended checks sizes bytes script kept came asks 
     let same : last_line_of came kept.line ≡ line = cc in
     kept_run words checks sizes _ (Some kept) asks
     (subst (λ l. IsKeptAt (status_of l) (Some kept)) same
-    (opened-ended checks script (image_heap kept.image) keeps.spent.last.rows keeps.spent.collections kept.executed
+    (opened-ended checks script (image_heap kept.image) keeps.last.rows keeps.collections kept.executed
     keeps.reached.so_far came kept.line comes))
 opened-line words input _ (Comes.cut_short checks sizes bytes script kept asks reads is keeps at need none due) line e =
     cc
@@ -194,7 +186,7 @@ opened-line words input _ (Comes.soaked sizes seed forms script kept came asks u
     let same : soak_line_of came kept.line kept.executed keeps.reached.so_far.bytes ≡ line = cc in
     kept_soak words sizes seed forms _ (Some kept) asks
     (subst (λ l. IsKeptAt (status_of l) (Some kept)) same
-    (opened-soaked script (image_heap kept.image) keeps.spent.last.rows keeps.spent.collections kept.executed
+    (opened-soaked script (image_heap kept.image) keeps.last.rows keeps.collections kept.executed
     keeps.reached.so_far came kept.line kept.executed keeps.reached.so_far.bytes comes))
 
 -- the status of a sink that failed goes with a heap and with none
@@ -226,14 +218,12 @@ opened-front words input _ (Comes.generated_in_part seed forms count asks unread
 opened-front words input _ (Comes.soaked sizes seed forms script kept came asks unread steady is keeps comes need) =
     kept_soak words sizes seed forms sink_fault_status (Some kept) asks (opened-failed (Some kept))
 
--- the status goes with the heap that is kept
-pub opened-answer : (words : List (List ℕ)) (input : Input) (old new : List ℕ → Type 0) (faults_old faults_new : ℕ)
-    (answer : Answer) (status : ℕ) → Comes words input answer → Taken old new faults_old faults_new answer status
-    → IsKeptFor words status answer.kept
-opened-answer words input old new faults_old faults_new _ _ comes (Taken.all told line kept appends steady) =
-    opened-line words input _ comes line refl
-opened-answer words input old new faults_old faults_new _ _ comes (Taken.front answer some near rose) =
-    opened-front words input answer comes
+-- whether a heap is kept goes with the status
+pub opened-comes : KeptGoesWithStatus
+opened-comes words input answer status comes (inl five) =
+    subst (λ one. IsKeptFor words one answer.kept) (sym five) (opened-front words input answer comes)
+opened-comes words input answer status comes (inr (line, last-is, is)) =
+    subst (λ one. IsKeptFor words one answer.kept) (sym is) (opened-line words input answer comes line last-is)
 
 -- an answer before the opening, as it is concluded
 pub Taken-unopened : (old new : List ℕ → Type 0) (faults_old faults_new status : ℕ) (line : LastLine)
@@ -248,28 +238,6 @@ Taken-unopened old new faults_old faults_new status line written failed (inl fiv
 Taken-unopened old new faults_old faults_new status line written failed (inr other) =
     let (is, appends, steady) = written other in
     rw is (Taken.all [] line None appends steady)
-
--- what answers, by its parts
-pub Answers-keeps : (words : List (List ℕ)) (input : Input) (old new : List ℕ → Type 0) (faults_old faults_new : ℕ)
-    (ended : Ended) → Answers words input old new faults_old faults_new ended → KeepsScript words input ended.kept
-Answers-keeps words input old new faults_old faults_new ended a =
-    subst (KeepsScript words input) a.kept (keeps-comes words input a.answer a.comes)
-
--- a run of what the source has that kept a heap has read it to the end
-pub Answers-reads : (words : List (List ℕ)) (input : Input) (old new : List ℕ → Type 0) (faults_old faults_new : ℕ)
-    (ended : Ended) → Answers words input old new faults_old faults_new ended → (checks : Bool) (sizes : Sizes)
-    → AsksToRun words checks sizes → IfSome ended.kept (λ _. IfSome input.before (λ _. input.after ≡ Some []))
-Answers-reads words input old new faults_old faults_new ended a checks sizes asks =
-    let P : Option Kept → Type 0 = λ kept. IfSome kept (λ _. IfSome input.before (λ _. input.after ≡ Some [])) in
-    subst P a.kept (reads-comes words input a.answer a.comes checks sizes asks)
-
--- whether a heap is kept goes with the status of the run
-pub Answers-opened : (words : List (List ℕ)) (input : Input) (old new : List ℕ → Type 0) (faults_old faults_new : ℕ)
-    (ended : Ended) → Answers words input old new faults_old faults_new ended
-    → IsKeptFor words ended.status ended.kept
-Answers-opened words input old new faults_old faults_new ended a =
-    subst (IsKeptFor words ended.status) a.kept
-    (opened-answer words input old new faults_old faults_new a.answer ended.status a.comes a.taken)
 
 -- an answer before the opening
 pub Answers-unopened : (words : List (List ℕ)) (input : Input) (old new : List ℕ → Type 0) (faults_old faults_new : ℕ)

@@ -6,7 +6,6 @@ use Rattle.script_text.specs.Grammar.{reading}
 use Rattle.heap_model.specs.Types.{Sizes}
 use Rattle.heap_model.specs.declared.image.HeapImage.{HeapImage}
 use Rattle.heap_model.specs.Images.{image_heap}
-use Rattle.heap_model.specs.Wholeness.{Blank}
 use Rattle.byte_ends.specs.Faults.{Rose}
 use Rattle.byte_ends.specs.Sink.{Appends, AppendsSome}
 use Rattle.byte_ends.proofs.Appending.{Appends-append}
@@ -15,14 +14,14 @@ use Rattle.heap_script.specs.declared.finished.How.TheVariants.{End, Counted, Fa
 use Rattle.heap_script.specs.declared.finished.How.TheVariants.{Flawed}
 use Rattle.heap_script.specs.declared.finished.Finished.{Finished}
 use Rattle.heap_script.specs.Reached.{RanTo}
-use Rattle.heap_script.specs.Spending.{HasSpent}
-use Rattle.heap_script.specs.Runs.{EndsRun, Finishes, need_at, IsCut}
+use Rattle.heap_script.specs.Runs.{EndsRun, need_at, IsCut}
 use Rattle.heap_script.proofs.Handing.{front-behind, front-longer}
 use Rattle.heap_script.specs.TheConstants.{OUTPUT_BYTES}
 use Rattle.heap_run.specs.declared.ended.Kept.{Kept}
 use Rattle.heap_run.specs.declared.ended.Ended.{Ended}
 use Rattle.heap_run.specs.Texts.{last_bytes, status_of, sink_fault_status}
 use Rattle.heap_run.specs.Answers.{Answer, IsKeptHeapOf, Comes, Taken, Runs, last_line_of}
+use Rattle.heap_run.proofs.Imaged.{LedTo, FinishesImaged}
 
 -- what is kept of a run
 abbrev pub kept_by : HeapImage → How → ℕ → ℕ → Kept
@@ -43,30 +42,37 @@ pub record Lasts (how : How) (line : ℕ) (mid new : List ℕ → Type 0) (fault
   pub failed : status ≡ sink_fault_status
       → AppendsSome mid new (last_bytes (last_line_of how line)) × Rose faults_mid faults_new
 
--- the image has the regions of these sizes and of the script's variables, and no word that no cell uses but 0
+-- the image has the regions of these sizes and of the script's variables
 pub record IsKeepable (sizes : Sizes) (script : ScriptText) (image : HeapImage) : Type 0 where
   pub regions : image.regions ≡ record { sizes = sizes; variables = length script.variables }
-  pub blank : Blank (image_heap image)
 
 -- what is kept of a run that has come so far
 abbrev pub keeps : {sizes : Sizes} {script : ScriptText} {image : HeapImage} (how : How) (line n : ℕ)
-    → IsKeepable sizes script image → RanTo script (image_heap image) n → HasSpent script (image_heap image) n
+    → IsKeepable sizes script image → RanTo script (image_heap image) n → LedTo script (image_heap image) n
     → IsKeptHeapOf sizes script (kept_by image how line n)
-keeps how line n is reached spent =
-    record { regions = is.regions; blank = is.blank; reached = reached; spent = spent }
+keeps how line n is reached led = record {
+  regions = is.regions;
+  reached = reached;
+  last = led.last;
+  collections = led.collections;
+  opened = led.opened;
+  spends = led.spends;
+  free = led.free;
+  image = led.is;
+}
 
 -- a run that came to an end, and its last line
 Runs-ended : (checks : Bool) (sizes : Sizes) (bytes : List ℕ) (script : ScriptText) (image : HeapImage) (how : How)
     (line n status : ℕ)
     (old mid new : List ℕ → Type 0) (faults_old faults_mid faults_new : ℕ) → reading bytes ≡ Ok script
     → IsKeepable sizes script image → (reached : RanTo script (image_heap image) n)
-    → (spent : HasSpent script (image_heap image) n)
-    → EndsRun checks script (image_heap image) spent.last.rows spent.collections n reached.so_far how line
+    → (led : LedTo script (image_heap image) n)
+    → EndsRun checks script (image_heap image) led.last.rows led.collections n reached.so_far how line
     → Appends old mid reached.so_far.bytes → faults_mid ≡ faults_old
     → Lasts how line mid new faults_mid faults_new status → (status ≡ sink_fault_status) ⊎ (status ≢ sink_fault_status)
     → Runs checks sizes bytes old new faults_old faults_new (ended_by image how line n status)
 Runs-ended checks sizes bytes script image how line n status old mid new faults_old faults_mid faults_new
-    is keepable reached spent
+    is keepable reached led
     comes told steady lasts (inl five) =
     let (some, rose) = lasts.failed five in
     let last = last_line_of how line in
@@ -79,12 +85,12 @@ Runs-ended checks sizes bytes script image how line n status old mid new faults_
       answer = answer;
       kept = refl;
       comes = λ words input asks reads.
-          Comes.ended checks sizes bytes script kept how asks reads is (keeps how line n keepable reached spent) comes
+          Comes.ended checks sizes bytes script kept how asks reads is (keeps how line n keepable reached led) comes
           refl;
       taken = rw five (Taken.front answer all near (subst (λ f. Rose f faults_new) steady rose));
     }
 Runs-ended checks sizes bytes script image how line n status old mid new faults_old faults_mid faults_new
-    is keepable reached spent
+    is keepable reached led
     comes told steady lasts (inr other) =
     let (status-is, appends, same) = lasts.written other in
     let kept = kept_by image how line n in
@@ -92,7 +98,7 @@ Runs-ended checks sizes bytes script image how line n status old mid new faults_
       answer = record { told = reached.so_far.bytes; last = Some (last_line_of how line); kept = Some kept };
       kept = refl;
       comes = λ words input asks reads.
-          Comes.ended checks sizes bytes script kept how asks reads is (keeps how line n keepable reached spent) comes
+          Comes.ended checks sizes bytes script kept how asks reads is (keeps how line n keepable reached led) comes
           refl;
       taken = rw status-is
           (Taken.all reached.so_far.bytes (last_line_of how line) (Some kept)
@@ -103,14 +109,14 @@ Runs-ended checks sizes bytes script image how line n status old mid new faults_
 Runs-cut : (checks : Bool) (sizes : Sizes) (bytes : List ℕ) (script : ScriptText) (image : HeapImage) (need line n : ℕ)
     (old new : List ℕ → Type 0) (faults_old faults_new : ℕ) → reading bytes ≡ Ok script
     → IsKeepable sizes script image
-    → (f : Finishes checks script (image_heap image) (finished_by (SinkFault need) line n) old new faults_old
+    → (f : FinishesImaged checks script (image_heap image) (finished_by (SinkFault need) line n) old new faults_old
     faults_new)
     → Runs checks sizes bytes old new faults_old faults_new (ended_by image (SinkFault need) line n sink_fault_status)
 Runs-cut checks sizes bytes script image need line n old new faults_old faults_new is keepable f =
     let (at, cut, rose) = f.writes in
     let told = f.reached.so_far.bytes in
     let kept = kept_by image (SinkFault need) line n in
-    let kept_is = keeps (SinkFault need) line n keepable f.reached f.spent in
+    let kept_is = keeps (SinkFault need) line n keepable f.reached f.led in
     elim at [
       | inl (none, nothing, uncollected, due) ↦
           let (some, count) = front-longer told [] cut.some in
@@ -140,33 +146,33 @@ pub Runs-finished : (checks : Bool) (sizes : Sizes) (bytes : List ℕ) (script :
     (how : How) (line n status : ℕ)
     (old mid new : List ℕ → Type 0) (faults_old faults_mid faults_new : ℕ) → reading bytes ≡ Ok script
     → IsKeepable sizes script image
-    → Finishes checks script (image_heap image) (finished_by how line n) old mid faults_old faults_mid
+    → FinishesImaged checks script (image_heap image) (finished_by how line n) old mid faults_old faults_mid
     → (IsCut how → status ≡ sink_fault_status)
-    → (IsCut how → Finishes checks script (image_heap image) (finished_by how line n) old new faults_old faults_new)
+    → (IsCut how → FinishesImaged checks script (image_heap image) (finished_by how line n) old new faults_old faults_new)
     → (¬ IsCut how → Lasts how line mid new faults_mid faults_new status)
     → (status ≡ sink_fault_status) ⊎ (status ≢ sink_fault_status)
     → Runs checks sizes bytes old new faults_old faults_new (ended_by image how line n status)
 Runs-finished checks sizes bytes script image End line n status old mid new fo fm fn is keepable f five cut lasts dec =
-    Runs-ended checks sizes bytes script image End line n status old mid new fo fm fn is keepable f.reached f.spent
+    Runs-ended checks sizes bytes script image End line n status old mid new fo fm fn is keepable f.reached f.led
     f.writes.0 f.writes.1 f.writes.2
     (lasts (λ no. no)) dec
 Runs-finished checks sizes bytes script image (Fault word) line n status old mid new fo fm fn is
     keepable f five cut lasts dec =
     Runs-ended checks sizes bytes script image (Fault word) line n status old mid new fo fm fn is keepable f.reached
-    f.spent
+    f.led
     f.writes.0 f.writes.1 f.writes.2
     (lasts (λ no. no)) dec
 Runs-finished checks sizes bytes script image (Counted counts) line n status old mid new fo fm fn is
     keepable f five cut lasts dec =
     Runs-ended checks sizes bytes script image (Counted counts) line n status old mid new fo fm fn is keepable f.reached
-    f.spent f.writes.0 f.writes.1 f.writes.2 (lasts (λ no. no)) dec
+    f.led f.writes.0 f.writes.1 f.writes.2 (lasts (λ no. no)) dec
 Runs-finished checks sizes bytes script image (Flawed flaw) line n status old mid new fo fm fn is
     keepable f five cut lasts dec =
     absurd (f.writes.0)
 Runs-finished checks sizes bytes script image (HeapFull need) line n status old mid new fo fm fn is
     keepable f five cut lasts dec =
     Runs-ended checks sizes bytes script image (HeapFull need) line n status old mid new fo fm fn is keepable f.reached
-    f.spent
+    f.led
     f.writes.0 f.writes.1 f.writes.2 (lasts (λ no. no)) dec
 Runs-finished checks sizes bytes script image (SinkFault need) line n status old mid new fo fm fn is
     keepable f five cut lasts dec =
@@ -174,6 +180,6 @@ Runs-finished checks sizes bytes script image (SinkFault need) line n status old
 Runs-finished checks sizes bytes script image LineLimit line n status old mid new fo fm fn is keepable f five cut lasts
     dec =
     Runs-ended checks sizes bytes script image LineLimit line n status old mid new fo fm fn is keepable f.reached
-    f.spent
+    f.led
     f.writes.0 f.writes.1 f.writes.2
     (lasts (λ no. no)) dec

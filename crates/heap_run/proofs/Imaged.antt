@@ -8,39 +8,37 @@ use Rattle.heap_command.specs.Executed.{Executed}
 use Rattle.page_space.specs.Extents.{Space}
 use Rattle.free_runs.specs.FreeRuns.{AreFree, FitsNowhere}
 use Rattle.object_graph.specs.Graphs.{Graph}
-use Rattle.object_graph.specs.Run.{Told}
 use Rattle.script_text.specs.Scripts.{ScriptText}
 use Rattle.heap_model.specs.Heaps.{Heap}
 use Rattle.heap_model.specs.Wholeness.{Whole}
+use Rattle.heap_model.specs.Collectable.{AreFreeRuns}
 use Rattle.heap_model.specs.Needs.{lacks_room}
 use Rattle.heap_model.specs.Showing.{Shows}
 use Rattle.live_cells.specs.Exact.{Fits}
 use Rattle.live_cells.specs.Fitting.{DeadIsFree, NoRunFitsNone}
 use Rattle.live_cells.proofs.DeadWords.{no_run_fits_none}
+use Rattle.collector.specs.Born.{Opening}
 use Rattle.collector.specs.Images.{IsImageOf}
 use Rattle.collector.proofs.ImagesShow.{images_show}
-use Rattle.collector.proofs.ImageStores.{images_keep_stores, images_have_rooms}
+use Rattle.collector.proofs.ImageStores.{images_have_rooms}
 use Rattle.collector.proofs.ImagesTight.{images_are_tight}
-use Rattle.collector.proofs.ImagesFree.{images_keep_free}
 use Rattle.collector.proofs.ImagesStuck.{images_stay_stuck}
 use Rattle.collector.proofs.ImagesExact.{images_are_exact, images_keep_dead}
-use Rattle.collector.specs.ImageLaws.{ImagesShow, ImagesKeepStores, ImagesHaveRooms, ImagesAreTight, ImagesKeepFree}
-use Rattle.collector.specs.ImageLaws.{ImagesStayStuck, ImagesAreExact, ImagesKeepDead}
+use Rattle.collector.specs.ImageLaws.{ImagesShow, ImagesHaveRooms, ImagesAreTight, ImagesStayStuck}
+use Rattle.collector.specs.ImageLaws.{ImagesAreExact, ImagesKeepDead}
 use Rattle.heap_script.specs.declared.finished.How.{How}
 use Rattle.heap_script.specs.declared.finished.How.TheVariants as how
 use Rattle.heap_script.specs.declared.finished.Finished.{Finished}
 use Rattle.heap_script.specs.Stages.{Stage, Collections, fully_collected}
 use Rattle.heap_script.specs.Reached.{left_after, RanTo}
-use Rattle.heap_script.specs.Spending.{Spends, HasSpent}
+use Rattle.heap_script.specs.Spending.{Spends}
 use Rattle.heap_script.specs.Runs.{IsFull, LacksRoomFor, IsFullAt, EndsRun, FailedAt, Writes, Finishes}
 
 -- the laws of images, and that words fit nowhere which no run has
 pub record Laws : Type 0 where
   pub show : ImagesShow
-  pub stores : ImagesKeepStores
   pub rooms : ImagesHaveRooms
   pub tight : ImagesAreTight
-  pub free : ImagesKeepFree
   pub stuck : ImagesStayStuck
   pub exact : ImagesAreExact
   pub dead : ImagesKeepDead
@@ -50,10 +48,8 @@ pub record Laws : Type 0 where
 pub laws_hold : Laws
 laws_hold = record {
   show = images_show;
-  stores = images_keep_stores;
   rooms = images_have_rooms;
   tight = images_are_tight;
-  free = images_keep_free;
   stuck = images_stay_stuck;
   exact = images_are_exact;
   dead = images_keep_dead;
@@ -72,46 +68,32 @@ reached_imaged {heap = heap} {image = image} laws is r = record {
   shown = laws.show heap image r.so_far.graph r.shown is;
 }
 
--- the lines tell one graph, on whichever heap they were run
-graph_is : {script : ScriptText} {heap last : Heap} {n : ℕ} (r : RanTo script heap n) (l : RanTo script last n)
-    → r.so_far.graph ≡ l.so_far.graph
-graph_is r l =
-    let same : r.so_far ≡ l.so_far = cc (r.said, l.said) in
-    ap (λ (so_far : Told). so_far.graph) same
+-- The lines led to a heap, by which they spent the words that they needed, and the heap that is kept is an image of it.
+pub record LedTo (script : ScriptText) (image : Heap) (executed : ℕ) : Type 0 where
+  pub last : Stage
+  pub collections : Collections
+  pub opened : Option Opening
+  pub spends : Spends script last executed collections opened
+  pub free : AreFreeRuns last.heap last.rows
+  pub is : IsImageOf last.heap image
 
--- as many words are used on the image, stores have as many slots, objects have the same rooms, the same runs are free,
--- and it keeps exactly what can be reached, if the heap does
-abbrev spent_imaged : {script : ScriptText} {heap image : Heap} {n : ℕ} → Laws → RanTo script heap n
-    → IsImageOf heap image → HasSpent script heap n → HasSpent script image n
-spent_imaged {heap = heap} {image = image} laws r is spent = record {
-  last = spent.last;
-  collections = spent.collections;
-  spends = spent.spends;
-  reached = spent.reached;
-  space = is.space ∙ spent.space;
-  used = is.used ∙ spent.used;
-  survivors = is.survivors ∙ spent.survivors;
-  stores = λ number at place.
-      let stood = spent.stores number at place in
-      let stays = laws.stores heap image number at r.shown.whole is stood.0 in
-      (stays.0, stays.1 ∙ stood.1);
-  rooms = λ rooms has.
-      let graph = spent.reached.so_far.graph in
-      (laws.rooms heap image graph rooms (subst (Shows heap) (graph_is r spent.reached) r.shown) is).0
-      (spent.rooms rooms has);
-  free = laws.free heap image spent.last.rows r.shown.whole spent.free is;
-  exact = λ exact. laws.exact heap image spent.reached.so_far.graph (spent.exact exact) is;
-}
+-- a run finished on an image of its heap
+pub record FinishesImaged (checks : Bool) (script : ScriptText) (image : Heap) (finished : Finished)
+    (old new : List ℕ → Type 0) (faults_old faults_new : ℕ) : Type 0 where
+  pub reached : RanTo script image finished.executed
+  pub led : LedTo script image finished.executed
+  pub writes : Writes checks script image led.last.rows led.collections finished reached.so_far old new faults_old
+      faults_new finished.how
 
 -- behind a full collection free runs neither overlap nor touch
-rows_apart : {script : ScriptText} {stage : Stage} {n : ℕ} {collections : Collections}
-    → Spends script stage n collections → collections ≡ fully_collected → AreFree stage.rows
-rows_apart (Spends.none stage unused none rows reached) is = absurd (cc)
-rows_apart (Spends.one_more old new n before line spends next reached after does) is = absurd (cc)
-rows_apart (Spends.once old new n spends reached wants after collected) is = absurd (cc)
-rows_apart (Spends.twice old new n spends reached lacks after collected) is = collected.apart
-rows_apart (Spends.cleared old new n spends reached wants after collected) is = collected.apart
-rows_apart (Spends.finally old new n spends reached ends after collected) is = absurd (cc)
+rows_apart : {script : ScriptText} {stage : Stage} {n : ℕ} {collections : Collections} {opened : Option Opening}
+    → Spends script stage n collections opened → collections ≡ fully_collected → AreFree stage.rows
+rows_apart (Spends.none stage unused none rows free reached) is = absurd (cc)
+rows_apart (Spends.one_more old new n before opened line spends next reached after does) is = absurd (cc)
+rows_apart (Spends.once old new n opened spends reached wants after collected) is = absurd (cc)
+rows_apart (Spends.twice old new n opened spends reached lacks after collected) is = collected.apart
+rows_apart (Spends.cleared old new n opened spends reached wants after collected) is = collected.apart
+rows_apart (Spends.finally old new n opened spends reached ends after collected) is = absurd (cc)
 
 -- where no word more is wanted, a whole heap does not lack it
 none_lacks : {heap : Heap} → Whole heap → IsTrue (lacks_room heap 0) → ⊥
@@ -228,14 +210,21 @@ writes_imaged checks rows collections (how.Flawed flaw) finished old new fo fn l
     absurd (comes)
 
 -- the run finishes on the image as on the heap
-pub finishes_imaged : (checks : Bool) {script : ScriptText} {heap image : Heap} (finished : Finished)
+pub finishes_imaged : (checks : Bool) {script : ScriptText} {stage : Stage} {image : Heap} (finished : Finished)
     (old new : List ℕ → Type 0)
-    (faults_old faults_new : ℕ) → Laws → IsImageOf heap image
-    → Finishes checks script heap finished old new faults_old faults_new
-    → Finishes checks script image finished old new faults_old faults_new
-finishes_imaged checks finished old new fo fn laws is f = record {
+    (faults_old faults_new : ℕ) → Laws → IsImageOf stage.heap image
+    → Finishes checks script stage finished old new faults_old faults_new
+    → FinishesImaged checks script image finished old new faults_old faults_new
+finishes_imaged checks {stage = stage} finished old new fo fn laws is f = record {
   reached = reached_imaged laws is f.reached;
-  spent = spent_imaged laws f.reached is f.spent;
-  writes = writes_imaged checks f.spent.last.rows f.spent.collections finished.how finished old new fo fn laws is
-      (rows_apart f.spent.spends) f.reached f.writes;
+  led = record {
+    last = stage;
+    collections = f.collections;
+    opened = f.opened;
+    spends = f.spends;
+    free = f.free;
+    is = is;
+  };
+  writes = writes_imaged checks stage.rows f.collections finished.how finished old new fo fn laws is
+      (rows_apart f.spends) f.reached f.writes;
 }

@@ -1,4 +1,3 @@
-mod Pieces
 mod Excess
 mod Answering
 mod Concluding

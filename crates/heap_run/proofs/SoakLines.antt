@@ -15,7 +15,7 @@ use Rattle.byte_ends.specs.Sure.{Sums, HasSums}
 use Rattle.heap_script.specs.declared.finished.How.{How}
 use Rattle.heap_script.specs.declared.finished.How.TheVariants.{End, Counted, Fault, HeapFull, SinkFault, LineLimit}
 use Rattle.heap_script.specs.declared.finished.How.TheVariants.{Flawed}
-use Rattle.heap_script.specs.Runs.{EndsRun, Finishes}
+use Rattle.heap_script.specs.Runs.{EndsRun}
 use Rattle.heap_run.specs.declared.ended.Kept.{Kept}
 use Rattle.heap_run.specs.declared.ended.Ended.{Ended}
 use Rattle.heap_run.specs.declared.last_line.LastLine.{LastLine}
@@ -23,6 +23,7 @@ use Rattle.heap_run.specs.declared.last_line.LastLine.TheVariants as last
 use Rattle.heap_run.specs.Texts.{last_bytes, status_of, sink_fault_status}
 use Rattle.heap_run.specs.Answers.{Comes, Taken, Soaks, Answers, AsksToSoak, Input, NoReadFailed, unopened}
 use Rattle.heap_run.specs.Answers.{soak_line_of}
+use Rattle.heap_run.proofs.Imaged.{FinishesImaged}
 use Rattle.heap_run.proofs.Concluding.{IsKeepable, finished_by, kept_by, ended_by, keeps}
 
 -- a tally that had taken nothing has taken what was told
@@ -37,13 +38,13 @@ never_rose (inr is) = omega (arith, is)
 
 -- the run of a script, counted at its end and written to a tally, came to an end, and the tally has its sums
 record ComesToEnd (script : ScriptText) (heap : Heap) (sums : Sums) (how : How) (line n : ℕ) {old : List ℕ → Type 0}
-    (f : Finishes true script heap (finished_by how line n) old (HasSums sums) 0 0) : Type 0 where
-  comes : EndsRun true script heap f.spent.last.rows f.spent.collections n f.reached.so_far how line
+    (f : FinishesImaged true script heap (finished_by how line n) old (HasSums sums) 0 0) : Type 0 where
+  comes : EndsRun true script heap f.led.last.rows f.led.collections n f.reached.so_far how line
   summed : HasSums sums f.reached.so_far.bytes
 
 -- a tally never fails
 comes_to_end : (script : ScriptText) (heap : Heap) (sums : Sums) (how : How) (line n : ℕ)
-    → (f : Finishes true script heap (finished_by how line n) (HasSums (record { bytes = 0; total = 0 })) (HasSums sums)
+    → (f : FinishesImaged true script heap (finished_by how line n) (HasSums (record { bytes = 0; total = 0 })) (HasSums sums)
     0 0) → ComesToEnd script heap sums how line n f
 comes_to_end script heap sums End line n f = record { comes = f.writes.0; summed = sums_of f.writes.1 }
 comes_to_end script heap sums (Counted counts) line n f = record { comes = f.writes.0; summed = sums_of f.writes.1 }
@@ -75,7 +76,7 @@ line_taken line kept old new faults_old faults_new status concluded (inr other) 
 pub Soaks-finished : (sizes : Sizes) (seed forms : ℕ) (script : ScriptText) (image : HeapImage) (sums : Sums)
     (how : How) (line n status : ℕ) (last : LastLine) (old new : List ℕ → Type 0) (faults_old faults_new : ℕ)
     → reading (generated seed forms) ≡ Ok script → IsKeepable sizes script image
-    → Finishes true script (image_heap image) (finished_by how line n) (HasSums (record { bytes = 0; total = 0 }))
+    → FinishesImaged true script (image_heap image) (finished_by how line n) (HasSums (record { bytes = 0; total = 0 }))
     (HasSums sums) 0 0
     → ((bytes : List ℕ) → HasSums sums bytes → last ≡ soak_line_of how line n bytes)
     → Concludes last old new faults_old faults_new status
@@ -91,7 +92,7 @@ Soaks-finished sizes seed forms script image sums how line n status last old new
       kept = refl;
       comes = λ words input asks unread steady.
           Comes.soaked sizes seed forms script kept how asks unread steady is
-          (keeps how line n keepable f.reached f.spent) ends.comes refl;
+          (keeps how line n keepable f.reached f.led) ends.comes refl;
       taken = subst (λ one. Taken old new faults_old faults_new (record { told = []; last = Some one; kept = Some kept })
           status) (tells f.reached.so_far.bytes ends.summed)
           (line_taken last (Some kept) old new faults_old faults_new status concluded decided);

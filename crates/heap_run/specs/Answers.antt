@@ -1,9 +1,7 @@
 -- What a run comes to, and what of it the sink took.
-use Rattle.std.specs.Prelude.{◌≡◌, ◌⊎◌, ℕ, ◌+◌, ◌<◌, ◌≤◌, Bool, List, [], ◌∷◌, ◌++◌}
-use Rattle.std.specs.Prelude.{length, sum, take, drop, true, Option, Some, None, IfSome, MatchOption, Contains, Result}
-use Rattle.std.specs.Prelude.{Ok, Err}
+use Rattle.std.specs.Prelude.{◌≡◌, ◌⊎◌, ℕ, ◌+◌, ◌<◌, ◌≤◌, Bool, List, [], ◌++◌}
+use Rattle.std.specs.Prelude.{length, sum, take, drop, true, Option, Some, None, IfSome, Ok, Err}
 use Rattle.heap_model.specs.Types.{Sizes}
-use Rattle.command_line.specs.declared.invocation.Invocation.{Invocation}
 use Rattle.command_line.specs.declared.invocation.Invocation.TheVariants.{Soak, Gen}
 use Rattle.command_line.specs.Invocations.{invocation_of, BeginsCommand, asked_run}
 use Rattle.script_text.specs.declared.script.BadScript.{BadScript}
@@ -18,12 +16,14 @@ use Rattle.byte_ends.specs.Sure.{wrapped}
 use Rattle.heap_script.specs.declared.finished.How.{How}
 use Rattle.heap_script.specs.declared.finished.How.TheVariants as how
 use Rattle.heap_script.specs.TheConstants.{OUTPUT_BYTES}
-use Rattle.heap_script.specs.Stages.{uncollected}
+use Rattle.heap_script.specs.Stages.{Stage, Collections, uncollected}
 use Rattle.heap_script.specs.Reached.{RanTo}
-use Rattle.heap_script.specs.Spending.{HasSpent}
+use Rattle.heap_script.specs.Spending.{Spends}
 use Rattle.heap_script.specs.Runs.{EndsRun, need_at, IsDue}
 use Rattle.heap_model.specs.Images.{image_heap}
-use Rattle.heap_model.specs.Wholeness.{Blank}
+use Rattle.heap_model.specs.Collectable.{AreFreeRuns}
+use Rattle.collector.specs.Born.{Opening}
+use Rattle.collector.specs.Images.{IsImageOf}
 use Rattle.heap_run.specs.declared.ended.Kept.{Kept}
 use Rattle.heap_run.specs.declared.ended.Ended.{Ended}
 use Rattle.heap_run.specs.declared.last_line.LastLine.{LastLine}
@@ -125,13 +125,17 @@ abbrev pub unopened : LastLine → Answer
 unopened line = record { told = []; last = Some line; kept = None }
 
 -- The kept heap of a script that was run with these sizes: its regions are those of the sizes and of the script's
--- variables, it shows the graph after the executed lines, these spent the words that they needed, of eden and of free
--- runs, and all words that no cell uses are 0.
+-- variables, and it shows the graph after the executed lines. It is an image of the heap to which these lines led, which
+-- spent the words that they needed, of eden and of free runs. So all words that no cell uses are 0.
 pub record IsKeptHeapOf (sizes : Sizes) (script : ScriptText) (kept : Kept) : Type 0 where
   pub regions : kept.image.regions ≡ record { sizes = sizes; variables = length script.variables }
-  pub blank : Blank (image_heap kept.image)
   pub reached : RanTo script (image_heap kept.image) kept.executed
-  pub spent : HasSpent script (image_heap kept.image) kept.executed
+  pub last : Stage
+  pub collections : Collections
+  pub opened : Option Opening
+  pub spends : Spends script last kept.executed collections opened
+  pub free : AreFreeRuns last.heap last.rows
+  pub image : IsImageOf last.heap (image_heap kept.image)
 
 -- What a run comes to, by the words and the source.
 pub data Comes (words : List (List ℕ)) (input : Input) : Answer → Type 0 where
@@ -154,7 +158,7 @@ pub data Comes (words : List (List ℕ)) (input : Input) : Answer → Type 0 whe
   ended : (checks : Bool) (sizes : Sizes) (bytes : List ℕ) (script : ScriptText) (kept : Kept) (came : How)
       → AsksToRun words checks sizes → ReadsAll input bytes → reading bytes ≡ Ok script
       → (keeps : IsKeptHeapOf sizes script kept)
-      → EndsRun checks script (image_heap kept.image) keeps.spent.last.rows keeps.spent.collections kept.executed
+      → EndsRun checks script (image_heap kept.image) keeps.last.rows keeps.collections kept.executed
       keeps.reached.so_far came kept.line
       → kept.need ≡ need_at came
       → Comes words input (record {
@@ -166,7 +170,7 @@ pub data Comes (words : List (List ℕ)) (input : Input) : Answer → Type 0 whe
   -- heap was collected for the next line
   cut_short : (checks : Bool) (sizes : Sizes) (bytes : List ℕ) (script : ScriptText) (kept : Kept)
       → AsksToRun words checks sizes → ReadsAll input bytes → reading bytes ≡ Ok script
-      → (keeps : IsKeptHeapOf sizes script kept) → kept.line ≡ 0 → kept.need ≡ 0 → keeps.spent.collections ≡ uncollected
+      → (keeps : IsKeptHeapOf sizes script kept) → kept.line ≡ 0 → kept.need ≡ 0 → keeps.collections ≡ uncollected
       → IsDue script kept.executed
       → Comes words input (record { told = keeps.reached.so_far.bytes; last = None; kept = Some kept })
   -- the words ask for a generated script, which is told; nothing is read, and no heap is opened
@@ -182,7 +186,7 @@ pub data Comes (words : List (List ℕ)) (input : Input) : Answer → Type 0 whe
       → AsksToSoak words sizes seed forms → input.after ≡ input.before → NoReadFailed input
       → reading (script_of_seed seed forms) ≡ Ok script
       → (keeps : IsKeptHeapOf sizes script kept)
-      → EndsRun true script (image_heap kept.image) keeps.spent.last.rows keeps.spent.collections kept.executed
+      → EndsRun true script (image_heap kept.image) keeps.last.rows keeps.collections kept.executed
       keeps.reached.so_far came kept.line
       → kept.need ≡ need_at came
       → Comes words input (record {
@@ -206,34 +210,6 @@ pub data Taken (old new : List ℕ → Type 0) (faults_old faults_new : ℕ) : A
   front : (answer : Answer) → (some : AppendsSome old new (answer.told ++ bytes_of answer.last))
       → length answer.told ≤ some.count + OUTPUT_BYTES → Rose faults_old faults_new
       → Taken old new faults_old faults_new answer sink_fault_status
-
--- a heap is kept at the statuses of a script that was run, and none at the others; the sink may fail before or after
-abbrev pub IsKeptAt : ℕ → Option Kept → Type 0
-IsKeptAt status kept =
-    MatchOption kept (Contains (2 ∷ 4 ∷ sink_fault_status ∷ 6 ∷ 7 ∷ 64 ∷ []) status)
-    (λ _. Contains (0 ∷ 1 ∷ 3 ∷ sink_fault_status ∷ 8 ∷ []) status)
-
--- the same for what words ask for: of a generated script that is told no heap is kept
-abbrev pub IsKeptBy : Option Invocation → ℕ → Option Kept → Type 0
-IsKeptBy (Some (Gen seed forms)) status kept = kept ≡ None
-IsKeptBy asked status kept = IsKeptAt status kept
-
--- the same for the words
-abbrev pub IsKeptFor : List (List ℕ) → ℕ → Option Kept → Type 0
-IsKeptFor words status kept = IsKeptBy (invocation_of words) status kept
-
--- These bytes are the script that the words ask to be run on a heap of these sizes: all that the source had left, or the
--- generated script of a seed.
-abbrev pub IsScriptFor : List (List ℕ) → Option (List ℕ) → Sizes → List ℕ → Type 0
-IsScriptFor words left sizes bytes =
-    ((checks : Bool) × AsksToRun words checks sizes × IsInput left bytes)
-    ⊎ ((seed : ℕ) × (forms : ℕ) × AsksToSoak words sizes seed forms × (bytes ≡ script_of_seed seed forms))
-
--- What was read is a script, and the heap that is kept of its run with these sizes shows the graph after the executed
--- lines.
-abbrev pub KeepsGraph : Sizes → Result ScriptText BadScript → Kept → Type 0
-KeepsGraph sizes (Ok script) kept = IsKeptHeapOf sizes script kept
-KeepsGraph sizes (Err stop) kept = ⊥
 
 -- How a run ended, with this status and this heap, is what the words and the source come to, and the sink took of it
 -- what it took.

@@ -1,18 +1,25 @@
 //! The last line of a run and its status. It is written without taking memory.
-ghost use Rattle.std.specs.Prelude.{◌≡◌, ◌≢◌, List, OnOk, OnErr, length, sum, ℕ, codes};
+ghost use Rattle.std.specs.Prelude.{◌≡◌, ◌≢◌, ◌+◌, ◌++◌, ◌≤◌, List, length, ℕ};
 ghost use Rattle.byte_ends.specs.Faults.{Rose};
 ghost use Rattle.byte_ends.specs.Sink.{Appends, AppendsSome};
-ghost use Rattle.heap_run.specs.Texts.{reason_line, numbered, numbered_line, counts_line, soaked_line, flaw_line};
+ghost use Rattle.heap_run.specs.Texts.{reason_line, numbered, numbered_line};
 ghost use Rattle.heap_run.specs.Texts.{last_bytes, status_of, sink_fault_status};
 ghost use Rattle.heap_run.specs.Answers.{last_line_of, soak_line_of};
 ghost use Rattle.byte_ends.specs.Sure.{HasSums};
 
+use arrayvec::ArrayString;
 use byte_ends::{Failed, Sink, Tally, write_all};
 use heap_check::{Counts, Flaw};
 use heap_command::FaultWord;
 use heap_script::{Finished, How};
 use itoa::Buffer;
 use script_text::Why;
+
+/// The most bytes of a last line: that of a soak has five numbers, of up to 20 digits each, and 37 bytes besides.
+const LAST_LINE_BYTES: usize = 137;
+
+/// The most digits of a number.
+const DIGITS: usize = 20;
 
 /// The status of a run whose sink failed.
 pub(crate) const SINK_FAULT: u8 = 5;
@@ -121,124 +128,114 @@ impl LastLine {
             AppendsSome (K.HasTaken sink.old) (K.HasTaken sink.new) (last_bytes self)
             × Rose (K.faults sink.old) (K.faults sink.new) }
     {
-        match self.write(sink) {
+        // In one piece: a reader of the other end never has a part of the line where the system takes it whole.
+        let text = self.text();
+        match write_all(sink, text.as_str().as_bytes()) {
             Ok(()) => self.status(),
             Err(Failed) => SINK_FAULT,
         }
     }
 
-    fn write<K: Sink>(self, sink: &mut K) -> Result<(), Failed>
-        ensures appended { OnOk result
-            (Appends (K.HasTaken sink.old) (K.HasTaken sink.new) (last_bytes self)) }
-        ensures stopped { OnErr result
-            (AppendsSome (K.HasTaken sink.old) (K.HasTaken sink.new) (last_bytes self)) }
-        ensures failed { OnErr result (Rose (K.faults sink.old) (K.faults sink.new)) }
-        ensures steady { OnOk result (K.faults sink.new ≡ K.faults sink.old) }
+    /// The line as it is written. It takes no memory, so that a run that was refused memory has a last line too.
+    fn text(self) -> ArrayString<LAST_LINE_BYTES>
+        ensures { result.bytes ≡ last_bytes self }
     {
         match self {
-            LastLine::Nothing => write_all(sink, b""),
-            LastLine::Checked(counts) => write_counts(sink, "checked objects ", counts),
-            LastLine::Soaked(soaked) => write_soaked(sink, soaked),
-            LastLine::Fault { line, word } => write_reason(sink, "fault ", line, word.text()),
-            LastLine::BadScript { line, why } => write_reason(
-                sink,
-                "bad script ",
-                line,
-                why.text(),
-            ),
-            LastLine::TooManyNames { line } => write_reason(sink, "bad script ", line, "names"),
-            LastLine::HeapFull { line } => write_numbered(sink, "heap full ", line),
-            LastLine::ReadFault => write_all(sink, b"read fault\n"),
-            LastLine::SourceTooLong => write_all(sink, b"source too long\n"),
-            LastLine::NoMemory => write_all(sink, b"no memory\n"),
-            LastLine::LineLimit { line } => write_numbered(sink, "line limit ", line),
-            LastLine::BadWords => write_all(sink, b"bad words\n"),
-            LastLine::Flawed(flaw) => write_flaw(sink, flaw),
+            LastLine::Nothing => ArrayString::new(),
+            LastLine::Checked(counts) => checked_text(counts),
+            LastLine::Soaked(soaked) => soaked_text(soaked),
+            LastLine::Fault { line, word } => reason_text("fault ", line, word.text()),
+            LastLine::BadScript { line, why } => reason_text("bad script ", line, why.text()),
+            LastLine::TooManyNames { line } => reason_text("bad script ", line, "names"),
+            LastLine::HeapFull { line } => numbered_text("heap full ", line),
+            LastLine::ReadFault => plain_text("read fault\n"),
+            LastLine::SourceTooLong => plain_text("source too long\n"),
+            LastLine::NoMemory => plain_text("no memory\n"),
+            LastLine::LineLimit { line } => numbered_text("line limit ", line),
+            LastLine::BadWords => plain_text("bad words\n"),
+            LastLine::Flawed(flaw) => flaw_text(flaw),
         }
     }
 }
 
-/// Writes a line of a head, a number, a space and a reason.
-fn write_reason<K: Sink>(sink: &mut K, head: &str, line: u32, reason: &str) -> Result<(), Failed>
-    ensures appended { OnOk result (Appends (K.HasTaken sink.old) (K.HasTaken sink.new)
-        (reason_line head.now line reason.now)) }
-    ensures stopped { OnErr result (AppendsSome (K.HasTaken sink.old) (K.HasTaken sink.new)
-        (reason_line head.now line reason.now)) }
-    ensures failed { OnErr result (Rose (K.faults sink.old) (K.faults sink.new)) }
-    ensures steady { OnOk result (K.faults sink.new ≡ K.faults sink.old) }
+/// A line without a number.
+fn plain_text(line: &str) -> ArrayString<LAST_LINE_BYTES>
+    requires { length line.now ≤ LAST_LINE_BYTES }
+    ensures { result.bytes ≡ line.now }
 {
-    write_head(sink, head, line as u64)?;
-    write_all(sink, b" ")?;
-    write_all(sink, reason.as_bytes())?;
-    write_all(sink, b"\n")
+    let mut text = ArrayString::new();
+    text.push_str(line);
+    text
 }
 
-/// Writes a line of a head and a number.
-fn write_numbered<K: Sink>(sink: &mut K, head: &str, line: u32) -> Result<(), Failed>
-    ensures appended { OnOk result
-        (Appends (K.HasTaken sink.old) (K.HasTaken sink.new) (numbered_line head.now line)) }
-    ensures stopped { OnErr result
-        (AppendsSome (K.HasTaken sink.old) (K.HasTaken sink.new) (numbered_line head.now line)) }
-    ensures failed { OnErr result (Rose (K.faults sink.old) (K.faults sink.new)) }
-    ensures steady { OnOk result (K.faults sink.new ≡ K.faults sink.old) }
+/// A line of a head, the number of a line, a space and a reason.
+fn reason_text(head: &str, line: u32, reason: &str) -> ArrayString<LAST_LINE_BYTES>
+    requires short_head { length head.now ≤ DIGITS }
+    requires short_reason { length reason.now ≤ DIGITS }
+    ensures { result.bytes ≡ reason_line head.now line reason.now }
 {
-    write_head(sink, head, line as u64)?;
-    write_all(sink, b"\n")
+    let mut text = ArrayString::new();
+    push_number(&mut text, head, line as u64);
+    text.push_str(" ");
+    text.push_str(reason);
+    text.push_str("\n");
+    text
 }
 
-/// Writes a head, and what was counted of a heap.
-fn write_counts<K: Sink>(sink: &mut K, head: &str, counts: Counts) -> Result<(), Failed>
-    ensures appended { OnOk result (Appends (K.HasTaken sink.old) (K.HasTaken sink.new)
-        (counts_line head.now counts.objects counts.entries)) }
-    ensures stopped { OnErr result (AppendsSome (K.HasTaken sink.old) (K.HasTaken sink.new)
-        (counts_line head.now counts.objects counts.entries)) }
-    ensures failed { OnErr result (Rose (K.faults sink.old) (K.faults sink.new)) }
-    ensures steady { OnOk result (K.faults sink.new ≡ K.faults sink.old) }
+/// A line of a head and the number of a line.
+fn numbered_text(head: &str, line: u32) -> ArrayString<LAST_LINE_BYTES>
+    requires { length head.now ≤ DIGITS }
+    ensures { result.bytes ≡ numbered_line head.now line }
 {
-    write_head(sink, head, counts.objects)?;
-    write_head(sink, " entries ", counts.entries)?;
-    write_all(sink, b"\n")
+    let mut text = ArrayString::new();
+    push_number(&mut text, head, line as u64);
+    text.push_str("\n");
+    text
 }
 
-/// Writes the sums of a soak.
-fn write_soaked<K: Sink>(sink: &mut K, soaked: Soaked) -> Result<(), Failed>
-    ensures appended { OnOk result (Appends (K.HasTaken sink.old) (K.HasTaken sink.new)
-        (soaked_line soaked.lines soaked.bytes soaked.sum soaked.counts.objects soaked.counts.entries)) }
-    ensures stopped { OnErr result (AppendsSome (K.HasTaken sink.old) (K.HasTaken sink.new)
-        (soaked_line soaked.lines soaked.bytes soaked.sum soaked.counts.objects soaked.counts.entries)) }
-    ensures failed { OnErr result (Rose (K.faults sink.old) (K.faults sink.new)) }
-    ensures steady { OnOk result (K.faults sink.new ≡ K.faults sink.old) }
+/// What a check counted of a heap.
+fn checked_text(counts: Counts) -> ArrayString<LAST_LINE_BYTES>
+    ensures { result.bytes ≡ last_bytes (LastLine.Checked counts) }
 {
-    write_head(sink, "lines ", soaked.lines)?;
-    write_head(sink, " bytes ", soaked.bytes)?;
-    write_head(sink, " sum ", soaked.sum)?;
-    write_counts(sink, " objects ", soaked.counts)
+    let mut text = ArrayString::new();
+    push_number(&mut text, "checked objects ", counts.objects);
+    push_number(&mut text, " entries ", counts.entries);
+    text.push_str("\n");
+    text
 }
 
-/// Writes the address of a word that breaks the heap, what stands there, and what is asked for.
-fn write_flaw<K: Sink>(sink: &mut K, flaw: Flaw) -> Result<(), Failed>
-    ensures appended { OnOk result (Appends (K.HasTaken sink.old) (K.HasTaken sink.new)
-        (flaw_line flaw.at flaw.found flaw.wanted)) }
-    ensures stopped { OnErr result (AppendsSome (K.HasTaken sink.old) (K.HasTaken sink.new)
-        (flaw_line flaw.at flaw.found flaw.wanted)) }
-    ensures failed { OnErr result (Rose (K.faults sink.old) (K.faults sink.new)) }
-    ensures steady { OnOk result (K.faults sink.new ≡ K.faults sink.old) }
+/// The sums of a soak.
+fn soaked_text(soaked: Soaked) -> ArrayString<LAST_LINE_BYTES>
+    ensures { result.bytes ≡ last_bytes (LastLine.Soaked soaked) }
 {
-    write_head(sink, "flaw ", flaw.at as u64)?;
-    write_head(sink, " ", flaw.found)?;
-    write_head(sink, " ", flaw.wanted)?;
-    write_all(sink, b"\n")
+    let mut text = ArrayString::new();
+    push_number(&mut text, "lines ", soaked.lines);
+    push_number(&mut text, " bytes ", soaked.bytes);
+    push_number(&mut text, " sum ", soaked.sum);
+    push_number(&mut text, " objects ", soaked.counts.objects);
+    push_number(&mut text, " entries ", soaked.counts.entries);
+    text.push_str("\n");
+    text
 }
 
-/// Writes a head and a number.
-fn write_head<K: Sink>(sink: &mut K, head: &str, number: u64) -> Result<(), Failed>
-    ensures appended { OnOk result
-        (Appends (K.HasTaken sink.old) (K.HasTaken sink.new) (numbered head.now number)) }
-    ensures stopped { OnErr result
-        (AppendsSome (K.HasTaken sink.old) (K.HasTaken sink.new) (numbered head.now number)) }
-    ensures failed { OnErr result (Rose (K.faults sink.old) (K.faults sink.new)) }
-    ensures steady { OnOk result (K.faults sink.new ≡ K.faults sink.old) }
+/// The address of a word that breaks the heap, what stands there, and what is asked for.
+fn flaw_text(flaw: Flaw) -> ArrayString<LAST_LINE_BYTES>
+    ensures { result.bytes ≡ last_bytes (LastLine.Flawed flaw) }
 {
-    write_all(sink, head.as_bytes())?;
-    write_all(sink, Buffer::new().format(number).as_bytes())
+    let mut text = ArrayString::new();
+    push_number(&mut text, "flaw ", flaw.at as u64);
+    push_number(&mut text, " ", flaw.found);
+    push_number(&mut text, " ", flaw.wanted);
+    text.push_str("\n");
+    text
+}
+
+/// Puts a head and a number after the text.
+fn push_number(text: &mut ArrayString<LAST_LINE_BYTES>, head: &str, number: u64)
+    requires { length text.old.bytes + (length head.now + DIGITS) ≤ LAST_LINE_BYTES }
+    ensures pushed { text.new.bytes ≡ text.old.bytes ++ numbered head.now number }
+    ensures few { length text.new.bytes ≤ length text.old.bytes + (length head.now + DIGITS) }
+{
+    text.push_str(head);
+    text.push_str(Buffer::new().format(number));
 }

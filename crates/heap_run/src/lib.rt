@@ -2,13 +2,14 @@
 //!
 //! Model: a source is what it has left and a sink which bytes it may have taken, each with a count of
 //! faults; both may tell nothing. `Comes` of `specs/Answers.antt` says what a run comes to, and
-//! `Taken` what of it the sink took.
+//! `Taken` what of it the sink took. `laws_of_answers` says what follows of the heap that is kept.
 //! Invariant: none of its own. Each part hands on what the call below it promised.
 #![tactic(auto)]
 
 mod ended;
 mod generated;
 mod last_line;
+mod laws;
 mod program;
 mod soaking;
 mod source_bytes;
@@ -18,4 +19,5 @@ pub use byte_ends::{
 };
 pub use crew::{Gate, OpenGate, Point};
 pub use ended::{Ended, Kept};
+pub use laws::laws_of_answers;
 pub use program::{run, run_without_words};

@@ -1,6 +1,6 @@
 //! The program as one call. Its last line stands in `last_line`, the run of a script in `heap_script`.
 ghost use Rattle.std.specs.Prelude.{◌≡◌, ◌≢◌, ℕ, List, [], map, length, string_bytes};
-ghost use Rattle.std.specs.Prelude.{Bool, Some, None, Ok, IfSome, IfOk, false};
+ghost use Rattle.std.specs.Prelude.{Bool, None, Ok, IfOk, false};
 ghost use Rattle.object_graph.specs.Graphs.{start};
 ghost use Rattle.script_text.specs.Grammar.{reading};
 ghost use Rattle.page_space.specs.Sizes.{AreWithin};
@@ -11,7 +11,7 @@ ghost use Rattle.byte_ends.specs.Sink.{Appends, AppendsSome};
 ghost use Rattle.heap_script.specs.Inspecting.{counts_at_end, IsFor};
 ghost use Rattle.heap_script.specs.Runs.{IsCut};
 ghost use Rattle.heap_run.specs.Texts.{last_bytes, status_of, sink_fault_status};
-ghost use Rattle.heap_run.specs.Answers.{Answers, Runs, KeepsGraph, AsksToRun, IsScriptFor, IsKeptFor, Taken};
+ghost use Rattle.heap_run.specs.Answers.{Answers, Runs, AsksToRun, Taken};
 ghost use Rattle.heap_run.specs.Answers.{input_of, last_line_of, unopened};
 
 use crate::ended::{Ended, keep};
@@ -51,14 +51,6 @@ pub fn run<S: Source, K: Sink, G: Gate, R: Threads + Sync>(
     ensures answers { Answers (map string_bytes words.now)
         (input_of (S.left source.old) (S.left source.new) (S.faults source.old) (S.faults source.new))
         (K.HasTaken sink.old) (K.HasTaken sink.new) (K.faults sink.old) (K.faults sink.new) result }
-
-    // The heap that is kept, of every run.
-    ensures kept { IfSome result.kept (λ kept. (sizes : Sizes) × (script : List ℕ)
-        × IsScriptFor (map string_bytes words.now) (S.left source.old) sizes script
-        × KeepsGraph sizes (reading script) kept) }
-    ensures whole { (checks : Bool) (sizes : Sizes) → AsksToRun (map string_bytes words.now) checks sizes →
-        IfSome result.kept (λ _. IfSome (S.left source.old) (λ _. S.left source.new ≡ Some [])) }
-    ensures opened { IsKeptFor (map string_bytes words.now) result.status result.kept }
 {
     run_words(rt, alloc, words, source, sink, gate)
 }

@@ -1,22 +1,19 @@
 -- Commands of the collector: what they leave of a heap, and of a cycle.
-use Rattle.std.proofs.Common.{◌≡◌, ◌∙◌, ℕ, Bool, true, false, List, [], ◌∷◌, ◌++◌}
-use Rattle.std.proofs.Common.{refl, sym, ap, inl, inr, take, suc, ◌+◌, add-one}
+use Rattle.std.proofs.Common.{◌≡◌, ℕ, Bool, true, false, List, [], refl, sym, ap, inl, inr}
 use Rattle.std.proofs.lemmas.Bool.{false≢true}
 use Rattle.heap_model.specs.Types.{Command}
-use Rattle.heap_command.specs.Executed.{Executed}
 use Rattle.heap_command.specs.declared.command.Command.TheVariants as command
 use Rattle.object_graph.specs.Graphs.{Graph}
 use Rattle.object_graph.specs.Reach.{reached_objects, reached_entries}
 use Rattle.object_graph.specs.Texts.{line, census_text}
-use Rattle.script_text.specs.Scripts.{ScriptText}
-use Rattle.script_text.specs.Unrolled.{executed_lines}
 use Rattle.write_barrier.specs.MutatorState.{Mutator, MainShows}
 use Rattle.scavenger.specs.Scavenged.{Scavenges}
 use Rattle.scavenger.specs.Laws.{KeepsGraphs}
+use Rattle.collector.specs.Born.{BeginsCycle}
 use Rattle.collector.specs.Collected.{CollectsAll}
 use Rattle.collector.specs.States.{Rest, with_cycle}
 use Rattle.mutator.proofs.Writings.{writing_carried}
-use Rattle.heap_script.specs.Cycles.{asks_collector, cycle_after_command, cycle_after_line, cycle_after_lines, is_in_cycle}
+use Rattle.heap_script.specs.Cycles.{asks_collector, cycle_after_command}
 use Rattle.heap_script.specs.Collecting.{CarriesAsked, IsApart}
 use Rattle.heap_script.specs.Progress.{objects_made}
 
@@ -28,10 +25,18 @@ module _ {names : List (List ℕ)} {in_cycle : Bool} {old new : Mutator} {graph 
       CarriesAsked.scavenges refl scavenges keeps
       (writing_carried names command.Scavenge [] refl (keeps.shows graph shows) refl (λ rooms. (refl, λ number. refl)))
 
-  -- nor does the command `mark` of a heap that it leaves as it is
-  pub asked_mark : new ≡ old → MainShows new graph → CarriesAsked names in_cycle old new graph command.Mark []
-  asked_mark same shows =
-      CarriesAsked.collects_nothing (inl refl) same
+  -- nor does the command `mark`, of what it left where it opens a cycle
+  pub asked_mark : in_cycle ≡ false → BeginsCycle old new graph → MainShows new graph
+      → CarriesAsked names in_cycle old new graph command.Mark []
+  asked_mark none begins shows =
+      CarriesAsked.begins refl none begins
+      (writing_carried names command.Mark [] refl shows refl (λ rooms. (refl, λ number. refl)))
+
+  -- nor of a heap that it leaves as it is, where one is open
+  pub asked_mark_open : in_cycle ≡ true → new ≡ old → MainShows new graph
+      → CarriesAsked names in_cycle old new graph command.Mark []
+  asked_mark_open is same shows =
+      CarriesAsked.collects_nothing (inl (refl, is)) same
       (writing_carried names command.Mark [] refl shows refl (λ rooms. (refl, λ number. refl)))
 
   -- nor does the command `finish`, where no cycle is open
@@ -45,7 +50,7 @@ module _ {names : List (List ℕ)} {in_cycle : Bool} {old new : Mutator} {graph 
   pub asked_finish : in_cycle ≡ true → CollectsAll old new graph
       → CarriesAsked names in_cycle old new graph command.Finish []
   asked_finish is collects =
-      CarriesAsked.collects_all (inr (inr (refl, is))) collects
+      CarriesAsked.finishes refl is collects
       (writing_carried names command.Finish [] refl collects.shows refl (λ rooms. (refl, λ number. refl)))
 
   -- nor does the command `gc`
@@ -59,11 +64,18 @@ module _ {names : List (List ℕ)} {in_cycle : Bool} {old new : Mutator} {graph 
       → CarriesAsked names in_cycle old new graph command.Census
       (line (census_text (reached_objects graph) (reached_entries graph)))
   asked_census collects =
-      CarriesAsked.collects_all (inr (inl refl)) collects
+      CarriesAsked.collects_all (inr refl) collects
       (writing_carried names command.Census (line (census_text (reached_objects graph) (reached_entries graph))) refl
       collects.shows refl (λ rooms. (refl, λ number. refl)))
 
--- the command `finish`, whether a cycle is open or not
+-- the command `mark`, whether a cycle is open or not
+pub asked_mark_by : {names : List (List ℕ)} (in_cycle : Bool) {old new : Mutator} {graph : Graph}
+    → (in_cycle ≡ false → BeginsCycle old new graph) → (in_cycle ≡ true → new ≡ old) → MainShows new graph
+    → CarriesAsked names in_cycle old new graph command.Mark []
+asked_mark_by false begins same shows = asked_mark refl (begins refl) shows
+asked_mark_by true begins same shows = asked_mark_open refl (same refl) shows
+
+-- the command `finish`
 pub asked_finish_by : {names : List (List ℕ)} (in_cycle : Bool) {old new : Mutator} {graph : Graph}
     → (in_cycle ≡ false → new ≡ old) → (in_cycle ≡ true → CollectsAll old new graph)
     → (in_cycle ≡ false → MainShows new graph)
@@ -93,20 +105,3 @@ rest_stays rest one apart = ap (with_cycle rest) (cycle_stays rest.in_cycle one 
 -- where a cycle is as it was, so is all beside the mutator's side
 pub rest_without : (rest : Rest) (cycle : Bool) → rest.in_cycle ≡ cycle → rest ≡ with_cycle rest cycle
 rest_without rest cycle is = ap (with_cycle rest) is
-
--- behind one line more a cycle is open as behind that line
-pub cycle_after_lines-push : (in_cycle : Bool) (lines : List Executed) (next : Executed)
-    → cycle_after_lines in_cycle (lines ++ next ∷ []) ≡ cycle_after_line (cycle_after_lines in_cycle lines) next.command
-cycle_after_lines-push in_cycle [] next = refl
-cycle_after_lines-push in_cycle (first ∷ lines) next =
-    cycle_after_lines-push (cycle_after_line in_cycle first.command) lines next
-
--- so it is in a script
-pub cycle_next : (script : ScriptText) (n : ℕ) (next : Executed)
-    → take (suc n) (executed_lines script.lines) ≡ take n (executed_lines script.lines) ++ next ∷ []
-    → is_in_cycle script (n + 1) ≡ cycle_after_line (is_in_cycle script n) next.command
-cycle_next script n next taken =
-    let lines = executed_lines script.lines in
-    ap (λ m. cycle_after_lines false (take m lines)) (add-one n)
-    ∙ ap (cycle_after_lines false) taken
-    ∙ cycle_after_lines-push false (take n lines) next

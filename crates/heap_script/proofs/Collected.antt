@@ -18,6 +18,7 @@ use Rattle.scavenger.specs.Scavenged.{Scavenges}
 use Rattle.scavenger.specs.Laws.{KeepsGraphs}
 use Rattle.scavenger.proofs.Tight.{scavenges_are_tight, scavenges_fill_pages}
 use Rattle.scavenger.proofs.TakenWords.{scavenges_take_words}
+use Rattle.collector.specs.Born.{BeginsCycle}
 use Rattle.collector.specs.Collected.{CollectsAll}
 use Rattle.collector.specs.Making.{IsOutOfRoom}
 use Rattle.collector.specs.States.{HeapState}
@@ -25,7 +26,7 @@ use Rattle.collector.proofs.Keeping.{still_shows}
 use Rattle.heap_script.specs.Collecting.{IsSound, LacksWords, FindsPairs, CollectsFully}
 use Rattle.heap_script.specs.Stages.{Collections, uncollected, scavenged, fully_collected, stage_of}
 use Rattle.heap_script.specs.Reached.{left_after, RanTo}
-use Rattle.heap_script.specs.Spending.{Spends, IsCollected, WantsRoom, LacksAllRoom, WantsClearing}
+use Rattle.heap_script.specs.Spending.{Spends, IsCollected, HasBegun, WantsRoom, LacksAllRoom, WantsClearing}
 use Rattle.heap_script.proofs.Lacking.{full_for}
 use Rattle.heap_script.proofs.Carrying.{unfull_behind}
 use Rattle.heap_script.proofs.GoingOn.{goes-on}
@@ -33,25 +34,34 @@ use Rattle.heap_script.specs.Between.{Running}
 use Rattle.heap_script.proofs.Running.{next_at}
 
 -- what a scavenge leaves of a heap that shows a graph, whose objects have the rooms that they had
-pub collected_by : {old new : Mutator} {graph : Graph} → Scavenges old new false → KeepsGraphs old new
-    → MainShows old graph → IsCollected (stage_of old) (stage_of new) graph
-collected_by {old} {new} {graph} scavenges keeps shows =
+pub collected_by : {old new : Mutator} {all : Bool} {graph : Graph} → Scavenges old new all → KeepsGraphs old new
+    → MainShows old graph → IsCollected (stage_of old) (stage_of new) all graph
+collected_by {old} {new} {all} {graph} scavenges keeps shows =
     let survivors = ap (λ (young : Young). young.survivors) scavenges.young in
-    let (words, promotes, stays, places) = scavenges_take_words old new graph false shows scavenges in
+    let (words, promotes, stays, places) = scavenges_take_words old new graph all shows scavenges in
     record {
       space = scavenges.seat.space;
       rooms = λ rooms. keeps.rooms graph rooms shows;
       emptied = ap (λ (young : Young). young.used) scavenges.young;
       few = omega (arith, survivors, scavenges.few);
-      tight = scavenges_are_tight old new graph false shows scavenges;
-      pages = scavenges_fill_pages old new graph false shows scavenges;
+      tight = scavenges_are_tight old new graph all shows scavenges;
+      pages = scavenges_fill_pages old new graph all shows scavenges;
       words = words;
       promotes = promotes;
       stays = stays;
       places = places;
+      backs = scavenges.backs;
       free = (keeps.shows graph shows).free;
       apart = scavenges.apart;
     }
+
+-- what a `mark` leaves that opens a cycle
+pub begun_by : {old new : Mutator} {graph : Graph} → BeginsCycle old new graph → MainShows old graph
+    → HasBegun (stage_of old) (stage_of new) graph
+begun_by (BeginsCycle.promotes_all scavenges keeps none) shows =
+    HasBegun.promotes_all (collected_by scavenges keeps shows) none
+begun_by (BeginsCycle.collects_all mid scavenges keeps some collects) shows =
+    HasBegun.collects_all (stage_of mid) (collected_by scavenges keeps shows) some collects.leaves
 
 -- the run has come as far on another heap with these regions, which shows the graph
 abbrev pub reached_on : {script : ScriptText} {old mid : Heap} {n : ℕ} → (r : RanTo script old n)
@@ -133,10 +143,10 @@ heap_with heap main = record heap { main = main }
 -- Where a heap came to be another one between two lines, which shows a graph: it has the same regions and as many rows
 -- of free runs, and nothing is granted.
 pub record IsBetween (old new : Mutator) (graph : Graph) : Type 0 where
-  space : new.seat.space ≡ old.seat.space
-  rows : length new.free ≡ length old.free
-  ungranted : in_eden new.young ≡ true
-  shows : MainShows new graph
+  pub space : new.seat.space ≡ old.seat.space
+  pub rows : length new.free ≡ length old.free
+  pub ungranted : in_eden new.young ≡ true
+  pub shows : MainShows new graph
 
 -- a full collection leads to such a heap
 fully_between : {start old new : Mutator} {graph : Graph} → CollectsAll old new graph
@@ -148,17 +158,30 @@ fully_between collects space rows = record {
   shows = collects.shows;
 }
 
+-- so does a `mark` that opens a cycle
+pub begun_between : {old new : Mutator} {graph : Graph} → BeginsCycle old new graph → MainShows old graph
+    → IsBetween old new graph
+begun_between {graph = graph} (BeginsCycle.promotes_all scavenges keeps none) shows = record {
+  space = scavenges.seat.space;
+  rows = scavenges.rows;
+  ungranted = ungranted_by scavenges;
+  shows = keeps.shows graph shows;
+}
+begun_between (BeginsCycle.collects_all mid scavenges keeps some collects) shows =
+    fully_between collects scavenges.seat.space scavenges.rows
+
 -- between two lines, on that heap, by what was spent
 abbrev Running-collected : {script : ScriptText} {heap : HeapState} {mid : Mutator} {objects : ℕ} {waiting : List ℕ}
     {old new : List ℕ → Type 0} {at : ℕ} {ts : List ℕ} {n : ℕ} {before behind : Collections}
     → (r : Running script heap objects waiting old new at ts n before)
     → IsBetween heap.main mid r.reached.so_far.graph
-    → (RanTo script (heap_of mid) n → Spends script (stage_of mid) n behind)
+    → (RanTo script (heap_of mid) n → Spends script (stage_of mid) n behind r.opened)
     → Running script (heap_with heap mid) objects waiting old new at ts n behind
 Running-collected {heap = heap} {mid} r between spends =
     let reached = reached_on r.reached between.space between.shows.shows in
     record {
       reached = reached;
+      opened = r.opened;
       spends = spends reached;
       ungranted = between.ungranted;
       shown = still_shows heap (heap_with heap mid) r.reached.so_far.graph r.shown refl between.space between.rows
@@ -168,6 +191,7 @@ Running-collected {heap = heap} {mid} r between spends =
       made = r.made;
       few = r.few;
       cycle = r.cycle;
+      since = r.since;
     }
 
 -- behind the scavenge for the words that the next command needs, which promotes survivors
@@ -186,7 +210,7 @@ Running-once {heap = heap} {mid} {n = n} {need = need} r wanted sound lacks scav
       shows = keeps.shows r.reached.so_far.graph r.shown.main;
     })
     (λ reached.
-    Spends.once (stage_of heap.main) (stage_of mid) n r.spends r.reached
+    Spends.once (stage_of heap.main) (stage_of mid) n r.opened r.spends r.reached
     (wanted.room heap.main need r.shown.main.tied r.ungranted sound lacks) reached
     (collected_by scavenges keeps r.shown.main))
 
@@ -203,15 +227,15 @@ pub spends_fully : {script : ScriptText} {heap : HeapState} {last : Mutator} {ob
     {old new : List ℕ → Type 0} {at : ℕ} {ts : List ℕ} {n : ℕ} {command : Command}
     → (r : Running script heap objects waiting old new at ts n uncollected) → Wants script n r.reached.so_far command
     → CollectsFully script.fields heap.main last r.reached.so_far.graph command → RanTo script (heap_of last) n
-    → Spends script (stage_of last) n fully_collected
+    → Spends script (stage_of last) n fully_collected r.opened
 spends_fully {last = last} {n = n} r wanted
     (CollectsFully.for_room mid need sound lacks scavenges keeps out collects) reached =
     let once = Running-once r wanted sound lacks scavenges keeps in
     let still = lacks_behind keeps r.shown.main lacks out in
-    Spends.twice (stage_of mid) (stage_of last) n once.spends once.reached
+    Spends.twice (stage_of mid) (stage_of last) n r.opened once.spends once.reached
     (wanted.all mid need once.shown.main.tied once.ungranted sound still out.runs) reached collects.leaves
 spends_fully {heap = heap} {last} {n = n} r wanted (CollectsFully.for_pairs entries finds collects) reached =
-    Spends.cleared (stage_of heap.main) (stage_of last) n r.spends r.reached
+    Spends.cleared (stage_of heap.main) (stage_of last) n r.opened r.spends r.reached
     (wanted.clearing heap.main entries finds) reached collects.leaves
 
 -- so a run goes on behind it

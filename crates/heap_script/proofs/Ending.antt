@@ -125,6 +125,7 @@ pub Pauses-stopped : {script : ScriptText} {heap : HeapState} {objects : ℕ} {w
 Pauses-stopped (Fault word) s steady = record {
   reached = s.running.reached;
   collections = s.collections;
+  opened = s.running.opened;
   spends = s.running.spends;
   shown = s.running.shown;
   halts = (s.comes, s.running.handed, steady);
@@ -132,6 +133,7 @@ Pauses-stopped (Fault word) s steady = record {
 Pauses-stopped (NoRoom need) s steady = record {
   reached = s.running.reached;
   collections = s.collections;
+  opened = s.running.opened;
   spends = s.running.spends;
   shown = s.running.shown;
   halts = (s.comes, s.running.handed, steady);
@@ -139,6 +141,7 @@ Pauses-stopped (NoRoom need) s steady = record {
 Pauses-stopped (NoClear entries) s steady = record {
   reached = s.running.reached;
   collections = s.collections;
+  opened = s.running.opened;
   spends = s.running.spends;
   shown = s.running.shown;
   halts = (s.comes, s.running.handed, steady);
@@ -166,14 +169,14 @@ module _ {script : ScriptText} {heap : HeapState} {objects : ℕ} {waiting : Lis
   Stopped-faulted : (word : FaultWord) → meaning ideal_limits script.fields r.reached.so_far.graph command ≡ fault word
       → FaultsOn script.fields heap.main main r.reached.so_far.graph command word
       → Stopped script (heap_with heap main) objects waiting old new at ts n (how.Fault word) number
-  Stopped-faulted word faults (FaultsOn.unchanged same) =
+  Stopped-faulted word faults (FaultsOn.unchanged other same) =
       subst (λ one. Stopped script (heap_with heap one) objects waiting old new at ts n (how.Fault word) number)
       (sym same)
       (record {
         collections = uncollected;
         running = r;
-        comes = EndsRun-faulted script (stage_of heap.main) at' n number ts' command word uncollected (inl refl)
-            r.reached below goes faults;
+        comes = EndsRun-faulted script (stage_of heap.main) at' n number ts' command word uncollected
+            (inl (other, refl)) r.reached below goes faults;
       })
   Stopped-faulted word faults (FaultsOn.collected full fully) = Stopped-full_map word full faults fully
 

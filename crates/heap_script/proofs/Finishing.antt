@@ -4,7 +4,6 @@ use Rattle.script_text.specs.Scripts.{ScriptText}
 use Rattle.object_graph.specs.Run.{Told}
 use Rattle.heap_model.specs.Types.{Run}
 use Rattle.heap_model.specs.Heaps.{Heap}
-use Rattle.heap_model.specs.Collectable.{AreFreeRuns}
 use Rattle.write_barrier.specs.MutatorState.{heap_of}
 use Rattle.collector.specs.States.{HeapState}
 use Rattle.byte_ends.specs.Faults.{Rose}
@@ -13,9 +12,7 @@ use Rattle.heap_script.specs.declared.finished.How.{How}
 use Rattle.heap_script.specs.declared.finished.How.TheVariants.{End, Counted, Fault, HeapFull, SinkFault, LineLimit}
 use Rattle.heap_script.specs.declared.finished.How.TheVariants.{Flawed}
 use Rattle.heap_script.specs.declared.finished.Finished.{Finished}
-use Rattle.heap_script.specs.Stages.{Stage, Collections}
-use Rattle.heap_script.specs.Reached.{RanTo}
-use Rattle.heap_script.specs.Spending.{Spends, HasSpent}
+use Rattle.heap_script.specs.Stages.{Collections, stage_of}
 use Rattle.heap_script.specs.Runs.{Finishes, Writes, need_at, EndsRun, CutsOff}
 use Rattle.heap_script.specs.Progress.{Pauses, Handed}
 use Rattle.heap_script.proofs.Handing.{Appends-handed, CutsOff-handed}
@@ -24,29 +21,12 @@ use Rattle.heap_script.proofs.Handing.{Appends-handed, CutsOff-handed}
 abbrev pub finished_by : How → ℕ → ℕ → Finished
 finished_by how line executed = record { how = how; line = line; executed = executed }
 
--- the heap to which the lines led has spent what they need
-abbrev spent_all : {script : ScriptText} {stage : Stage} {n : ℕ} {collections : Collections} → RanTo script stage.heap n
-    → Spends script stage n collections → AreFreeRuns stage.heap stage.rows → HasSpent script stage.heap n
-spent_all {stage = stage} {collections = collections} reached spends free = record {
-  last = stage;
-  collections = collections;
-  spends = spends;
-  reached = reached;
-  space = refl;
-  used = refl;
-  survivors = refl;
-  stores = λ number at place. (place, refl);
-  rooms = λ rooms has. has;
-  free = free;
-  exact = λ exact. exact;
-}
-
 -- the sink failed between two lines
 pub Finishes-cut : (counted : Bool) (script : ScriptText) (heap : HeapState) (waiting : List ℕ) (how : How)
     (line n need : ℕ)
     (old new : List ℕ → Type 0) (faults_old faults_new : ℕ) → how ≡ SinkFault need
     → Pauses counted script heap waiting (finished_by how line n) old new faults_old faults_new
-    → Finishes counted script (heap_of heap.main) (finished_by how line n) old new faults_old faults_new
+    → Finishes counted script (stage_of heap.main) (finished_by how line n) old new faults_old faults_new
 Finishes-cut counted script heap waiting End line n need old new faults_old faults_new is p = absurd (cc)
 Finishes-cut counted script heap waiting (Fault word) line n need old new faults_old faults_new is p = absurd (cc)
 Finishes-cut counted script heap waiting (HeapFull words) line n need old new faults_old faults_new is p = absurd (cc)
@@ -54,7 +34,10 @@ Finishes-cut counted script heap waiting (SinkFault none) line n need old new fa
     let (between, some, rose) = p.halts in
     record {
       reached = p.reached;
-      spent = spent_all p.reached p.spends p.shown.main.free;
+      collections = p.collections;
+      opened = p.opened;
+      spends = p.spends;
+      free = p.shown.main.free;
       writes = (inl between, some, rose);
     }
 Finishes-cut counted script heap waiting LineLimit line n need old new faults_old faults_new is p = absurd (cc)
@@ -115,13 +98,16 @@ pub Finishes-written : (counted : Bool) (script : ScriptText) (heap : HeapState)
     → ((need : ℕ) → how ≡ SinkFault need → ⊥)
     → Pauses counted script heap waiting (finished_by how line n) old mid faults_old faults_mid
     → Appends mid new waiting → faults_new ≡ faults_mid
-    → Finishes counted script (heap_of heap.main) (finished_by how line n) old new faults_old faults_new
+    → Finishes counted script (stage_of heap.main) (finished_by how line n) old new faults_old faults_new
 Finishes-written counted script heap waiting how line n old mid new faults_old faults_mid faults_new other p wrote
     same =
     let at = paused_at counted script heap waiting how line n old mid faults_old faults_mid other p in
     record {
       reached = p.reached;
-      spent = spent_all p.reached p.spends p.shown.main.free;
+      collections = p.collections;
+      opened = p.opened;
+      spends = p.spends;
+      free = p.shown.main.free;
       writes = writes_at counted script (heap_of heap.main) heap.main.free p.collections how line n p.reached.so_far old
           new faults_old faults_new at.comes (Appends-handed at.handed wrote) (same ∙ at.steady);
     }
@@ -133,13 +119,16 @@ pub Finishes-failed : (counted : Bool) (script : ScriptText) (heap : HeapState) 
     → ((need : ℕ) → how ≡ SinkFault need → ⊥)
     → Pauses counted script heap waiting (finished_by how line n) old mid faults_old faults_mid
     → CutsOff mid new waiting → Rose faults_mid faults_new
-    → Finishes counted script (heap_of heap.main) (finished_by (SinkFault (need_at how)) line n) old new faults_old
+    → Finishes counted script (stage_of heap.main) (finished_by (SinkFault (need_at how)) line n) old new faults_old
     faults_new
 Finishes-failed counted script heap waiting how line n old mid new faults_old faults_mid faults_new other p wrote rose =
     let at = paused_at counted script heap waiting how line n old mid faults_old faults_mid other p in
     record {
       reached = p.reached;
-      spent = spent_all p.reached p.spends p.shown.main.free;
+      collections = p.collections;
+      opened = p.opened;
+      spends = p.spends;
+      free = p.shown.main.free;
       writes = (
         inr (how, at.comes, refl),
         CutsOff-handed at.handed wrote,

@@ -40,6 +40,7 @@ Running-beside : {script : ScriptText} {heap : HeapState} {objects : ℕ} {waiti
     → Running script (beside heap rest) objects waiting old new at ts n collections
 Running-beside rest r cycle shown = record {
   reached = r.reached;
+  opened = r.opened;
   spends = r.spends;
   ungranted = r.ungranted;
   shown = shown;
@@ -48,6 +49,7 @@ Running-beside rest r cycle shown = record {
   made = r.made;
   few = r.few;
   cycle = cycle ∙ r.cycle;
+  since = r.since;
 }
 
 -- so it does once an image of it was judged
@@ -72,6 +74,7 @@ Pauses-beside : {counted : Bool} {script : ScriptText} {heap : HeapState} {waiti
 Pauses-beside rest p shown = record {
   reached = p.reached;
   collections = p.collections;
+  opened = p.opened;
   spends = p.spends;
   shown = shown;
   halts = p.halts;
@@ -118,6 +121,7 @@ module _ {script : ScriptText} {heap after : HeapState} {waiting : List ℕ} {li
       let here : Pauses counted script heap waiting (finished_by how line n) old new fo fn = record {
         reached = p.reached;
         collections = p.collections;
+        opened = p.opened;
         spends = p.spends;
         shown = p.shown;
         halts = halts_alike counted script (stage_of heap.main) p.collections waiting (finished_by how line n)
@@ -144,8 +148,9 @@ module _ {script : ScriptText} {heap after : HeapState} {waiting : List ℕ} {li
       (record {
         reached = reached;
         collections = finally_collected;
-        spends = Spends.finally (stage_of heap.main) (stage_of after.main) n
-            (subst (Spends script (stage_of heap.main) n) before p.spends) p.reached ends reached e.collects.leaves;
+        opened = p.opened;
+        spends = Spends.finally (stage_of heap.main) (stage_of after.main) n p.opened
+            (subst (λ one. Spends script (stage_of heap.main) n one p.opened) before p.spends) p.reached ends reached e.collects.leaves;
         shown = e.shows;
         halts = ((refl, zero, refl, ends, e.counted), handed, steady);
       })

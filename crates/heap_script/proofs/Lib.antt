@@ -5,10 +5,13 @@ mod Carrying
 mod Trying
 mod Asking
 mod Retrying
+mod FullMaps
 mod Stopping
+mod GrantedOthers
 mod Serving
 pub mod Handing
 mod Ways
+mod StayingLost
 mod Running
 mod GoingOn
 mod Collected

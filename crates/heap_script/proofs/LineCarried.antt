@@ -11,12 +11,13 @@ use Rattle.script_text.specs.Unrolled.{executed, executed_lines}
 use Rattle.script_text.specs.Left.{Goes}
 use Rattle.heap_model.specs.Heaps.{Heap}
 use Rattle.nursery.specs.Young.{Young, in_eden}
-use Rattle.write_barrier.specs.MutatorState.{Mutator}
+use Rattle.write_barrier.specs.MutatorState.{Mutator, heap_of}
 use Rattle.collector.specs.Making.{Serves, MakesRoom}
 use Rattle.collector.specs.States.{HeapState, with_cycle}
+use Rattle.collector.proofs.BornHeaps.{exact_is_born}
 use Rattle.collector.proofs.Keeping.{same_heap}
 use Rattle.mutator.specs.CarriesOut.{Carries, FindsMapNotFull}
-use Rattle.heap_script.specs.Cycles.{cycle_after_command, cycle_after_line}
+use Rattle.heap_script.specs.Cycles.{cycle_after_command, cycle_after_line, CollectsNothing}
 use Rattle.heap_script.specs.Collecting.{IsApart, IsSound, LacksWords, CollectsFully, Collects, CarriesAsked}
 use Rattle.heap_script.specs.Collecting.{CarriesCommand}
 use Rattle.heap_script.specs.Stages.{Collections, uncollected, scavenged, fully_collected, stage_of}
@@ -30,7 +31,8 @@ use Rattle.heap_script.proofs.Retrying.{fully_collects}
 use Rattle.heap_script.proofs.Serving.{Served, served, allocated}
 use Rattle.heap_script.specs.Between.{Running}
 use Rattle.heap_script.proofs.Running.{Running-passed, Running-carried, next-drop, said-next}
-use Rattle.heap_script.proofs.Collected.{collected_by, Wants, wants, ungranted_by, heap_with}
+use Rattle.heap_script.proofs.StayingLost.{none_began, one_began}
+use Rattle.heap_script.proofs.Collected.{collected_by, begun_by, begun_between, Wants, wants, ungranted_by, heap_with}
 use Rattle.heap_script.proofs.Collected.{Running-once, Running-fully}
 
 -- a command was carried out that is none of the collector's, on what it found of the heap
@@ -43,10 +45,10 @@ Running-served : (script : ScriptText) (heap after : HeapState) (found : Mutator
     → Carries script.fields found after.main r.reached.so_far.graph command text (Ok tt)
     → Running script after (objects + objects_made command) (waiting ++ text) old new at' ts' (n + 1) uncollected
 Running-served script heap after found objects waiting old new at at' ts ts' n number command text r below goes rest
-    apart served_so unfull (graph, does-is, shown, takes) =
-    let done = allocated command r.shown.main r.ungranted served_so unfull takes in
-    Running-carried script heap after objects waiting old new at at' ts ts' n number command text graph r below goes
-    (rest ∙ sym (rest_stays heap.rest command apart)) done.allocates.space does-is shown
+    apart served_so unfull carried =
+    let done = allocated command r.shown.main r.ungranted served_so unfull carried.takes carried.words in
+    Running-carried script heap after objects waiting old new at at' ts ts' n number command text carried.after r below
+    goes (rest ∙ sym (rest_stays heap.rest command apart)) done.allocates.space carried.means carried.shows
     (LineAllocates.allocates command apart done.allocates) done.ungranted
     done.rows
 
@@ -128,25 +130,50 @@ Running-asked : (script : ScriptText) (heap after : HeapState) (objects : ℕ) (
     → CarriesAsked script.fields heap.rest.in_cycle heap.main after.main r.reached.so_far.graph command text
     → Running script after (objects + objects_made command) (waiting ++ text) old new at' ts' (n + 1) uncollected
 Running-asked script heap after objects waiting old new at at' ts ts' n number command text r below goes rest
-    (CarriesAsked.scavenges is scavenges keeps (graph, does-is, shown, takes)) =
+    (CarriesAsked.scavenges is scavenges keeps carried) =
     let before = r.reached.so_far.graph in
     let Uses : Command → Type 0 =
-    λ one. LineAllocates heap.rest.in_cycle (stage_of heap.main) (stage_of after.main) before graph uncollected
-    (Some one) in
+    λ one. LineAllocates r.opened (stage_of heap.main) (stage_of after.main) before carried.after
+    uncollected (Some one) in
     let uses : Uses command =
     subst Uses (sym is) (LineAllocates.scavenges (collected_by scavenges keeps r.shown.main)) in
-    Running-carried script heap after objects waiting old new at at' ts ts' n number command text graph r below goes
-    rest scavenges.seat.space does-is shown uses (ungranted_by scavenges) scavenges.rows
+    Running-carried script heap after objects waiting old new at at' ts ts' n number command text carried.after r below
+    goes rest scavenges.seat.space carried.means carried.shows uses (ungranted_by scavenges) scavenges.rows
 Running-asked script heap after objects waiting old new at at' ts ts' n number command text r below goes rest
-    (CarriesAsked.collects_all asks collects (graph, does-is, shown, takes)) =
-    Running-carried script heap after objects waiting old new at at' ts ts' n number command text graph r below goes
-    rest collects.seat.space does-is shown (LineAllocates.collects_all command asks collects.leaves) collects.ungranted
-    collects.rows
+    (CarriesAsked.begins is none begins carried) =
+    let before = r.reached.so_far.graph in
+    let between = begun_between begins r.shown.main in
+    let Uses : Command → Type 0 =
+    λ one. LineAllocates r.opened (stage_of heap.main) (stage_of after.main) before carried.after
+    uncollected (Some one) in
+    let uses : Uses command =
+    subst Uses (sym is)
+    (LineAllocates.begins (none_began r.opened (sym r.cycle ∙ none)) (begun_by begins r.shown.main)) in
+    Running-carried script heap after objects waiting old new at at' ts ts' n number command text carried.after r below
+    goes rest between.space carried.means carried.shows uses between.ungranted between.rows
 Running-asked script heap after objects waiting old new at at' ts ts' n number command text r below goes rest
-    (CarriesAsked.collects_nothing none same (graph, does-is, shown, takes)) =
-    Running-carried script heap after objects waiting old new at at' ts ts' n number command text graph r below goes
-    rest (ap (λ (main : Mutator). main.seat.space) same) does-is shown
-    (LineAllocates.collects_nothing command none (ap stage_of same))
+    (CarriesAsked.finishes is there collects carried) =
+    let before = r.reached.so_far.graph in
+    let (opening, began, stays) = one_began r.opened before (sym r.cycle ∙ there) r.since in
+    let leaves = exact_is_born opening (heap_of heap.main) (heap_of after.main) after.main.free before stays
+    collects.leaves in
+    let Uses : Command → Type 0 =
+    λ one. LineAllocates r.opened (stage_of heap.main) (stage_of after.main) before carried.after
+    uncollected (Some one) in
+    let uses : Uses command = subst Uses (sym is) (LineAllocates.finishes opening began leaves) in
+    Running-carried script heap after objects waiting old new at at' ts ts' n number command text carried.after r below
+    goes rest collects.seat.space carried.means carried.shows uses collects.ungranted collects.rows
+Running-asked script heap after objects waiting old new at at' ts ts' n number command text r below goes rest
+    (CarriesAsked.collects_all asks collects carried) =
+    Running-carried script heap after objects waiting old new at at' ts ts' n number command text carried.after r below
+    goes rest collects.seat.space carried.means carried.shows
+    (LineAllocates.collects_all command asks collects.leaves) collects.ungranted collects.rows
+Running-asked script heap after objects waiting old new at at' ts ts' n number command text r below goes rest
+    (CarriesAsked.collects_nothing none same carried) =
+    Running-carried script heap after objects waiting old new at at' ts ts' n number command text carried.after r below
+    goes rest (ap (λ (main : Mutator). main.seat.space) same) carried.means carried.shows
+    (LineAllocates.collects_nothing command
+    (subst (λ in_cycle. CollectsNothing in_cycle command) r.cycle none) (ap stage_of same))
     (ap (λ (main : Mutator). in_eden main.young) same ∙ r.ungranted) (ap (λ (main : Mutator). length main.free) same)
 
 -- whichever the command is
@@ -186,15 +213,17 @@ Running-line script heap after objects waiting old new at at' ts ts' n number (S
 carried_means : {names : List (List ℕ)} {in_cycle : Bool} {old new : Mutator} {graph : Graph} {command : Command}
     {text : List ℕ} → CarriesCommand names in_cycle old new graph command text (Ok tt)
     → (after : Graph) × (meaning ideal_limits names graph command ≡ done after text)
-carried_means (CarriesCommand.asked is (CarriesAsked.scavenges same scavenges keeps (after, does-is, shown, takes))) =
-    (after, does-is)
-carried_means (CarriesCommand.asked is (CarriesAsked.collects_all asks collects (after, does-is, shown, takes))) =
-    (after, does-is)
-carried_means (CarriesCommand.asked is (CarriesAsked.collects_nothing none same (after, does-is, shown, takes))) =
-    (after, does-is)
-carried_means (CarriesCommand.apart apart carried) =
-    let (after, does-is, shown, takes) = carried.carries in
-    (after, does-is)
+carried_means (CarriesCommand.asked is (CarriesAsked.scavenges same scavenges keeps carried)) =
+    (carried.after, carried.means)
+carried_means (CarriesCommand.asked is (CarriesAsked.begins same none begins carried)) =
+    (carried.after, carried.means)
+carried_means (CarriesCommand.asked is (CarriesAsked.finishes same goes collects carried)) =
+    (carried.after, carried.means)
+carried_means (CarriesCommand.asked is (CarriesAsked.collects_all asks collects carried)) =
+    (carried.after, carried.means)
+carried_means (CarriesCommand.asked is (CarriesAsked.collects_nothing none same carried)) =
+    (carried.after, carried.means)
+carried_means (CarriesCommand.apart apart carried) = (carried.carries.after, carried.carries.means)
 
 -- and it told its text
 pub TellsAt-line : (script : ScriptText) (heap : Heap) (old new : Mutator) (at' : ℕ) (ts' : List ℕ) (n number : ℕ)

@@ -2,7 +2,8 @@
 use Rattle.std.proofs.Common.{◌≡◌, ◌∙◌, Bool, ℕ, List, Option, Some, None, Result, Ok, Err, ap}
 use Rattle.heap_model.specs.Types.{Command, FaultWord}
 use Rattle.object_graph.specs.Graphs.{Graph}
-use Rattle.write_barrier.specs.MutatorState.{Mutator, MainShows}
+use Rattle.write_barrier.specs.MutatorState.{Mutator}
+use Rattle.collector.specs.Born.{BeginsCycle}
 use Rattle.mutator.specs.declared.stop.Stop.{Stop}
 use Rattle.mutator.specs.declared.stop.Stop.TheVariants.{Fault, NoRoom, NoClear}
 use Rattle.heap_script.specs.Collecting.{CarriesAsked, CarriesAtLast, CarriesCommand, Collects, FaultsOn}
@@ -20,13 +21,18 @@ found_space (Collects.granted last need fully lacks serves) = served_space serve
 -- and so does the heap after a fault
 fault_space : {names : List (List ℕ)} {old new : Mutator} {graph : Graph} {command : Command} {word : FaultWord}
     → FaultsOn names old new graph command word → new.seat.space ≡ old.seat.space
-fault_space (FaultsOn.unchanged same) = ap (λ (main : Mutator). main.seat.space) same
+fault_space (FaultsOn.unchanged other same) = ap (λ (main : Mutator). main.seat.space) same
 fault_space (FaultsOn.collected is fully) = fully_space fully
 
 -- and after a command of the collector's
 asked_space : {names : List (List ℕ)} {in_cycle : Bool} {old new : Mutator} {graph : Graph} {command : Command}
     {text : List ℕ} → CarriesAsked names in_cycle old new graph command text → new.seat.space ≡ old.seat.space
 asked_space (CarriesAsked.scavenges is scavenges keeps carries) = scavenges.seat.space
+asked_space (CarriesAsked.begins is none (BeginsCycle.promotes_all scavenges keeps no_survivor) carries) =
+    scavenges.seat.space
+asked_space (CarriesAsked.begins is none (BeginsCycle.collects_all mid scavenges keeps some collects) carries) =
+    collects.seat.space ∙ scavenges.seat.space
+asked_space (CarriesAsked.finishes is goes collects carries) = collects.seat.space
 asked_space (CarriesAsked.collects_all asks collects carries) = collects.seat.space
 asked_space (CarriesAsked.collects_nothing none same carries) = ap (λ (main : Mutator). main.seat.space) same
 

@@ -128,7 +128,8 @@ no_command (Repeat times end_at) none = refl
 no_command (End repeat_at) none = refl
 
 module _ {script : ScriptText} {heap : HeapState} {objects : ℕ} {out taken ts : List ℕ} {rest : List Line}
-    {spare last : ℕ} (r : RunsLines script heap objects out taken ts rest spare last) (what : What) (does : what_at rest 0 ≡ Some what) where
+    {spare last : ℕ} (r : RunsLines script heap objects out taken ts rest spare last) (what : What)
+    (does : what_at rest 0 ≡ Some what) where
   -- the run stands at one of the lines
   pub below : place_of script.lines rest < length script.lines
   below = omega (arith, r.is.within, (by_index rest what does).0)

@@ -1,18 +1,11 @@
 -- A run between two lines that are executed one after another: what was handed on, and what the output holds.
-use Rattle.std.proofs.Common.{◌≡◌, ◌∙◌, ℕ, ◌+◌, ◌≤◌, Bool, true, false, List, [], ◌++◌, length, Result, Ok, Err}
-use Rattle.std.proofs.Common.{is_ok, refl, sym, ap, subst, cond, arith}
+use Rattle.std.proofs.Common.{◌≡◌, ℕ, ◌+◌, ◌≤◌, Bool, false, List, [], ◌++◌, length, refl, sym, ap, subst}
+use Rattle.std.proofs.Common.{cond, arith}
 use Rattle.std.specs.Prelude.{nat_lt}
 use Rattle.std.proofs.lemmas.Bool.Decides.{nat_tests}
-use Rattle.heap_model.specs.Types.{Command}
-use Rattle.object_graph.specs.Graphs.{Graph}
 use Rattle.script_text.specs.Scripts.{ScriptText}
-use Rattle.write_barrier.specs.MutatorState.{Mutator}
 use Rattle.collector.specs.States.{HeapState}
-use Rattle.collector.proofs.Keeping.{same_heap}
 use Rattle.mutator.specs.declared.output.TheConstants.{OUTPUT_BYTES, ROOM}
-use Rattle.mutator.proofs.StoppedBy.{same_stopped}
-use Rattle.mutator.specs.declared.stop.Stop.{Stop}
-use Rattle.heap_script.specs.Collecting.{Tries}
 use Rattle.heap_script.specs.Runs.{OutputHolds, TellsAt, waiting_of}
 use Rattle.byte_ends.specs.Sink.{Appends}
 use Rattle.heap_script.specs.Progress.{Handed}
@@ -25,6 +18,7 @@ pub as_taken : {script : ScriptText} {heap : HeapState} {objects at n : ℕ} {wa
     → Running script heap objects waiting (only []) (only r.handed.handed) at ts n uncollected
 as_taken r = record {
   reached = r.reached;
+  opened = r.opened;
   spends = r.spends;
   ungranted = r.ungranted;
   shown = r.shown;
@@ -37,6 +31,7 @@ as_taken r = record {
   made = r.made;
   few = r.few;
   cycle = r.cycle;
+  since = r.since;
 }
 
 -- where nothing was taken before, what is taken was handed on
@@ -50,6 +45,7 @@ pub as_handed : {script : ScriptText} {heap : HeapState} {objects at n : ℕ} {w
     → Appends old new taken → Running script heap objects waiting old new at ts n uncollected
 as_handed {taken = taken} {old} {new} r appends = record {
   reached = r.reached;
+  opened = r.opened;
   spends = r.spends;
   ungranted = r.ungranted;
   shown = r.shown;
@@ -62,6 +58,7 @@ as_handed {taken = taken} {old} {new} r appends = record {
   made = r.made;
   few = r.few;
   cycle = r.cycle;
+  since = r.since;
 }
 
 -- an output that is not full holds what it held and what the next line writes behind it

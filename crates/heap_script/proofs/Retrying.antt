@@ -1,5 +1,5 @@
 -- A heap on which a command is tried: it is as it was, or room was made for the command.
-use Rattle.std.proofs.Common.{◌≡◌, ◌∙◌, ℕ, ◌≤◌, Bool, List, false, length, Ok}
+use Rattle.std.proofs.Common.{◌≡◌, ◌∙◌, ℕ, ◌≤◌, List, false, length, Ok}
 use Rattle.std.proofs.Common.{ap, sym, subst, refl}
 use Rattle.heap_model.specs.Types.{Command, FaultWord}
 use Rattle.heap_command.specs.declared.command.FaultWord.TheVariants.{WeakFull}
@@ -63,9 +63,9 @@ ready_first names heap objects command = record {
 -- a command that was carried out leaves the regions as they were
 pub carried_space : (names : List (List ℕ)) {old new : Mutator} {graph : Graph} {command : Command} {text : List ℕ}
     → MainShows old graph → Carries names old new graph command text (Ok tt) → new.seat.space ≡ old.seat.space
-carried_space names {old} {new} {graph} shows (after, means, shown, takes) =
+carried_space names {old} {new} {graph} shows carried =
     let (rooms, has) = shown_objects_have_rooms (heap_of old) graph shows.shows in
-    (takes rooms has).uses.beside.space
+    (carried.takes rooms has).uses.beside.space
 
 -- so does a free run that serves words
 pub served_space : {old new : Mutator} {need : ℕ} → Serves old new need → new.seat.space ≡ old.seat.space

@@ -20,14 +20,14 @@ use Rattle.nursery.specs.Young.{Young, in_eden}
 use Rattle.write_barrier.specs.MutatorState.{heap_of, MainShows, IsOpened}
 use Rattle.collector.specs.States.{HeapState, HeapShows, Rest, with_cycle}
 use Rattle.collector.proofs.Keeping.{still_shows, cycled_shows}
-use Rattle.heap_script.specs.Cycles.{cycle_after_command}
+use Rattle.heap_script.specs.Cycles.{cycle_after_command, opened_after_command}
 use Rattle.heap_script.specs.Stages.{Collections, uncollected, stage_of}
 use Rattle.heap_script.specs.Reached.{left_after, RanTo}
 use Rattle.heap_script.specs.Spending.{Spends, LineAllocates}
 use Rattle.heap_script.specs.Progress.{objects_made, Handed}
 use Rattle.heap_script.specs.Between.{Running}
-use Rattle.heap_script.proofs.Asking.{cycle_next}
 use Rattle.heap_script.proofs.Counts.{length-meaning, makes_one}
+use Rattle.heap_script.proofs.StayingLost.{cycle_opened, since_behind}
 use Rattle.heap_script.proofs.Handing.{Handed-none, Handed-more, Handed-told}
 
 -- a list whose rest after the first n begins with an element
@@ -82,8 +82,9 @@ Running-start script heap old placed shown opened none variables =
     } in
     record {
       reached = reached;
+      opened = None;
       spends = Spends.none (stage_of heap.main) (ap (λ (young : Young). young.used) opened.young)
-          (ap (λ (young : Young). young.survivors) opened.young) opened.free reached;
+          (ap (λ (young : Young). young.survivors) opened.young) opened.free shown.main.free reached;
       ungranted = ap in_eden opened.young;
       shown = shown;
       left = begins script.lines placed;
@@ -91,6 +92,7 @@ Running-start script heap old placed shown opened none variables =
       made = refl;
       few = omega arith;
       cycle = none;
+      since = tt;
     }
 
 -- what waits is handed on
@@ -100,6 +102,7 @@ pub Running-handed : (script : ScriptText) (heap : HeapState) (objects : ℕ) (w
     → Running script heap objects rest old new at ts n collections
 Running-handed script heap objects waiting rest old mid new at ts n collections r h = record {
   reached = r.reached;
+  opened = r.opened;
   spends = r.spends;
   ungranted = r.ungranted;
   shown = r.shown;
@@ -108,6 +111,7 @@ Running-handed script heap objects waiting rest old mid new at ts n collections 
   made = r.made;
   few = r.few;
   cycle = r.cycle;
+  since = r.since;
 }
 
 -- one line more is told: what the run tells after it
@@ -149,7 +153,8 @@ Running-passed script heap objects waiting old new at at' ts ts' n number r belo
     } in
     record {
       reached = reached;
-      spends = Spends.one_more (stage_of heap.main) (stage_of heap.main) n uncollected line r.spends
+      opened = r.opened;
+      spends = Spends.one_more (stage_of heap.main) (stage_of heap.main) n uncollected r.opened line r.spends
           (next_at (executed_lines script.lines) n line goes.rest goes.is) r.reached reached
           (LineAllocates.passes refl);
       ungranted = r.ungranted;
@@ -158,7 +163,8 @@ Running-passed script heap objects waiting old new at at' ts ts' n number r belo
       handed = r.handed;
       made = r.made;
       few = omega (arith, r.few);
-      cycle = r.cycle ∙ sym (cycle_next script n line next.taken);
+      cycle = r.cycle;
+      since = r.since;
     }
 
 -- a heap with a cycle open or not
@@ -174,7 +180,7 @@ pub Running-carried : (script : ScriptText) (heap after : HeapState) (objects : 
     → after.rest ≡ with_cycle heap.rest (cycle_after_command heap.rest.in_cycle command)
     → after.main.seat.space ≡ heap.main.seat.space
     → meaning ideal_limits script.fields r.reached.so_far.graph command ≡ done graph text → MainShows after.main graph
-    → LineAllocates heap.rest.in_cycle (stage_of heap.main) (stage_of after.main) r.reached.so_far.graph graph collections
+    → LineAllocates r.opened (stage_of heap.main) (stage_of after.main) r.reached.so_far.graph graph collections
     (Some command)
     → in_eden after.main.young ≡ true → length after.main.free ≡ length heap.main.free
     → Running script after (objects + objects_made command) (waiting ++ text) old new at' ts' (n + 1) uncollected
@@ -195,10 +201,9 @@ Running-carried script heap after objects waiting old new at at' ts ts' n number
     } in
     record {
       reached = reached;
-      spends = Spends.one_more (stage_of heap.main) (stage_of after.main) n collections line r.spends
-          (next_at (executed_lines script.lines) n line goes.rest goes.is) r.reached reached
-          (subst (λ in_cycle. LineAllocates in_cycle (stage_of heap.main) (stage_of after.main) so_far.graph graph
-          collections (Some command)) r.cycle uses);
+      opened = opened_after_command r.opened command (heap_of after.main) graph;
+      spends = Spends.one_more (stage_of heap.main) (stage_of after.main) n collections r.opened line r.spends
+          (next_at (executed_lines script.lines) n line goes.rest goes.is) r.reached reached uses;
       ungranted = ungranted;
       shown = still_shows (cycled heap cycle) after graph (cycled_shows heap cycle so_far.graph r.shown) rest space rows
           shown;
@@ -208,5 +213,7 @@ Running-carried script heap after objects waiting old new at at' ts ts' n number
           ∙ sym (length-meaning ideal_limits script.fields so_far.graph graph command text does-is);
       few = omega (arith, r.few, makes_one command);
       cycle = ap (λ (one : Rest). one.in_cycle) rest ∙ ap (λ in_cycle. cycle_after_command in_cycle command) r.cycle
-          ∙ sym (cycle_next script n line next.taken);
+          ∙ sym (cycle_opened r.opened command (heap_of after.main) graph);
+      since = since_behind script.fields r.opened command (heap_of after.main) so_far.graph graph text
+          r.shown.main.is_graph does-is r.since;
     }

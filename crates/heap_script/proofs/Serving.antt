@@ -19,9 +19,11 @@ use Rattle.collector.specs.Making.{Serves}
 use Rattle.collector.proofs.MadeRoom.{served_rows}
 use Rattle.mutator.specs.Capacities.{KeepsStores}
 use Rattle.mutator.specs.CarriesOut.{TakesRoom, FindsMapNotFull}
+use Rattle.mutator.specs.Changing.{KeepsOtherWords}
 use Rattle.heap_script.specs.Collecting.{LacksWords}
 use Rattle.heap_script.specs.Spending.{UsesNeed, Allocates}
 use Rattle.heap_script.specs.Stages.{Collections, uncollected, SpendsWords, stage_of}
+use Rattle.heap_script.proofs.GrantedOthers.{granted_keeps}
 use Rattle.heap_script.proofs.Lacking.{not_lacking, full_for}
 
 -- What a command that is none of the collector's finds of a heap in which nothing is granted, behind these collections
@@ -69,8 +71,9 @@ still_ungranted old n ungranted is =
 -- a command that finds the heap itself spends words of eden
 allocated_in_eden : {old new : Mutator} {graph after : Graph} {collections : Collections} (command : Command)
     → MainShows old graph → in_eden old.young ≡ true → FindsMapNotFull old graph command
-    → Takes old new graph after command → HasAllocated old new graph after collections command
-allocated_in_eden {old} {new} {graph} command shows ungranted unfull takes =
+    → Takes old new graph after command → KeepsOtherWords (heap_of old) (heap_of new) graph command
+    → HasAllocated old new graph after collections command
+allocated_in_eden {old} {new} {graph} command shows ungranted unfull takes keeps_words =
     let (some, had) = shown_objects_have_rooms (heap_of old) graph shows.shows in
     let one = takes some had in
     record {
@@ -86,6 +89,7 @@ allocated_in_eden {old} {new} {graph} command shows ungranted unfull takes =
                   (used_of_eden old.young need ungranted taken.uses.young) taken.uses.free;
               stores = taken.stores;
             };
+        words = λ word before not_changed not_new not_free. keeps_words word before not_changed not_new;
       };
       ungranted = still_ungranted old.young (need_of graph some command) ungranted one.uses.young;
       rows = ap length one.uses.free;
@@ -137,7 +141,8 @@ stores_before stands stores = record {
 module _ {old found new : Mutator} {graph after : Graph} {collections : Collections} (command : Command) {need : ℕ}
     (shows : MainShows old graph) (ungranted : in_eden old.young ≡ true) (some : collections ≢ uncollected)
     (lacks : LacksWords old graph command need) (empty : old.young.used ≡ 0) (grants : Grants old found need)
-    (keeps : KeepsGraphs old found) (takes : Takes found new graph after command) where
+    (keeps : KeepsGraphs old found) (takes : Takes found new graph after command)
+    (keeps_words : KeepsOtherWords (heap_of found) (heap_of new) graph command) where
   -- a command that finds granted words takes them, by the rooms that objects had before
   takes_by : (rooms : ℕ → Room) → HasRooms (heap_of old) graph rooms → TakesRoom found new graph after command rooms
   takes_by rooms has = takes rooms ((keeps.rooms graph rooms shows).0 has)
@@ -179,6 +184,7 @@ module _ {old found new : Mutator} {graph after : Graph} {collections : Collecti
               ∙ ap (λ (young : Young). young.survivors) grants.young;
           unfull = λ (entries, finds). lacks.unfull entries finds;
           uses = uses_run;
+          words = granted_keeps shows grants keeps_words;
         };
         ungranted = ungranted_again old.young found.young grants.run n grants.young words taken.uses.young;
         rows = ap length taken.uses.free ∙ served_rows (Serves.granted lacks.lacks grants keeps);
@@ -188,10 +194,12 @@ module _ {old found new : Mutator} {graph after : Graph} {collections : Collecti
 pub allocated : {old found new : Mutator} {graph after : Graph} {collections : Collections} (command : Command)
     → MainShows old graph → in_eden old.young ≡ true → Served old found graph collections command
     → FindsMapNotFull found graph command → Takes found new graph after command
+    → KeepsOtherWords (heap_of found) (heap_of new) graph command
     → HasAllocated old new graph after collections command
-allocated {old} {found} {new} {graph} {after} command shows ungranted (Served.as_it_is is) unfull takes =
+allocated {old} {found} {new} {graph} {after} command shows ungranted (Served.as_it_is is) unfull takes keeps_words =
     allocated_in_eden command shows ungranted
     (subst (λ (main : Mutator). FindsMapNotFull main graph command) is unfull)
     (subst (λ (main : Mutator). Takes main new graph after command) is takes)
-allocated command shows ungranted (Served.by_grant need some lacks empty grants keeps) unfull takes =
-    allocated_in_page command shows ungranted some lacks empty grants keeps takes
+    (subst (λ (main : Mutator). KeepsOtherWords (heap_of main) (heap_of new) graph command) is keeps_words)
+allocated command shows ungranted (Served.by_grant need some lacks empty grants keeps) unfull takes keeps_words =
+    allocated_in_page command shows ungranted some lacks empty grants keeps takes keeps_words

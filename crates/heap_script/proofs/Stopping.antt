@@ -19,6 +19,7 @@ use Rattle.heap_script.specs.Collecting.{IsApart, IsSound, LacksWords, FindsPair
 use Rattle.heap_script.specs.Collecting.{StopsAt}
 use Rattle.heap_script.specs.MakingRoom.{IsServable, IsClearable, DoesNothing, FindsFirst, FindsLast, MakesRoomFor}
 use Rattle.heap_script.proofs.Carrying.{wants_some, refused, never_faults, unfull_behind}
+use Rattle.heap_script.proofs.FullMaps.{faults_otherwise}
 use Rattle.heap_script.proofs.Retrying.{Stands, IsReady, fully_collects, fully_faults, no_more}
 use Rattle.heap_script.proofs.Retrying.{pairs_are_full, nowhere}
 
@@ -98,13 +99,14 @@ module _ (names : List (List ℕ)) (old now made : HeapState) (after : Mutator) 
   -- a command that faults does so on the heap as it was, or behind a full collection
   faults_at : (tried : Attempt) (word : FaultWord) → Stands names old.main now.main graph command tried
       → Carries names now.main after graph command text (Err (Fault word))
-      → FaultsOn names old.main now.main graph command word
-  faults_at Once word (Stands.once same) carries = FaultsOn.unchanged same
-  faults_at Scavenged word (Stands.scavenged need none sound lacks makes room keeps) carries =
+      → AsksWhereFull now.main graph command (Err (Fault word)) → FaultsOn names old.main now.main graph command word
+  faults_at Once word (Stands.once same) carries asks =
+      FaultsOn.unchanged (faults_otherwise names shows.main command word asks carries.0) same
+  faults_at Scavenged word (Stands.scavenged need none sound lacks makes room keeps) carries asks =
       never_faults sound carries.0
-  faults_at Collected word (Stands.collected none fully) carries =
+  faults_at Collected word (Stands.collected none fully) carries asks =
       FaultsOn.collected (fully_faults names word shown.main fully carries.0) fully
-  faults_at Granted word (Stands.granted last need none sound fully lacks serves room keeps) carries =
+  faults_at Granted word (Stands.granted last need none sound fully lacks serves room keeps) carries asks =
       never_faults sound carries.0
 
   -- one for which there is no room behind a full collection has no place
@@ -130,7 +132,8 @@ module _ (names : List (List ℕ)) (old now made : HeapState) (after : Mutator) 
       → Carries names now.main after graph command text (Err stop)
       → AsksWhereFull now.main graph command (Err stop) → MakesRoomFor now made tried stop None
       → StopsAt names old.main now.main graph command stop
-  stops_at tried (Fault word) maps runs stands carries asks way = (carries.0, faults_at tried word stands carries)
+  stops_at tried (Fault word) maps runs stands carries asks way =
+      (carries.0, faults_at tried word stands carries asks)
   stops_at Once (NoRoom need) maps runs stands carries asks (one, is, first) = absurd (cc)
   stops_at Scavenged (NoRoom need) maps runs (Stands.scavenged had none sound lacks makes room keeps) carries asks
       way =

@@ -1,7 +1,7 @@
 -- When a command finds its heap collected.
-use Rattle.std.specs.Prelude.{◌≡◌, ℕ, Bool, false, List, Result, Ok, Err}
+use Rattle.std.specs.Prelude.{◌≡◌, ◌≢◌, ℕ, Bool, true, false, List, Result, Ok, Err}
 use Rattle.heap_model.specs.Types.{Command, FaultWord}
-use Rattle.heap_command.specs.declared.command.Command.TheVariants.{Scavenge}
+use Rattle.heap_command.specs.declared.command.Command.TheVariants.{Scavenge, Mark, Finish}
 use Rattle.heap_command.specs.declared.command.FaultWord.TheVariants.{WeakFull}
 use Rattle.object_graph.specs.Graphs.{Graph}
 use Rattle.object_graph.specs.Limits.{ideal_limits}
@@ -13,13 +13,13 @@ use Rattle.live_cells.specs.Exact.{Fits}
 use Rattle.write_barrier.specs.MutatorState.{Mutator, heap_of, MainShows}
 use Rattle.scavenger.specs.Scavenged.{Scavenges}
 use Rattle.scavenger.specs.Laws.{KeepsGraphs}
+use Rattle.collector.specs.Born.{BeginsCycle}
 use Rattle.collector.specs.Collected.{CollectsAll}
 use Rattle.collector.specs.Making.{IsOutOfRoom, Serves, MakesRoom}
 use Rattle.mutator.specs.declared.stop.Stop.{Stop}
 use Rattle.mutator.specs.declared.stop.Stop.TheVariants.{Fault, NoRoom, NoClear}
 use Rattle.mutator.specs.CarriesOut.{Carries, FindsMapNotFull, AsksWhereFull}
-use Rattle.heap_script.specs.Cycles.{asks_collector}
-use Rattle.heap_script.specs.Spending.{AsksForAll, CollectsNothing}
+use Rattle.heap_script.specs.Cycles.{asks_collector, AsksForAll, CollectsNothing}
 
 -- the command is none of the collector's
 abbrev pub IsApart : Command → Type 0
@@ -44,12 +44,16 @@ FindsPairs heap graph command entries =
     (rooms : ℕ → Room) → HasRooms heap graph rooms → FindsMapFull graph rooms command entries
 
 -- A command of the collector's was carried out, where a cycle was open or not: it did with the heap what it asks for,
--- and on what that left it leads to its graph.
+-- and on what that left it leads to its graph. A cycle ends with a full collection.
 pub data CarriesAsked (names : List (List ℕ)) (in_cycle : Bool) (old new : Mutator) (graph : Graph) (command : Command)
     (text : List ℕ) : Type 0 where
   scavenges : command ≡ Scavenge → Scavenges old new false → KeepsGraphs old new
       → Carries names new new graph command text (Ok tt) → CarriesAsked names in_cycle old new graph command text
-  collects_all : AsksForAll in_cycle command → CollectsAll old new graph
+  begins : command ≡ Mark → in_cycle ≡ false → BeginsCycle old new graph
+      → Carries names new new graph command text (Ok tt) → CarriesAsked names in_cycle old new graph command text
+  finishes : command ≡ Finish → in_cycle ≡ true → CollectsAll old new graph
+      → Carries names new new graph command text (Ok tt) → CarriesAsked names in_cycle old new graph command text
+  collects_all : AsksForAll command → CollectsAll old new graph
       → Carries names new new graph command text (Ok tt) → CarriesAsked names in_cycle old new graph command text
   collects_nothing : CollectsNothing in_cycle command → new ≡ old
       → Carries names new new graph command text (Ok tt) → CarriesAsked names in_cycle old new graph command text
@@ -99,10 +103,10 @@ pub record HasNoPlace (main : Mutator) (graph : Graph) (command : Command) (need
   pub out : IsOutOfRoom main need
   pub nowhere : Fits (heap_of main) need → ⊥
 
--- A fault comes on the heap as it was; but `weakfull` comes behind a full collection where the map was full of pairs.
+-- A fault comes on the heap as it was; but `weakfull` comes after a full collection, since the map was full of pairs.
 pub data FaultsOn (names : List (List ℕ)) (old new : Mutator) (graph : Graph) (command : Command) (word : FaultWord)
     : Type 0 where
-  unchanged : new ≡ old → FaultsOn names old new graph command word
+  unchanged : word ≢ WeakFull → new ≡ old → FaultsOn names old new graph command word
   collected : word ≡ WeakFull → CollectsFully names old new graph command → FaultsOn names old new graph command word
 
 -- The command stopped for good. Its meaning is the fault; or it is none, and the heap was fully collected, and has no

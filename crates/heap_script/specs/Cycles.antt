@@ -1,10 +1,10 @@
 -- Commands of the collector, and cycles of marking, which some of them open and end.
-use Rattle.std.specs.Prelude.{ℕ, Bool, true, false, List, [], ◌∷◌, Option, Some, None, take}
+use Rattle.std.specs.Prelude.{◌≡◌, ◌⊎◌, Bool, true, false, Option, Some, None}
+use Rattle.object_graph.specs.Graphs.{Graph}
 use Rattle.heap_model.specs.Types.{Command}
-use Rattle.heap_command.specs.Executed.{Executed}
+use Rattle.heap_model.specs.Heaps.{Heap}
 use Rattle.heap_command.specs.declared.command.Command.TheVariants.{Scavenge, Mark, Finish, Gc, Census}
-use Rattle.script_text.specs.Scripts.{ScriptText}
-use Rattle.script_text.specs.Unrolled.{executed_lines}
+use Rattle.collector.specs.Born.{Opening}
 
 -- whether a command is one of the collector's: it asks for a collection, or opens or ends a cycle
 abbrev pub asks_collector : Command → Bool
@@ -29,12 +29,30 @@ abbrev pub cycle_after_line : Bool → Option Command → Bool
 cycle_after_line in_cycle None = in_cycle
 cycle_after_line in_cycle (Some command) = cycle_after_command in_cycle command
 
--- behind these lines
-abbrev pub cycle_after_lines : Bool → List Executed → Bool
-cycle_after_lines in_cycle [] = in_cycle
-cycle_after_lines in_cycle (line ∷ lines) = cycle_after_lines (cycle_after_line in_cycle line.command) lines
+-- what the cycle that is open behind a `mark` began with: one that was open stays so
+abbrev pub marked_after : Option Opening → Heap → Graph → Opening
+marked_after None heap graph = record { heap = heap; graph = graph }
+marked_after (Some opening) heap graph = opening
 
--- Whether a cycle is open after so many executed lines of a script. None is open before the first one. The lines alone
--- tell it: a full collection that is forced between two of them ends no cycle.
-abbrev pub is_in_cycle : ScriptText → ℕ → Bool
-is_in_cycle script executed = cycle_after_lines false (take executed (executed_lines script.lines))
+-- What the cycle began with that is open behind a command, if one is, by what that before it began with, and by the heap
+-- and the graph behind the command.
+abbrev pub opened_after_command : Option Opening → Command → Heap → Graph → Option Opening
+opened_after_command opened Mark heap graph = Some (marked_after opened heap graph)
+opened_after_command opened Finish heap graph = None
+opened_after_command opened Gc heap graph = None
+opened_after_command opened Census heap graph = None
+opened_after_command opened _ heap graph = opened
+
+-- Behind a line. The lines alone tell whether a cycle is open: a full collection that is forced between two of them ends
+-- none.
+abbrev pub opened_after : Option Opening → Option Command → Heap → Graph → Option Opening
+opened_after opened None heap graph = opened
+opened_after opened (Some command) heap graph = opened_after_command opened command heap graph
+
+-- the command asks for a full collection: `gc`, or `census`, which counts what is left
+abbrev pub AsksForAll : Command → Type 0
+AsksForAll command = (command ≡ Gc) ⊎ (command ≡ Census)
+
+-- the command is one of the collector's that collects nothing: `mark` where a cycle is open, or `finish` where none is
+abbrev pub CollectsNothing : Bool → Command → Type 0
+CollectsNothing in_cycle command = ((command ≡ Mark) × (in_cycle ≡ true)) ⊎ ((command ≡ Finish) × (in_cycle ≡ false))

@@ -11,6 +11,7 @@ use Rattle.script_text.specs.Scripts.{ScriptText}
 use Rattle.mutator.specs.declared.stop.Stop.{Stop}
 use Rattle.mutator.specs.declared.stop.Stop.TheVariants as stop
 use Rattle.write_barrier.specs.MutatorState.{Mutator, heap_of}
+use Rattle.collector.specs.Born.{Opening}
 use Rattle.collector.specs.States.{HeapState, HeapShows}
 use Rattle.byte_ends.specs.Faults.{Rose}
 use Rattle.byte_ends.specs.Sink.{Appends}
@@ -77,13 +78,14 @@ Halts counted script stage collections waiting finished so_far old new faults_ol
     EndsRun counted script stage.heap stage.rows collections finished.executed so_far came finished.line
     × Handed old new waiting so_far.bytes × (faults_new ≡ faults_old)
 
--- The run before its last bytes are handed on, which is to count its heap or not: how far it came, which collections came since
--- the last line, what it spent, what the heap shows, and how it halted.
+-- The run before its last bytes are handed on, which is to count its heap or not: how far it came, which collections
+-- came since the last line, which cycle is open, what it spent, what the heap shows, and how it halted.
 pub record Pauses (counted : Bool) (script : ScriptText) (heap : HeapState) (waiting : List ℕ) (finished : Finished)
     (old new : List ℕ → Type 0) (faults_old faults_new : ℕ) : Type 0 where
   pub reached : RanTo script (heap_of heap.main) finished.executed
   pub collections : Collections
-  pub spends : Spends script (stage_of heap.main) finished.executed collections
+  pub opened : Option Opening
+  pub spends : Spends script (stage_of heap.main) finished.executed collections opened
   pub shown : HeapShows heap reached.so_far.graph
   pub halts : Halts counted script (stage_of heap.main) collections waiting finished reached.so_far old new faults_old
       faults_new finished.how

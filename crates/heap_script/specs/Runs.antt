@@ -1,5 +1,5 @@
 -- How the run of a script on a heap ends, and what its sink takes.
-use Rattle.std.specs.Prelude.{◌≡◌, ◌⊎◌, ℕ, ◌+◌, ◌<◌, ◌≤◌, List, ◌∷◌}
+use Rattle.std.specs.Prelude.{◌≡◌, ◌≢◌, ◌⊎◌, ℕ, ◌+◌, ◌<◌, ◌≤◌, List, ◌∷◌}
 use Rattle.std.specs.Prelude.{[], ◌++◌, length, take, Option, Some, None, Bool, true, false, IsTrue, nat_lt}
 use Rattle.std.specs.Prelude.{if◌then◌else◌}
 use Rattle.heap_model.specs.Types.{Command, FaultWord, Run}
@@ -12,6 +12,7 @@ use Rattle.object_graph.specs.Run.{Told, run_of, lines_most, end, fault_at, limi
 use Rattle.script_text.specs.Scripts.{ScriptText}
 use Rattle.script_text.specs.Unrolled.{executed_lines}
 use Rattle.heap_model.specs.Heaps.{Heap}
+use Rattle.heap_model.specs.Collectable.{AreFreeRuns}
 use Rattle.heap_model.specs.Needs.{lacks_room}
 use Rattle.heap_model.specs.Reaching.{IsTight}
 use Rattle.heap_model.specs.Rooms.{Room, HasRooms, need_of}
@@ -19,6 +20,7 @@ use Rattle.free_runs.specs.FreeRuns.{FitsNowhere}
 use Rattle.live_cells.specs.Exact.{Exact, Fits}
 use Rattle.live_cells.specs.Fitting.{DeadIsFree}
 use Rattle.scavenger.specs.Laws.{IsStuck}
+use Rattle.collector.specs.Born.{Opening}
 use Rattle.heap_check.specs.declared.counts.Counts.{Counts}
 use Rattle.mutator.specs.declared.output.TheConstants.{OUTPUT_BYTES, ROOM}
 use Rattle.byte_ends.specs.Faults.{Rose}
@@ -26,9 +28,9 @@ use Rattle.byte_ends.specs.Sink.{Appends, AppendsSome}
 use Rattle.heap_script.specs.declared.finished.How.{How}
 use Rattle.heap_script.specs.declared.finished.How.TheVariants as how
 use Rattle.heap_script.specs.declared.finished.Finished.{Finished}
-use Rattle.heap_script.specs.Stages.{Collections, uncollected, fully_collected, finally_collected}
+use Rattle.heap_script.specs.Stages.{Stage, Collections, uncollected, fully_collected, finally_collected}
 use Rattle.heap_script.specs.Reached.{left_after, RanTo, EndsAs}
-use Rattle.heap_script.specs.Spending.{HasSpent}
+use Rattle.heap_script.specs.Spending.{Spends}
 
 -- The heap, which shows a graph and whose pages have these free runs, is full for so many words: it keeps exactly what
 -- can be reached, and they fit nowhere beside that. Eden is empty, each young cell is reached from a variable or a slot
@@ -65,10 +67,11 @@ pub record FullAt (script : ScriptText) (heap : Heap) (rows : List (List Run)) (
   pub full : IsFullAt heap rows so_far.graph line need (left_after script executed)
   pub collected : collections ≡ fully_collected
 
--- A fault comes before the heap is collected for its line; but where a weak map was full of pairs it comes behind a
--- full collection, if the map is full still.
+-- `weakfull` comes after a full collection, which came since the map was full of pairs; any other fault comes before the
+-- heap is collected for its line.
 abbrev pub FaultsBehind : FaultWord → Collections → Type 0
-FaultsBehind word collections = (collections ≡ uncollected) ⊎ ((word ≡ WeakFull) × (collections ≡ fully_collected))
+FaultsBehind word collections =
+    ((word ≢ WeakFull) × (collections ≡ uncollected)) ⊎ ((word ≡ WeakFull) × (collections ≡ fully_collected))
 
 -- these are the counts of what of the graph can be reached: its objects, and the entries whose map and key can
 abbrev pub HasCounts : Graph → Counts → Type 0
@@ -159,11 +162,14 @@ Writes counted script heap rows collections finished so_far old new faults_old f
     EndsRun counted script heap rows collections finished.executed so_far came finished.line
     × Appends old new so_far.bytes × (faults_new ≡ faults_old)
 
--- The run of a script, which is to count its heap or not: how far it came, what it spent, how it ended, and what the
--- sink took, which may have taken these bytes before and after, with so many faults.
-pub record Finishes (counted : Bool) (script : ScriptText) (heap : Heap) (finished : Finished)
+-- The run of a script, which is to count its heap or not: how far it came, what it spent, which runs of pages are free,
+-- how it ended, and what the sink took, which may have taken these bytes before and after, with so many faults.
+pub record Finishes (counted : Bool) (script : ScriptText) (stage : Stage) (finished : Finished)
     (old new : List ℕ → Type 0) (faults_old faults_new : ℕ) : Type 0 where
-  pub reached : RanTo script heap finished.executed
-  pub spent : HasSpent script heap finished.executed
-  pub writes : Writes counted script heap spent.last.rows spent.collections finished reached.so_far old new faults_old
+  pub reached : RanTo script stage.heap finished.executed
+  pub collections : Collections
+  pub opened : Option Opening
+  pub spends : Spends script stage finished.executed collections opened
+  pub free : AreFreeRuns stage.heap stage.rows
+  pub writes : Writes counted script stage.heap stage.rows collections finished reached.so_far old new faults_old
       faults_new finished.how

@@ -1,26 +1,30 @@
 -- What the executed lines of a script spend of a heap, and how it is collected between them.
-use Rattle.std.specs.Prelude.{◌≡◌, ◌⊎◌, ◌↔◌, ℕ, ◌+◌, ◌<◌, ◌≤◌}
-use Rattle.std.specs.Prelude.{Bool, Option, Some, None, IsTrue, true, false, slice_get}
+use Rattle.std.specs.Prelude.{◌≡◌, ◌↔◌, ℕ, ◌+◌, ◌<◌, ◌≤◌}
+use Rattle.std.specs.Prelude.{Bool, Option, Some, None, is_some, IsTrue, true, false, slice_get}
 use Rattle.heap_model.specs.Types.{Command}
 use Rattle.heap_command.specs.Executed.{Executed}
-use Rattle.heap_command.specs.declared.command.Command.TheVariants.{Scavenge, Mark, Finish, Gc, Census}
+use Rattle.heap_command.specs.declared.command.Command.TheVariants.{Scavenge, Mark, Finish}
 use Rattle.object_graph.specs.Graphs.{Graph}
 use Rattle.object_graph.specs.Limits.{ideal_limits}
 use Rattle.object_graph.specs.Run.{Told, lines_most, ending, end}
 use Rattle.script_text.specs.Scripts.{ScriptText}
 use Rattle.script_text.specs.Unrolled.{executed_lines}
+use Rattle.page_space.specs.Extents.{roots_start}
 use Rattle.heap_model.specs.Heaps.{Heap}
-use Rattle.heap_model.specs.Slots.{IsPlace}
-use Rattle.heap_model.specs.Needs.{capacity_at, lacks_room}
+use Rattle.heap_model.specs.Needs.{lacks_room}
+use Rattle.heap_model.specs.Changes.{IsNewlyUsed}
 use Rattle.heap_model.specs.Collectable.{AreFreeRuns}
 use Rattle.heap_model.specs.Reaching.{IsTight, FillsPages}
 use Rattle.heap_model.specs.Rooms.{Room, HasRooms, need_of, FindsMapFull}
 use Rattle.free_runs.specs.FreeRuns.{AreFree, FitsNowhere, whole_rows}
-use Rattle.live_cells.specs.Exact.{Exact}
+use Rattle.free_runs.specs.Laws.{IsFreeWord}
+use Rattle.collector.specs.Born.{Opening, LeavesBorn}
 use Rattle.collector.specs.Collected.{LeavesExact}
+use Rattle.scavenger.specs.Backs.{AreBacks}
 use Rattle.scavenger.specs.Laws.{KeepsPlaces, TakesWords, PromotesWhatFits, PromotesNoOther}
 use Rattle.mutator.specs.Capacities.{KeepsStores}
-use Rattle.heap_script.specs.Cycles.{asks_collector, is_in_cycle}
+use Rattle.mutator.specs.Changing.{IsChangedWord}
+use Rattle.heap_script.specs.Cycles.{asks_collector, opened_after, AsksForAll, CollectsNothing}
 use Rattle.heap_script.specs.Stages.{Stage, Collections, uncollected, scavenged, fully_collected, finally_collected}
 use Rattle.heap_script.specs.Stages.{SpendsWords}
 use Rattle.heap_script.specs.Reached.{left_after, RanTo, EndsAs}
@@ -39,7 +43,8 @@ FindsMapFullFor heap graph (Some command) =
     (entries : ℕ) × ((rooms : ℕ → Room) → HasRooms heap graph rooms → FindsMapFull graph rooms command entries)
 
 -- A command that leads from one graph to another allocates on the heap, behind these collections. It does not find its
--- weak map full of pairs. The regions stay, and no survivor comes or goes.
+-- weak map full of pairs. The regions stay, and no survivor comes or goes. Of the words before the roots only those of
+-- the object that the command may change are written, words that are newly used, and words of free runs.
 pub record Allocates (old new : Stage) (graph after : Graph) (collections : Collections) (command : Command)
     : Type 0 where
   pub space : new.heap.space ≡ old.heap.space
@@ -47,24 +52,28 @@ pub record Allocates (old new : Stage) (graph after : Graph) (collections : Coll
   pub unfull : FindsMapFullFor old.heap graph (Some command) → ⊥
   pub uses : (rooms : ℕ → Room) → HasRooms old.heap graph rooms
       → UsesNeed old new graph after collections command rooms
+  pub words : (word : ℕ) → word < roots_start old.heap.space → (IsChangedWord old.heap graph command word → ⊥)
+      → (IsNewlyUsed old.heap new.heap word → ⊥) → (IsFreeWord old.rows word → ⊥)
+      → slice_get new.heap.words word ≡ slice_get old.heap.words word
 
--- What is told of a scavenge, which promotes survivors: the regions stay, objects have the rooms that they had, eden is
--- empty, the survivors are no more than survivors and used words before, of young cells only what is reached is kept,
--- what came to pages is free, or is reached from variables and from cells of pages that stood there before, each cell
--- of a page stays in its place, words of free runs went to cells that were promoted alone, and the runs that are left
--- neither overlap nor touch. A young cell that was to be promoted and stays came to a page, or is longer than each run
--- that is left, and no other one came to a page.
-pub record IsCollected (old new : Stage) (graph : Graph) : Type 0 where
+-- What is told of a scavenge, which promotes survivors, or all that lives: the regions stay, objects have the rooms that
+-- they had, eden is empty, the survivors are no more than survivors and used words before, of young cells only what is
+-- reached is kept, what came to pages is free, or is reached from variables and from cells of pages that stood there
+-- before, each cell of a page stays in its place, words of free runs went to cells that were promoted alone, and the
+-- runs that are left are the backs of those that stood, and neither overlap nor touch. A young cell that was to be
+-- promoted and stays came to a page, or is longer than each run that is left, and no other one came to a page.
+pub record IsCollected (old new : Stage) (all : Bool) (graph : Graph) : Type 0 where
   pub space : new.heap.space ≡ old.heap.space
   pub rooms : (rooms : ℕ → Room) → HasRooms old.heap graph rooms ↔ HasRooms new.heap graph rooms
   pub emptied : new.heap.used ≡ 0
   pub few : new.heap.survivors ≤ old.heap.survivors + old.heap.used
   pub tight : IsTight new.heap
   pub pages : FillsPages old.heap new.heap
-  pub words : TakesWords old.heap new.heap false old.rows new.rows
-  pub promotes : PromotesWhatFits old.heap false new.rows words.to
-  pub stays : PromotesNoOther old.heap false words.to
+  pub words : TakesWords old.heap new.heap all old.rows new.rows
+  pub promotes : PromotesWhatFits old.heap all new.rows words.to
+  pub stays : PromotesNoOther old.heap all words.to
   pub places : KeepsPlaces old.heap old.rows words.to
+  pub backs : AreBacks old.rows new.rows
   pub free : AreFreeRuns new.heap new.rows
   pub apart : AreFree new.rows
 
@@ -73,29 +82,32 @@ pub record IsCollected (old new : Stage) (graph : Graph) : Type 0 where
 abbrev pub IsFullyCollected : Stage → Stage → Graph → Type 0
 IsFullyCollected old new graph = LeavesExact old.heap new.heap new.rows graph
 
--- the command asks for a full collection: `gc`, `census`, which counts what is left, or `finish` where a cycle is open
-abbrev pub AsksForAll : Bool → Command → Type 0
-AsksForAll in_cycle command = (command ≡ Gc) ⊎ (command ≡ Census) ⊎ ((command ≡ Finish) × (in_cycle ≡ true))
+-- What is told of a `mark` that opens a cycle: a scavenge promotes all that lives, and no survivor stays young; or one
+-- stays, and then the heap is fully collected.
+pub data HasBegun (old new : Stage) (graph : Graph) : Type 0 where
+  promotes_all : IsCollected old new true graph → new.heap.survivors ≡ 0 → HasBegun old new graph
+  collects_all : (mid : Stage) → IsCollected old mid true graph → 0 < mid.heap.survivors
+      → IsFullyCollected mid new graph → HasBegun old new graph
 
--- the command is one of the collector's that collects nothing: `mark`, or `finish` where no cycle is open
-abbrev pub CollectsNothing : Bool → Command → Type 0
-CollectsNothing in_cycle command = (command ≡ Mark) ⊎ ((command ≡ Finish) × (in_cycle ≡ false))
-
--- What a line does with the heap, where a cycle is open before it or not, and these collections came since the last
--- line. One that runs no command leaves it as it is. `scavenge` collects, and promotes survivors alone. `gc` and
--- `census` collect fully, and so does `finish` where a cycle is open. `mark`, and `finish` where none is open, leave it
--- as it is. Any other command allocates.
-pub data LineAllocates (in_cycle : Bool) (old new : Stage) (graph after : Graph) (collections : Collections)
+-- What a line does with the heap, by what the cycle that is open before it began with, if one is, and where these
+-- collections came since the last line. One that runs no command leaves it as it is. `scavenge` collects, and promotes
+-- survivors alone. `mark` opens a cycle, and `finish` ends it. `gc` and `census` collect fully. A `mark` where a cycle
+-- is open, and a `finish` where none is, leave it as it is. Any other command allocates.
+pub data LineAllocates (opened : Option Opening) (old new : Stage) (graph after : Graph) (collections : Collections)
     : Option Command → Type 0 where
-  passes : new ≡ old → LineAllocates in_cycle old new graph after collections None
-  scavenges : IsCollected old new graph → LineAllocates in_cycle old new graph after collections (Some Scavenge)
-  collects_all : (command : Command) → AsksForAll in_cycle command → IsFullyCollected old new graph
-      → LineAllocates in_cycle old new graph after collections (Some command)
-  collects_nothing : (command : Command) → CollectsNothing in_cycle command → new ≡ old
-      → LineAllocates in_cycle old new graph after collections (Some command)
+  passes : new ≡ old → LineAllocates opened old new graph after collections None
+  scavenges : IsCollected old new false graph
+      → LineAllocates opened old new graph after collections (Some Scavenge)
+  begins : opened ≡ None → HasBegun old new graph → LineAllocates opened old new graph after collections (Some Mark)
+  finishes : (opening : Opening) → opened ≡ Some opening → LeavesBorn opening old.heap new.heap new.rows graph
+      → LineAllocates opened old new graph after collections (Some Finish)
+  collects_all : (command : Command) → AsksForAll command → IsFullyCollected old new graph
+      → LineAllocates opened old new graph after collections (Some command)
+  collects_nothing : (command : Command) → CollectsNothing (is_some opened) command → new ≡ old
+      → LineAllocates opened old new graph after collections (Some command)
   allocates : (command : Command) → asks_collector command ≡ false
       → Allocates old new graph after collections command
-      → LineAllocates in_cycle old new graph after collections (Some command)
+      → LineAllocates opened old new graph after collections (Some command)
 
 -- the heap lacks room for the words that the command of a line needs, whatever rooms objects have in it
 abbrev pub LacksWordsFor : Heap → Graph → Option Command → Type 0
@@ -130,57 +142,38 @@ pub record WantsClearing (script : ScriptText) (heap : Heap) (executed : ℕ) (s
   pub next : slice_get (executed_lines script.lines) executed ≡ Some line
   pub full : FindsMapFullFor heap so_far.graph line.command
 
--- The words that the executed lines of a script spend, one line after another, up to this stage; and which collections
--- came since the last line. Before the first line no word is used, and the free runs are the pages, each whole. Each
--- line spends what its command needs, by the graph and the rooms that the lines before it led to. Between two lines the
--- heap is scavenged once where its eden lacks room for the words that the next line needs, and then survivors alone are
--- promoted; and where eden lacks room for them still, and no free run has them, a full collection comes. It comes too,
--- and alone, where the next line finds its weak map full of pairs, since some of them may be such as it clears. Nothing
--- comes behind it. A run that is to count its heap may be followed, at the script's end alone, by one full collection
--- more.
-pub data Spends (script : ScriptText) : Stage → ℕ → Collections → Type 0 where
+-- The words that the executed lines of a script spend, one line after another, up to this stage; which collections came
+-- since the last line; and what the cycle of marking began with that is open, if one is. Before the first line no word
+-- is used, the free runs are the pages, each whole, and no cycle is open. Each line spends what its command needs, by
+-- the graph and the rooms that the lines before it led to. Between two lines the heap is scavenged once where its eden
+-- lacks room for the words that the next line needs, and then survivors alone are promoted; and where eden lacks room
+-- for them still, and no free run has them, a full collection comes. It comes too, and alone, where the next line finds
+-- its weak map full of pairs, since some of them may be such as it clears. Nothing comes behind it. A run that is to
+-- count its heap may be followed, at the script's end alone, by one full collection more.
+pub data Spends (script : ScriptText) : Stage → ℕ → Collections → Option Opening → Type 0 where
   none : (stage : Stage) → stage.heap.used ≡ 0 → stage.heap.survivors ≡ 0
-      → stage.rows ≡ whole_rows stage.heap.space.sizes.pages → RanTo script stage.heap 0
-      → Spends script stage 0 uncollected
-  one_more : (old new : Stage) (executed : ℕ) (collections : Collections) (line : Executed)
-      → Spends script old executed collections
+      → stage.rows ≡ whole_rows stage.heap.space.sizes.pages → AreFreeRuns stage.heap stage.rows
+      → RanTo script stage.heap 0 → Spends script stage 0 uncollected None
+  one_more : (old new : Stage) (executed : ℕ) (collections : Collections) (opened : Option Opening) (line : Executed)
+      → Spends script old executed collections opened
       → slice_get (executed_lines script.lines) executed ≡ Some line
       → (before : RanTo script old.heap executed) (after : RanTo script new.heap (executed + 1))
-      → LineAllocates (is_in_cycle script executed) old new before.so_far.graph after.so_far.graph collections
-      line.command
+      → LineAllocates opened old new before.so_far.graph after.so_far.graph collections line.command
       → Spends script new (executed + 1) uncollected
-  once : (old new : Stage) (executed : ℕ) → Spends script old executed uncollected
+      (opened_after opened line.command new.heap after.so_far.graph)
+  once : (old new : Stage) (executed : ℕ) (opened : Option Opening) → Spends script old executed uncollected opened
       → (before : RanTo script old.heap executed) → WantsRoom script old.heap executed before.so_far
-      → RanTo script new.heap executed → IsCollected old new before.so_far.graph
-      → Spends script new executed scavenged
-  twice : (old new : Stage) (executed : ℕ) → Spends script old executed scavenged
+      → RanTo script new.heap executed → IsCollected old new false before.so_far.graph
+      → Spends script new executed scavenged opened
+  twice : (old new : Stage) (executed : ℕ) (opened : Option Opening) → Spends script old executed scavenged opened
       → (before : RanTo script old.heap executed) → LacksAllRoom script old executed before.so_far
       → RanTo script new.heap executed → IsFullyCollected old new before.so_far.graph
-      → Spends script new executed fully_collected
-  cleared : (old new : Stage) (executed : ℕ) → Spends script old executed uncollected
+      → Spends script new executed fully_collected opened
+  cleared : (old new : Stage) (executed : ℕ) (opened : Option Opening) → Spends script old executed uncollected opened
       → (before : RanTo script old.heap executed) → WantsClearing script old.heap executed before.so_far
       → RanTo script new.heap executed → IsFullyCollected old new before.so_far.graph
-      → Spends script new executed fully_collected
-  finally : (old new : Stage) (executed : ℕ) → Spends script old executed uncollected
+      → Spends script new executed fully_collected opened
+  finally : (old new : Stage) (executed : ℕ) (opened : Option Opening) → Spends script old executed uncollected opened
       → (before : RanTo script old.heap executed) → EndsAs script executed before.so_far end
       → RanTo script new.heap executed → IsFullyCollected old new before.so_far.graph
-      → Spends script new executed finally_collected
-
--- The heap has the regions of the one to which the lines led that spent words, behind the collections that came since
--- the last of them; and as many words are used and have survived. Each object stands where it stands there, with a
--- store of as many slots. The rooms that the objects of the graph after the lines have there are their rooms in the
--- heap too. Its pages have the free runs of that one. It keeps exactly what can be reached, if that one does.
-pub record HasSpent (script : ScriptText) (heap : Heap) (executed : ℕ) : Type 0 where
-  pub last : Stage
-  pub collections : Collections
-  pub space : heap.space ≡ last.heap.space
-  pub spends : Spends script last executed collections
-  pub reached : RanTo script last.heap executed
-  pub used : heap.used ≡ last.heap.used
-  pub survivors : heap.survivors ≡ last.heap.survivors
-  pub stores : (number at : ℕ) → IsPlace last.heap number at
-      → IsPlace heap number at × (capacity_at heap at ≡ capacity_at last.heap at)
-  pub rooms : (rooms : ℕ → Room) → HasRooms last.heap reached.so_far.graph rooms
-      → HasRooms heap reached.so_far.graph rooms
-  pub free : AreFreeRuns heap last.rows
-  pub exact : Exact last.heap reached.so_far.graph → Exact heap reached.so_far.graph
+      → Spends script new executed finally_collected opened

@@ -2,12 +2,13 @@
 ghost use Rattle.std.specs.Prelude.{◌≡◌, ◌+◌, ◌≤◌, false, [], length, OnOk, OnErr};
 ghost use Rattle.object_graph.specs.Graphs.{Graph, start};
 ghost use Rattle.mutator.specs.CarriesOut.{field_numbers};
-ghost use Rattle.write_barrier.specs.MutatorState.{heap_of, IsOpened};
+ghost use Rattle.write_barrier.specs.MutatorState.{IsOpened};
 ghost use Rattle.collector.specs.States.{HeapShows};
 ghost use Rattle.byte_ends.specs.Faults.{Rose};
 ghost use Rattle.script_text.specs.Sound.{AreShort};
 ghost use Rattle.heap_script.specs.Runs.{Finishes, CutsOff, FillsOutput, waiting_of, IsCut};
 ghost use Rattle.heap_script.specs.Inspecting.{counts_at_end, IsFor};
+ghost use Rattle.heap_script.specs.Stages.{stage_of};
 ghost use Rattle.heap_script.specs.Progress.{Handed, Pauses, how_of};
 
 use crate::execute::execute_line;
@@ -49,7 +50,7 @@ pub fn run_script<K: Sink, G: Gate, R: Threads + Sync>(
     requires variables { heap.old.main.seat.space.variables ≡ length script.now.variables }
     requires empty { out.old ≡ [] }
     requires for_heap { IsFor heap.old inspection.old }
-    ensures finishes { Finishes (counts_at_end inspection.old) script.now (heap_of heap.new.main) result
+    ensures finishes { Finishes (counts_at_end inspection.old) script.now (stage_of heap.new.main) result
         (K.HasTaken sink.old) (K.HasTaken sink.new) (K.faults sink.old) (K.faults sink.new) }
     ensures emptied { ¬ IsCut result.how → out.new ≡ [] }
     ensures shows { (graph : Graph) × HeapShows heap.new graph }

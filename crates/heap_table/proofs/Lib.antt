@@ -1,4 +1,3 @@
 mod MarksStart
 pub mod HeapWords
-mod HeapStretches
 mod SeatKeeps

@@ -1,14 +1,9 @@
 -- Where the marks begin.
-use Rattle.std.proofs.Common.{◌≡◌, ◌∙◌, ℕ, ◌<◌, ◌≤◌, ap, sym, arith}
+use Rattle.std.proofs.Common.{◌≡◌, ◌∙◌, ℕ, ◌<◌, ap, sym, arith}
 use Rattle.page_space.specs.declared.region.Region.TheVariants.{Mark}
 use Rattle.page_space.specs.Sizes.{AreWithin}
-use Rattle.page_space.specs.Extents.{Space, StartsAt, mark_words, marks_start, words_count}
+use Rattle.page_space.specs.Extents.{Space, StartsAt, mark_words, marks_start}
 use Rattle.page_space.proofs.LawsHold.{regions_stand_once, stand_by_number}
-use Rattle.page_space.proofs.Starts.{board_start_is, words_count_is}
-
--- the marks begin before the words end
-pub marks_start_within : (space : Space) → marks_start space ≤ words_count space
-marks_start_within space = omega (arith, board_start_is space, words_count_is space)
 
 -- a heap has a page, and so a first mark
 pub some_mark : (space : Space) → AreWithin space.sizes space.variables → 0 < mark_words space.sizes.pages

@@ -12,7 +12,7 @@ pub record StaysLent (old new : MutBor Seat) : Type 0 where
 
 -- where nothing has happened, everything has stayed
 pub rest_stays_itself : (seat : Seat) → RestStays seat seat
-rest_stays_itself seat = record { space = refl; phase = refl; behind = refl }
+rest_stays_itself seat = record { space = refl; phase = refl; count = refl }
 
 pub stays_lent_itself : (seat : MutBor Seat) → StaysLent seat seat
 stays_lent_itself seat = record { lender = refl; space = refl; phase = refl }
@@ -20,7 +20,7 @@ stays_lent_itself seat = record { lender = refl; space = refl; phase = refl }
 -- what has stayed twice has stayed
 pub rest_stays_again : (a b c : Seat) → RestStays a b → RestStays b c → RestStays a c
 rest_stays_again a b c first then =
-    record { space = then.space ∙ first.space; phase = then.phase ∙ first.phase; behind = then.behind ∙ first.behind }
+    record { space = then.space ∙ first.space; phase = then.phase ∙ first.phase; count = then.count ∙ first.count }
 
 pub stays_lent_again : (a b c : MutBor Seat) → StaysLent a b → StaysLent b c → StaysLent a c
 stays_lent_again a b c first then =

@@ -1,7 +1,7 @@
 //! The seat of the thread that runs commands.
 ghost use Rattle.std.specs.Prelude.{◌≡◌, ◌+◌, ◌<◌, ◌≤◌, ◌++◌, length, take, drop, replicate};
 ghost use Rattle.std.specs.Prelude.{slice_get, slice_set, IfOk, Some};
-ghost use Rattle.page_space.specs.Extents.{words_count, marks_start};
+ghost use Rattle.page_space.specs.Extents.{marks_start};
 ghost use Rattle.word_store.specs.Copies.{copied};
 ghost use Rattle.heap_table.specs.declared.phase.Phase.TheVariants.{Quiet};
 ghost use Rattle.heap_table.specs.Seats.{fresh, heap_words, RestStays};
@@ -19,16 +19,19 @@ use word_store::Reads;
 pub struct HeapTable;
 
 impl HeapTable {
-    /// Opens a table with a word of 0 for each address of the regions, and takes the main seat. It
-    /// takes all the memory that they need, and fails for want of memory alone.
+    /// Opens a table with a word of 0 for each address before the marks, and takes the main seat. It takes
+    /// all the memory that these words need. The only failure is out of memory.
     pub fn open(alloc: Global, regions: Regions) -> Result<MainSeat, NoMemory>
         ensures opened { IfOk result (λ seat. seat ≡ fresh regions) }
     {
-        let table = vec![in alloc; 0u64; regions.count() as usize]?;
+        // The sizes are within their limits, so there is a first mark.
+        let _words_count = regions.count();
+        let heap_count = regions.start(Region::Mark(0));
+        let table = vec![in alloc; 0u64; heap_count as usize]?;
         Ok(MainSeat {
             regions,
             phase: Phase::Quiet,
-            heap_count: regions.start(Region::Mark(0)),
+            heap_count,
             table,
         })
     }
@@ -68,7 +71,6 @@ impl MainSeat {
     #[inline(always)]
     pub fn regions(&self) -> Regions
         ensures regions { result ≡ self.now.space }
-        ensures counted { length self.now.table ≡ words_count self.now.space }
         ensures heap_counted { length (heap_words self.now) ≡ marks_start self.now.space }
     {
         self.regions
@@ -78,12 +80,9 @@ impl MainSeat {
     #[inline(always)]
     pub fn word(&self, a: u32) -> u64
         requires { a < marks_start self.now.space }
-        ensures of_table { slice_get self.now.table a ≡ Some result }
         ensures of_heap { slice_get (heap_words self.now) a ≡ Some result }
     {
-        // The table has more words than stand before the marks.
-        let _table_count = self.table_count();
-        self.any_word(a)
+        self.table[a as usize]
     }
 
     /// Puts a word at an address before the marks. No other word changes.
@@ -95,19 +94,19 @@ impl MainSeat {
         ensures heap { heap_words self.new ≡ slice_set (heap_words self.old) a word }
         ensures rest { RestStays self.old self.new }
     {
-        let _table_count = self.table_count();
+        // There is a word for each address before the marks.
+        let _regions = self.regions();
         self.put_any(a, word);
     }
 
-    /// The word at an offset of a cell, before the marks.
+    /// The word at an offset of a cell, before the marks. The sum is taken in 64 bits, which it fits
+    /// whatever the two are.
     #[inline(always)]
     pub fn slot(&self, cell: u32, offset: u32) -> u64
         requires { cell + offset < marks_start self.now.space }
-        ensures of_table { slice_get self.now.table (cell + offset) ≡ Some result }
         ensures of_heap { slice_get (heap_words self.now) (cell + offset) ≡ Some result }
     {
-        let _table_count = self.table_count();
-        self.any_slot(cell, offset)
+        self.table[cell as usize + offset as usize]
     }
 
     /// Puts a word at an offset of a cell, before the marks. No other word changes.
@@ -120,8 +119,7 @@ impl MainSeat {
         ensures heap { heap_words self.new ≡ slice_set (heap_words self.old) (cell + offset) word }
         ensures rest { RestStays self.old self.new }
     {
-        let _table_count = self.table_count();
-        self.put_any_slot(cell, offset, word);
+        self.table[cell as usize + offset as usize] = word;
     }
 
     /// Copies so many words to another address, all before the marks. No other word changes.
@@ -135,8 +133,9 @@ impl MainSeat {
         ensures heap { heap_words self.new ≡ copied (heap_words self.old) from to count }
         ensures rest { RestStays self.old self.new }
     {
-        let _table_count = self.table_count();
-        self.copy_any(from, to, count);
+        let start = from as usize;
+        self.table
+            .copy_within(start..start + count as usize, to as usize);
     }
 
     /// Puts one word at so many addresses from one on, before the marks. No other word changes.
@@ -151,8 +150,8 @@ impl MainSeat {
             heap_words self.new ≡ take at words ++ replicate count word ++ drop (at + count) words }
         ensures rest { RestStays self.old self.new }
     {
-        let _table_count = self.table_count();
-        self.fill_any(at, count, word);
+        let start = at as usize;
+        self.table[start..start + count as usize].fill(word);
     }
 
     /// All words of the table, to read and write while no other thread runs.
@@ -165,91 +164,26 @@ impl MainSeat {
         Paused { seat: self }
     }
 
-    /// The words before the marks, as the table has them. It takes no memory: what stands behind them is
-    /// cut off.
+    /// The words of the table. It takes no memory.
     pub fn into_words(self) -> Vec<u64>
         ensures { result.items ≡ heap_words self }
     {
         let MainSeat {
             regions: _,
             phase: _,
-            heap_count,
-            mut table,
+            heap_count: _,
+            table,
         } = self;
-        table.truncate(heap_count as usize);
         table
     }
 
-    /// How many words the table has.
-    #[inline(always)]
-    pub(crate) fn table_count(&self) -> u32
-        ensures length { result ≡ length self.now.table }
-        ensures counted { result ≡ words_count self.now.space }
-    {
-        self.regions.count()
-    }
-
-    /// Any word of the table.
-    #[inline(always)]
-    pub(crate) fn any_word(&self, a: u32) -> u64
-        requires { a < length self.now.table }
-        ensures { slice_get self.now.table a ≡ Some result }
-    {
-        self.table[a as usize]
-    }
-
-    /// Puts any word of the table.
+    /// Puts any word of the table, whatever the phase.
     #[inline(always)]
     pub(crate) fn put_any(&mut self, a: u32, word: u64)
         requires { a < length self.old.table }
         ensures { self.new ≡ record self.old { table = slice_set self.old.table a word } }
     {
         self.table[a as usize] = word;
-    }
-
-    /// Any word of the table, by a cell and an offset. The sum is taken in 64 bits, which it fits
-    /// whatever the two are.
-    #[inline(always)]
-    fn any_slot(&self, cell: u32, offset: u32) -> u64
-        requires { cell + offset < length self.now.table }
-        ensures { slice_get self.now.table (cell + offset) ≡ Some result }
-    {
-        self.table[cell as usize + offset as usize]
-    }
-
-    /// Puts any word of the table, by a cell and an offset.
-    #[inline(always)]
-    fn put_any_slot(&mut self, cell: u32, offset: u32, word: u64)
-        requires { cell + offset < length self.old.table }
-        ensures { let table = slice_set self.old.table (cell + offset) word in
-            self.new ≡ record self.old { table = table } }
-    {
-        self.table[cell as usize + offset as usize] = word;
-    }
-
-    /// Copies so many words of the table to another address.
-    #[inline]
-    fn copy_any(&mut self, from: u32, to: u32, count: u32)
-        requires within { from + count ≤ length self.old.table }
-        requires room { to + count ≤ length self.old.table }
-        ensures { let table = copied self.old.table from to count in
-            self.new ≡ record self.old { table = table } }
-    {
-        let start = from as usize;
-        self.table
-            .copy_within(start..start + count as usize, to as usize);
-    }
-
-    /// Puts one word at so many addresses of the table.
-    #[inline]
-    fn fill_any(&mut self, at: u32, count: u32, word: u64)
-        requires { at + count ≤ length self.old.table }
-        ensures { let words = self.old.table in
-            let table = take at words ++ replicate count word ++ drop (at + count) words in
-            self.new ≡ record self.old { table = table } }
-    {
-        let start = at as usize;
-        self.table[start..start + count as usize].fill(word);
     }
 }
 
@@ -273,6 +207,7 @@ impl Reads for MainSeat {
 
     #[inline(always)]
     fn load(&mut self, a: u32) -> u64 {
+        let _regions = self.regions();
         self.word(a)
     }
 }

@@ -4,8 +4,8 @@ ghost use Rattle.heap_table.specs.Staying.{StaysLent, stays_lent_itself, stays_l
 use crate::main_seat::MainSeat;
 use word_store::{Reads, Words};
 
-/// All words of the table of a seat, the marks and the board among them. The seat is lent to it, so
-/// its phase stays Quiet and the words are always steady.
+/// All words of the table of a seat. The seat is lent to it, so its phase stays Quiet and the words are
+/// always steady.
 #[derive(Drop)]
 pub struct Paused<'s> {
     pub(crate) seat: &'s mut MainSeat,
@@ -26,12 +26,14 @@ impl<'s> Reads for Paused<'s> {
 
     #[inline(always)]
     fn count(&self) -> u32 {
-        self.seat.table_count()
+        self.seat.count()
     }
 
     #[inline(always)]
     fn load(&mut self, a: u32) -> u64 {
-        self.seat.any_word(a)
+        // There is a word for each address before the marks.
+        let _regions = self.seat.regions();
+        self.seat.word(a)
     }
 }
 

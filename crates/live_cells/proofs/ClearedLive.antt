@@ -6,32 +6,32 @@ use Rattle.tagged_word.specs.Cells.{store_slot, store_head, tagged_offsets_of}
 use Rattle.tagged_word.proofs.Members.{first_in}
 use Rattle.page_space.specs.Extents.{Space}
 use Rattle.handle_roots.specs.Roots.{root_at}
-use Rattle.object_graph.specs.Graphs.{Graph}
 use Rattle.heap_model.specs.Types.{Cell}
 use Rattle.heap_model.specs.Heaps.{Heap, HasCell}
 use Rattle.heap_model.specs.Slots.{reference_word, RefersTo}
 use Rattle.heap_model.specs.Kinds.{HasWord, Pair, pairs_in, HasTable, IsPowerOfTwo}
-use Rattle.heap_model.specs.Showing.{Shows}
+use Rattle.heap_model.specs.Wholeness.{Whole}
 use Rattle.heap_model.proofs.CellsApart.{one_at, one_words}
 use Rattle.heap_model.proofs.SlotWords.{same_target}
 use Rattle.heap_model.proofs.WordClasses.{same_reference, undefined_refers_not}
-use Rattle.live_cells.specs.Live.{HasSlotTo, HasEntry, IsLive, IsRootTarget, AreLive}
+use Rattle.live_cells.specs.Live.{HasSlotTo, HasEntry, IsLive, IsRootTarget, IsStart, AreNoTables, AreLiveFrom}
 use Rattle.live_cells.specs.Cleared.{IsPairOfMap, TakesPairs, TakenPairsLeaveLive}
-use Rattle.live_cells.proofs.LiveReached.{live_belongs}
-use Rattle.live_cells.proofs.TablesOfMaps.{IsTableOfMap, map_of_table, map_is_live, pair_of_map}
+use Rattle.live_cells.specs.Starts.{TakenPairsLeaveStarts}
+use Rattle.live_cells.proofs.TablesOfMaps.{IsTableOfMap, map_of_table, pair_of_map, roots_are_no_tables}
+use Rattle.live_cells.proofs.TablesOfMaps.{starts_are_no_tables}
 
--- In one heap root words and slots that marking visits lead to what they led to in the other, and the same entries have
--- live tables and keys.
-record KeepsLinks (old new : Heap) : Type 0 where
-  roots : (at : ℕ) → IsRootTarget old at ↔ IsRootTarget new at
-  slots : (from at : ℕ) → IsLive old (IsRootTarget old) from → HasSlotTo old from at ↔ HasSlotTo new from at
-  entries : (table key at : ℕ) → IsLive old (IsRootTarget old) table → IsLive old (IsRootTarget old) key
+-- In one heap the starts are those of the other, slots that marking visits lead to what they led to, and the same
+-- entries have live tables and keys.
+record KeepsLinks (old new : Heap) (olds news : ℕ → Type 0) : Type 0 where
+  starts : (at : ℕ) → olds at ↔ news at
+  slots : (from at : ℕ) → IsLive old olds from → HasSlotTo old from at ↔ HasSlotTo new from at
+  entries : (table key at : ℕ) → IsLive old olds table → IsLive old olds key
       → HasEntry old table key at ↔ HasEntry new table key at
 
-module _ {old new : Heap} (keeps : KeepsLinks old new) where
+module _ {old new : Heap} {olds news : ℕ → Type 0} (keeps : KeepsLinks old new olds news) where
   -- what was live is live
-  lives_on : (at : ℕ) → IsLive old (IsRootTarget old) at → IsLive new (IsRootTarget new) at
-  lives_on at (IsLive.start there target) = IsLive.start there ((keeps.roots there).0 target)
+  lives_on : (at : ℕ) → IsLive old olds at → IsLive new news at
+  lives_on at (IsLive.start there start) = IsLive.start there ((keeps.starts there).0 start)
   lives_on at (IsLive.slot from there live slot) =
       IsLive.slot from there (lives_on from live) ((keeps.slots from there live).0 slot)
   lives_on at (IsLive.entry table key there of_table of_key entry) =
@@ -39,8 +39,8 @@ module _ {old new : Heap} (keeps : KeepsLinks old new) where
       ((keeps.entries table key there of_table of_key).0 entry)
 
   -- and what is live was
-  lived_before : (at : ℕ) → IsLive new (IsRootTarget new) at → IsLive old (IsRootTarget old) at
-  lived_before at (IsLive.start there target) = IsLive.start there ((keeps.roots there).1 target)
+  lived_before : (at : ℕ) → IsLive new news at → IsLive old olds at
+  lived_before at (IsLive.start there start) = IsLive.start there ((keeps.starts there).1 start)
   lived_before at (IsLive.slot from there live slot) =
       let before = lived_before from live in
       IsLive.slot from there before ((keeps.slots from there before).1 slot)
@@ -91,8 +91,7 @@ table_power {other = other} HasTable.none refers = absurd (undefined_refers_not 
 table_power (HasTable.table word cell words target is power) refers =
     subst (λ (one : Cell). IsPowerOfTwo one.length) (same_target target refers) power
 
-module _ {old new : Heap} {graph : Graph} (marked : List ℕ) (shows : Shows old graph) (are : AreLive old marked)
-    (takes : TakesPairs old new marked) where
+module _ {old new : Heap} {marked : List ℕ} (takes : TakesPairs old new marked) where
   -- the first root word of a variable refers to the address, where the regions are these
   abbrev RootRefers : ℕ → ℕ → Space → Type 0
   RootRefers variable at space = slice_get new.words (root_at space variable) ≡ Some (reference_word at)
@@ -120,6 +119,18 @@ module _ {old new : Heap} {graph : Graph} (marked : List ℕ) (shows : Shows old
         refers = sym (takes.roots target.variable within) ∙ refers;
       }
 
+  -- so the starts are the same, where the same are given
+  start_stays : (given : List ℕ) (at : ℕ) → IsStart old given at → IsStart new given at
+  start_stays given at (IsStart.root target) = IsStart.root (root_stays at target)
+  start_stays given at (IsStart.among there) = IsStart.among there
+
+  start_stood : (given : List ℕ) (at : ℕ) → IsStart new given at → IsStart old given at
+  start_stood given at (IsStart.root target) = IsStart.root (root_stood at target)
+  start_stood given at (IsStart.among there) = IsStart.among there
+
+module _ {old new : Heap} {olds news : ℕ → Type 0} (marked : List ℕ) (whole : Whole old)
+    (no_tables : AreNoTables old olds) (are : AreLiveFrom old olds marked) (takes : TakesPairs old new marked)
+    (same : (at : ℕ) → olds at ↔ news at) where
   -- a slot of a live cell refers to what it referred to
   slot_stays : (from at : ℕ) → Contains marked from → HasSlotTo old from at → HasSlotTo new from at
   slot_stays from at live slot =
@@ -163,25 +174,25 @@ module _ {old new : Heap} {graph : Graph} (marked : List ℕ) (shows : Shows old
 
   -- so an entry of its table whose key is live stays
   kept_of_map : {cell : Cell} {words : List ℕ} (key at place : ℕ) (pair : Pair)
-      (of_map : IsTableOfMap old graph cell words) → Contains marked key
+      (of_map : IsTableOfMap old olds cell words) → Contains marked key
       → slice_get (pairs_in (drop store_head words)) place ≡ Some pair
       → pair.key ≡ reference_word key → pair.value ≡ reference_word at → HasEntry new cell.at key at
   kept_of_map {cell} key at place pair of_map key_live among key_is value_is =
       let map : Cell = of_map.map in
-      let live : Contains marked map.at = map_is_live marked shows are of_map in
+      let live : Contains marked map.at = (are map.at).1 of_map.live in
       let now = map_stays of_map.sound.store of_map.has of_map.of_kind live of_map.sound.slot in
       entry_of_pair of_map.sound.store cell.at key at pair now.1 now.2 of_map.refers.refers
       (takes.kept map.at key pair live key_live key_is (pair_of_map place pair of_map among)) key_is value_is
 
   -- and was one
   made_of_map : {cell : Cell} {before words : List ℕ} (key at place : ℕ) (pair : Pair)
-      (of_map : IsTableOfMap old graph cell before) → HasCell new cell words → cell.layout.kind ≡ kind.Table
+      (of_map : IsTableOfMap old olds cell before) → HasCell new cell words → cell.layout.kind ≡ kind.Table
       → slice_get (pairs_in (drop store_head words)) place ≡ Some pair → pair.key ≡ reference_word key
       → pair.value ≡ reference_word at → HasEntry old cell.at key at
   made_of_map {cell} {words = words} key at place pair of_map has of_table among key_is value_is =
       let map : Cell = of_map.map in
       let store : ℕ = of_map.sound.store in
-      let live : Contains marked map.at = map_is_live marked shows are of_map in
+      let live : Contains marked map.at = (are map.at).1 of_map.live in
       let now = map_stays store of_map.has of_map.of_kind live of_map.sound.slot in
       let target : RefersTo new store cell words = record { refers = of_map.refers.refers; has = has } in
       let is : IsPairOfMap new map.at pair = record {
@@ -207,7 +218,7 @@ module _ {old new : Heap} {graph : Graph} (marked : List ℕ) (shows : Shows old
       → HasEntry new table key at
   entry_stays table key at live key_live entry =
       let table_live = (are entry.cell.at).0 (subst (Contains marked) (sym entry.stands) live) in
-      let of_map = map_of_table shows (live_belongs shows entry.cell.at table_live) entry.has entry.of_kind in
+      let of_map = map_of_table whole no_tables table_live entry.has entry.of_kind in
       subst (λ n. HasEntry new n key at) entry.stands
       (kept_of_map key at entry.place entry.pair of_map key_live entry.among entry.key_is entry.value_is)
 
@@ -216,24 +227,32 @@ module _ {old new : Heap} {graph : Graph} (marked : List ℕ) (shows : Shows old
   entry_stood table key at live entry =
       let had = takes.stood entry.cell entry.words entry.has in
       let table_live = (are entry.cell.at).0 (subst (Contains marked) (sym entry.stands) live) in
-      let of_map = map_of_table shows (live_belongs shows entry.cell.at table_live) had.1 entry.of_kind in
+      let of_map = map_of_table whole no_tables table_live had.1 entry.of_kind in
       subst (λ n. HasEntry old n key at) entry.stands
       (made_of_map key at entry.place entry.pair of_map entry.has entry.of_kind entry.among entry.key_is entry.value_is)
 
   -- so links are kept
-  links_kept : KeepsLinks old new
+  links_kept : KeepsLinks old new olds news
   links_kept = record {
-    roots = λ at. (root_stays at, root_stood at);
+    starts = same;
     slots = λ from at live. let among = (are from).1 live in (slot_stays from at among, slot_stood from at among);
     entries = λ table key at of_table of_key.
         let among = (are table).1 of_table in
         (entry_stays table key at among ((are key).1 of_key), entry_stood table key at among);
   }
 
--- and the same is live
+  -- and the same is live
+  still_live : AreLiveFrom new news marked
+  still_live at =
+      (λ among. lives_on links_kept at ((are at).0 among), λ live. (are at).1 (lived_before links_kept at live))
+
+-- from given starts, and from roots alone
+pub taken_pairs_leave_starts : TakenPairsLeaveStarts
+taken_pairs_leave_starts old new given marked whole no_tables are takes =
+    still_live marked whole (starts_are_no_tables given whole no_tables) are takes
+    (λ at. (start_stays takes given at, start_stood takes given at))
+
 pub taken_pairs_leave_live : TakenPairsLeaveLive
-taken_pairs_leave_live old new graph marked shows are takes at =
-    let links = links_kept marked shows are takes in (
-      λ among. lives_on links at ((are at).0 among),
-      λ live. (are at).1 (lived_before links at live),
-    )
+taken_pairs_leave_live old new graph marked shows are takes =
+    still_live marked shows.whole (roots_are_no_tables shows.whole) are takes
+    (λ at. (root_stays takes at, root_stood takes at))

@@ -3,9 +3,11 @@ pub mod Slots
 pub mod MarkedLinks
 pub mod ReachedMarked
 pub mod ShownTargets
+pub mod StoreSlots
 pub mod ObjectTargets
 pub mod SlotsReached
 pub mod LiveReached
+pub mod ReachedClosed
 pub mod Pigeons
 pub mod PairCounts
 pub mod FullMaps

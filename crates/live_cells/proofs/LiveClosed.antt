@@ -7,20 +7,19 @@ use Rattle.tagged_word.specs.declared.layout.Kind.TheVariants as kind
 use Rattle.tagged_word.specs.Cells.{scavenge_offsets, store_head}
 use Rattle.tagged_word.proofs.Cells.{same_offsets}
 use Rattle.tagged_word.proofs.Members.{range_bounds}
-use Rattle.object_graph.specs.Graphs.{Graph}
 use Rattle.heap_model.specs.Types.{Kind, Cell}
 use Rattle.heap_model.specs.Heaps.{Heap, HasCell}
 use Rattle.heap_model.specs.Slots.{reference_word}
 use Rattle.heap_model.specs.Kinds.{HasWord, Pair, pairs_in, free_pair, IsFoundPair}
-use Rattle.heap_model.specs.Showing.{Shows}
+use Rattle.heap_model.specs.Wholeness.{Whole}
 use Rattle.heap_model.proofs.CellWords.{slice_get-drop, slots_of_kind, words_by_kind}
 use Rattle.heap_model.proofs.ObjectSlots.{pair_words}
 use Rattle.heap_model.proofs.PairLists.{length-pairs_in}
 use Rattle.heap_model.proofs.WordClasses.{hole_refers_not}
-use Rattle.live_cells.specs.Live.{IsLive, IsRootTarget}
-use Rattle.live_cells.specs.Cleared.{HasLiveKeys, LiveIsClosed}
-use Rattle.live_cells.proofs.TablesOfMaps.{map_of_table}
-use Rattle.live_cells.proofs.LiveReached.{live_belongs}
+use Rattle.live_cells.specs.Live.{IsLive, AreNoTables}
+use Rattle.live_cells.specs.Cleared.{HasLiveKeysFrom, LiveIsClosed}
+use Rattle.live_cells.specs.Starts.{LiveIsClosedFromStarts}
+use Rattle.live_cells.proofs.TablesOfMaps.{map_of_table, roots_are_no_tables, starts_are_no_tables}
 
 -- a cell is a table or not
 table_or_not : (k : Kind) → (k ≡ kind.Table) ⊎ (k ≢ kind.Table)
@@ -38,13 +37,14 @@ key_of_pair at (inl free) value_is =
     absurd (hole_refers_not at (sym (ap (λ (one : Pair). one.value) free) ∙ value_is))
 key_of_pair at (inr found) value_is = (found.filled.key.at, found.filled.key.refers)
 
-module _ {heap : Heap} {graph : Graph} (shows : Shows heap graph) where
+module _ {heap : Heap} {starts : ℕ → Type 0} (whole : Whole heap) (no_tables : AreNoTables heap starts)
+    (keys : HasLiveKeysFrom heap starts) where
   -- what a word of a pair of a live table refers to is live
-  pair_live : {cell : Cell} {words : List ℕ} (offset at : ℕ) → HasLiveKeys heap
-      → IsLive heap (IsRootTarget heap) cell.at → HasCell heap cell words → cell.layout.kind ≡ kind.Table
+  pair_live : {cell : Cell} {words : List ℕ} (offset at : ℕ) → IsLive heap starts cell.at
+      → HasCell heap cell words → cell.layout.kind ≡ kind.Table
       → Contains (scavenge_offsets cell.layout cell.length) offset → HasWord words offset (reference_word at)
-      → IsLive heap (IsRootTarget heap) at
-  pair_live {cell} {words} offset at keys live has of_table visited slot =
+      → IsLive heap starts at
+  pair_live {cell} {words} offset at live has of_table visited slot =
       let bounds = range_bounds store_head (2 * cell.length) offset
       (slots_of_kind cell kind.Table offset of_table visited) in
       let behind : List ℕ = drop store_head words in
@@ -79,7 +79,7 @@ module _ {heap : Heap} {graph : Graph} (shows : Shows heap graph) where
             let in_pair : HasWord behind (suc (2 * place)) (reference_word at) =
             subst (λ n. HasWord behind n (reference_word at)) odd here in
             let value_is : pair.value ≡ reference_word at = same_Some _ _ (sym both.1 ∙ in_pair) in
-            let of_map = map_of_table shows (live_belongs shows cell.at live) has of_table in
+            let of_map = map_of_table whole no_tables live has of_table in
             let key = key_of_pair at (of_map.sound.each place pair
             (subst (λ (all : List Pair). slice_get all place ≡ Some pair) (sym of_map.pairs_are) there)) value_is in
             let key_live = keys cell.at key.0 live (record {
@@ -107,18 +107,29 @@ module _ {heap : Heap} {graph : Graph} (shows : Shows heap graph) where
             })
       ]
 
--- live is closed
+  -- so live is closed
+  closed_from : (cell : Cell) (words : List ℕ) (offset at : ℕ) → IsLive heap starts cell.at → HasCell heap cell words
+      → Contains (scavenge_offsets cell.layout cell.length) offset → HasWord words offset (reference_word at)
+      → IsLive heap starts at
+  closed_from cell words offset at live has visited slot =
+      elim (table_or_not cell.layout.kind) [
+        | inl of_table ↦ pair_live offset at live has of_table visited slot
+        | inr other ↦ IsLive.slot cell.at at live (record {
+          cell = cell;
+          words = words;
+          has = has;
+          stands = refl;
+          offset = offset;
+          visited = subst (λ offsets. Contains offsets offset) (same_offsets cell.layout cell.length other) visited;
+          holds = slot;
+        })
+      ]
+
+-- from given starts, and from roots alone
+pub live_is_closed_from_starts : LiveIsClosedFromStarts
+live_is_closed_from_starts heap given cell words offset at whole no_tables keys live has visited slot =
+    closed_from whole (starts_are_no_tables given whole no_tables) keys cell words offset at live has visited slot
+
 pub live_is_closed : LiveIsClosed
 live_is_closed heap graph cell words offset at shows keys live has visited slot =
-    elim (table_or_not cell.layout.kind) [
-      | inl of_table ↦ pair_live shows offset at keys live has of_table visited slot
-      | inr other ↦ IsLive.slot cell.at at live (record {
-        cell = cell;
-        words = words;
-        has = has;
-        stands = refl;
-        offset = offset;
-        visited = subst (λ offsets. Contains offsets offset) (same_offsets cell.layout cell.length other) visited;
-        holds = slot;
-      })
-    ]
+    closed_from shows.whole (roots_are_no_tables shows.whole) keys cell words offset at live has visited slot

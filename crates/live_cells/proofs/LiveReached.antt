@@ -106,7 +106,7 @@ module _ {heap : Heap} {graph : Graph} (shows : Shows heap graph) where
       (λ free. hole_refers_not key (sym (ap (λ (one : Pair). one.key) free) ∙ entry.key_is)))
 
   -- the value of a pair belongs, where its table and its key do
-  entry_belongs : (table key at : ℕ) → Belongs heap graph table → Belongs heap graph key
+  pub entry_belongs : (table key at : ℕ) → Belongs heap graph table → Belongs heap graph key
       → HasEntry heap table key at → Belongs heap graph at
   entry_belongs table key at (Belongs.itself cell words is stands) key_belongs entry =
       let of_table = kinds_differ kind.Table is.has entry.has (stands ∙ sym entry.stands) entry.of_kind in
@@ -131,7 +131,7 @@ module _ {heap : Heap} {graph : Graph} (shows : Shows heap graph) where
       entry_belongs table key at (live_belongs table live_table) (live_belongs key live_key) entry
 
   -- so it is of an object that can be reached
-  of_reached : (at : ℕ) → Belongs heap graph at → BelongsToReached heap graph at
+  pub of_reached : (at : ℕ) → Belongs heap graph at → BelongsToReached heap graph at
   of_reached at (Belongs.itself cell words is stands) =
       BelongsToReached.place cell.header.object (record {
         cell = cell;

@@ -1,34 +1,31 @@
 -- To what a slot of an object refers that is shown: an object to which it links, or a box.
-use Rattle.std.proofs.Common.{◌≡◌, ℕ, ◌+◌, ◌-◌, ◌<◌, ◌≤◌, inl, inr, Bool, true, false, List, ◌++◌, length, drop, get_or}
+use Rattle.std.proofs.Common.{◌≡◌, ℕ, ◌+◌, ◌≤◌, inl, inr, Bool, true, false, List, ◌++◌, length, drop, get_or}
 use Rattle.std.proofs.Common.{Some, Contains, slice_get, nat_lt, refl, sym, ◌∙◌, ap, subst, arith, length-drop}
-use Rattle.std.proofs.Common.{length-take}
 use Rattle.std.proofs.lemmas.Bool.{false≢true, cases_lt}
 use Rattle.std.proofs.lemmas.Bool.Decides.{nat_tests}
 use Rattle.std.proofs.lemmas.Option.{same_Some, slice_get-get_or, slice_get_within, get_or_from_slice_get}
 use Rattle.std.proofs.lemmas.List.{length-map}
 use Rattle.tagged_word.specs.declared.layout.Kind.TheVariants as kind
-use Rattle.tagged_word.specs.Layouts.{is_raw}
 use Rattle.tagged_word.specs.Cells.{in_object_offsets, store_slot, plain_head}
-use Rattle.tagged_word.proofs.Offsets.{in_object_is}
 use Rattle.heap_model.specs.Types.{LayoutWord, Value, Object, Field, Path, Cell}
 use Rattle.object_graph.specs.declared.value.Value.TheVariants.{Undefined}
 use Rattle.object_graph.specs.declared.value.Rep.TheVariants as rep
 use Rattle.object_graph.specs.declared.object.Object.TheVariants as graph_object
 use Rattle.shape_tree.specs.Shapes.{shape_path}
-use Rattle.shape_tree.specs.ShapeLayouts.{layout_of, in_object_fields}
+use Rattle.shape_tree.specs.ShapeLayouts.{layout_of}
 use Rattle.graph_laws.specs.ReachLaws.{LinksTo}
 use Rattle.heap_model.specs.Heaps.{Heap, HasCell}
 use Rattle.heap_model.specs.Slots.{reference_word, IsPlace, HoldsStore}
 use Rattle.heap_model.specs.Kinds.{HasWord, IsPlainCell, IsListCell, IsSoundOf}
 use Rattle.heap_model.specs.Wholeness.{Whole}
 use Rattle.heap_model.specs.Showing.{ShowsPlain, ShowsList}
-use Rattle.heap_model.proofs.CellWords.{slice_get-drop, slice_get-append_left, slice_get-append_right, words_by_kind}
+use Rattle.heap_model.proofs.CellWords.{slice_get-append_right, words_by_kind}
 use Rattle.heap_model.proofs.OneBeside.{one_beside, one_slots}
 use Rattle.heap_model.proofs.PathLayouts.{layout_is}
-use Rattle.heap_model.proofs.SlotWords.{in_object_not_wide}
 use Rattle.heap_model.proofs.WordClasses.{hole_refers_not}
 use Rattle.heap_moves.proofs.MovedShown.{path_field, path_has}
 use Rattle.live_cells.proofs.ShownTargets.{IsBoxAt, ShownTarget, value_target, field_target}
+use Rattle.live_cells.proofs.StoreSlots.{own_slot}
 
 -- what stands at an address to which a slot of the object refers: an object to which it links, or a box
 pub data LinkTarget (heap : Heap) (marks : ℕ → Bool) (what : Object) (at : ℕ) : Type 0 where
@@ -80,22 +77,10 @@ module _ {heap : Heap} (whole : Whole heap) (marks : ℕ → Bool) where
       let sound : IsPlainCell heap cell words =
       subst (λ kind. IsSoundOf kind heap cell words) shows.of_kind (whole.sound cell words has) in
       let path : Path = shape_path heap.paths cell.header.shape in
-      let laid : cell.layout ≡ layout_of path = layout_is whole.sized has sound.shape in
-      let own = in_object_is cell.layout offset visited in
-      let k : ℕ = offset - plain_head in
-      let used : k < length (in_object_fields path) =
-      subst (λ (layout : LayoutWord). k < layout.used) laid own.used in
-      let below : k < path.cap = omega (arith, length-take path.cap path.fields, used) in
-      let here : HasWord (drop plain_head words) k word =
-      slice_get-drop plain_head words k offset (omega (arith, own.behind)) ∙ slot in
-      let within : k < length (drop plain_head words) = slice_get_within (drop plain_head words) k word here in
-      let in_both : HasWord (drop plain_head words ++ shows.has.beside) k word =
-      slice_get-append_left (drop plain_head words) shows.has.beside k within ∙ here in
-      let stands : HasWord shows.slots k word = subst (λ all. HasWord all k word) (sym shows.has.are) in_both in
-      let tagged = subst (λ (layout : LayoutWord). is_raw layout k ≡ false) laid own.tagged in
-      plain_target cap fields k word at has shows stands
-      (λ field there is_own wide. in_object_not_wide path k (path_field field)
-      (path_has path cap fields k field shows.path there) below tagged wide) refers
+      let own = own_slot offset word whole.sized has sound.shape shows.has visited slot in
+      plain_target cap fields own.at word at has shows own.stands
+      (λ field there is_own wide. own.tagged (path_field field) (path_has path cap fields own.at field shows.path there)
+      wide) refers
 
   -- a slot in the store of a plain object
   pub stored_target : {cell : Cell} {words beside : List ℕ} (cap : ℕ) (fields : List Field) (store k word at : ℕ)

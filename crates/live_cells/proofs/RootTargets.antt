@@ -4,6 +4,7 @@ use Rattle.std.proofs.Common.{subst, arith, ℤ}
 use Rattle.std.specs.FinMap.{get}
 use Rattle.std.proofs.lemmas.Option.{same_Some}
 use Rattle.tagged_word.specs.Words.{small}
+use Rattle.handle_roots.specs.declared.held.Held.TheVariants as held
 use Rattle.handle_roots.specs.Roots.{first_of, first_word}
 use Rattle.object_graph.specs.declared.value.Value.TheVariants.{Ref}
 use Rattle.object_graph.specs.Graphs.{Graph, object_in}
@@ -12,6 +13,7 @@ use Rattle.graph_laws.proofs.Reaches.{reach_has_bound}
 use Rattle.heap_model.specs.Types.{Held, Value}
 use Rattle.heap_model.specs.Heaps.{Heap}
 use Rattle.heap_model.specs.Slots.{reference_word, IsPlace}
+use Rattle.heap_model.specs.Wholeness.{IsHeld, Whole}
 use Rattle.heap_model.specs.Showing.{ShowsHeld, Shows}
 use Rattle.heap_model.proofs.WordClasses.{same_reference, undefined_refers_not, small_refers_not}
 use Rattle.live_cells.specs.Live.{IsRootTarget}
@@ -26,6 +28,21 @@ pub record IsObjectAt (heap : Heap) (bound : Option Value) (at : ℕ) : Type 0 w
 pub integer_refers_not : (is_small : Bool) (v : ℤ) (at : ℕ) → first_of is_small v ≡ reference_word at → ⊥
 integer_refers_not true v at same = small_refers_not v at same
 integer_refers_not false v at same = omega (arith, same)
+
+-- what a variable holds by reference is an object
+held_object : {heap : Heap} (one : Held) (at : ℕ) → IsHeld heap one → first_word one ≡ reference_word at
+    → (number : ℕ) × IsPlace heap number at
+held_object held.Unbound at is refers = absurd (omega (arith, refers))
+held_object held.Undefined at is refers = absurd (undefined_refers_not at refers)
+held_object (held.Int v) at is refers = absurd (integer_refers_not (small v) v at refers)
+held_object {heap} (held.Ref to) at is refers =
+    (is.0, subst (IsPlace heap is.0) (same_reference to at refers) is.1)
+
+-- so a root word refers to objects alone
+pub root_object : {heap : Heap} (at : ℕ) → Whole heap → IsRootTarget heap at → (number : ℕ) × IsPlace heap number at
+root_object at whole target =
+    let root = whole.roots target.variable target.within in
+    held_object root.held at root.is (same_Some _ _ (sym root.holds.first ∙ target.refers))
 
 -- where the first word of what a variable holds refers to an address, the variable is bound to the object there
 held_refers : {heap : Heap} {one : Held} {bound : Option Value} (at : ℕ) → ShowsHeld heap one bound

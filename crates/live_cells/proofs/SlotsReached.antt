@@ -52,7 +52,7 @@ kinds_differ one has has_other same is =
     ap (λ (cell : Cell). cell.layout.kind) (one_at has has_other same) ∙ is
 
 -- of a store, a table and a box marking visits slots of a store alone
-store_slots : (k : Kind) (cell : Cell) (offset : ℕ) → IsOwnedKind k
+pub store_slots : (k : Kind) (cell : Cell) (offset : ℕ) → IsOwnedKind k
     → Contains (tagged_offsets_of k cell.layout cell.length) offset → k ≡ kind.Store
 store_slots kind.Store cell offset owned there = refl
 store_slots kind.Table cell offset owned there = absurd (omega (arith, there.1))

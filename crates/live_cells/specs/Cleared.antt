@@ -23,11 +23,13 @@ pub record HasKey (heap : Heap) (table key : ℕ) : Type 0 where
   pub among : slice_get (pairs_in (drop store_head words)) place ≡ Some pair
   pub key_is : pair.key ≡ reference_word key
 
+-- each key of a table that is live from these starts is
+abbrev pub HasLiveKeysFrom : Heap → (ℕ → Type 0) → Type 0
+HasLiveKeysFrom heap starts = (table key : ℕ) → IsLive heap starts table → HasKey heap table key → IsLive heap starts key
+
 -- each key of a live table is live
 abbrev pub HasLiveKeys : Heap → Type 0
-HasLiveKeys heap =
-    (table key : ℕ) → IsLive heap (IsRootTarget heap) table → HasKey heap table key
-    → IsLive heap (IsRootTarget heap) key
+HasLiveKeys heap = HasLiveKeysFrom heap (IsRootTarget heap)
 
 -- Then what a slot of a live cell refers to is live, also of those that a scavenge visits and marking does not.
 abbrev pub LiveIsClosed : Type 0

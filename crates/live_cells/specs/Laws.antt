@@ -7,7 +7,7 @@ use Rattle.heap_model.specs.Heaps.{Heap}
 use Rattle.heap_model.specs.Slots.{IsPlace}
 use Rattle.heap_model.specs.Wholeness.{NamesFrom}
 use Rattle.heap_model.specs.Showing.{Shows}
-use Rattle.live_cells.specs.Live.{IsLive, IsRootTarget, AreLive}
+use Rattle.live_cells.specs.Live.{HasSlotTo, HasEntry, IsLive, IsRootTarget, AreLive}
 use Rattle.live_cells.specs.Marked.{HasRootTargets, IsMarkClosed}
 
 -- The address is the place of an object that can be reached, or that of a store, a table or a box that the cell of such
@@ -24,6 +24,19 @@ abbrev pub LiveIsReached : Type 0
 LiveIsReached =
     (heap : Heap) (graph : Graph) (at : ℕ) → Shows heap graph → IsLive heap (IsRootTarget heap) at
     → BelongsToReached heap graph at
+
+-- Where a heap shows a graph, what a slot refers to that marking visits belongs to an object that can be reached, if the
+-- slot's cell does.
+abbrev pub ReachedSlotsLeadOn : Type 0
+ReachedSlotsLeadOn =
+    (heap : Heap) (graph : Graph) (from at : ℕ) → Shows heap graph → BelongsToReached heap graph from
+    → HasSlotTo heap from at → BelongsToReached heap graph at
+
+-- So does the value of a pair of a weak table, if the table and the key do.
+abbrev pub ReachedEntriesLeadOn : Type 0
+ReachedEntriesLeadOn =
+    (heap : Heap) (graph : Graph) (table key at : ℕ) → Shows heap graph → BelongsToReached heap graph table
+    → BelongsToReached heap graph key → HasEntry heap table key at → BelongsToReached heap graph at
 
 -- Where a heap shows a graph, a set of addresses that has what root words refer to and is closed has each place of what
 -- can be reached.

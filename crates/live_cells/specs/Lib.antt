@@ -5,6 +5,7 @@ pub mod Laws
 pub mod Counts
 pub mod Keeping
 pub mod Cleared
+pub mod Starts
 pub mod Fitting
 pub mod Census
 pub mod Counting

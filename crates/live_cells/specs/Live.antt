@@ -1,5 +1,5 @@
 -- Which cells of a heap are live.
-use Rattle.std.specs.Prelude.{◌≡◌, ℕ, ◌<◌, ◌↔◌, List, Contains, Some, slice_get, drop}
+use Rattle.std.specs.Prelude.{◌≡◌, ◌≢◌, ℕ, ◌<◌, ◌↔◌, List, Contains, Some, slice_get, drop}
 use Rattle.tagged_word.specs.declared.layout.Kind.TheVariants as kind
 use Rattle.tagged_word.specs.Cells.{tagged_offsets, store_head}
 use Rattle.handle_roots.specs.Roots.{root_at}
@@ -46,6 +46,20 @@ pub record IsRootTarget (heap : Heap) (at : ℕ) : Type 0 where
   pub within : variable < heap.space.variables
   pub refers : slice_get heap.words (root_at heap.space variable) ≡ Some (reference_word at)
 
+-- A marking may start at the address: a root word refers to it, or it is one of those that the marking was given.
+pub data IsStart (heap : Heap) (given : List ℕ) (at : ℕ) : Type 0 where
+  root : IsRootTarget heap at → IsStart heap given at
+  among : Contains given at → IsStart heap given at
+
+-- no weak table stands at one of these addresses
+abbrev pub AreNoTables : Heap → (ℕ → Type 0) → Type 0
+AreNoTables heap starts =
+    (cell : Cell) (words : List ℕ) → HasCell heap cell words → starts cell.at → cell.layout.kind ≢ kind.Table
+
+-- these are the addresses of the cells that are live where those at the starts are
+abbrev pub AreLiveFrom : Heap → (ℕ → Type 0) → List ℕ → Type 0
+AreLiveFrom heap starts marked = (at : ℕ) → Contains marked at ↔ IsLive heap starts at
+
 -- these are the addresses of the live cells
 abbrev pub AreLive : Heap → List ℕ → Type 0
-AreLive heap marked = (at : ℕ) → Contains marked at ↔ IsLive heap (IsRootTarget heap) at
+AreLive heap marked = AreLiveFrom heap (IsRootTarget heap) marked

@@ -7,13 +7,16 @@ ghost use Rattle.live_cells.specs.Fitting.{NoRunFitsNone, RunsFit, SweptDeadIsFr
 ghost use Rattle.live_cells.specs.Keeping.{MovesForReached, LiveIsForReached, SweptKeepsNoOther};
 ghost use Rattle.live_cells.specs.Keeping.{MovedKeepsNoOther, TightIsExact, MovedIsExact};
 ghost use Rattle.live_cells.specs.Laws.{LiveIsReached, ReachedIsMarked, ReachedIsLive};
+ghost use Rattle.live_cells.specs.Laws.{ReachedSlotsLeadOn, ReachedEntriesLeadOn};
+ghost use Rattle.live_cells.specs.Starts.{MapsTellFromStarts, LiveIsClosedFromStarts, TakenPairsLeaveStarts};
 
 /// A cell that is live from what root words refer to is the place of an object that can be reached,
 /// or a store, a table or a box that such an object names. A set of addresses that has what root
 /// words refer to, and what its cells lead to, has the place of each object that can be reached; so
 /// a list of just the live cells has it. Where each key of a live weak map is live, so is each key of
 /// a live table; and then what any slot of a live cell refers to is live. The same cells are live
-/// where pairs of weak maps were taken away whose key is not.
+/// where pairs of weak maps were taken away whose key is not. What belongs to objects that can be
+/// reached is closed, along slots that marking visits and along pairs of weak tables.
 pub fn laws_of_live_cells()
     ensures live { LiveIsReached }
     ensures marked { ReachedIsMarked }
@@ -21,6 +24,17 @@ pub fn laws_of_live_cells()
     ensures maps { LiveMapsTell }
     ensures closed { LiveIsClosed }
     ensures taken { TakenPairsLeaveLive }
+    ensures slots { ReachedSlotsLeadOn }
+    ensures entries { ReachedEntriesLeadOn }
+{}
+
+/// Of what is live from root words and from cells that a marking was given, none of them a weak
+/// table, the same holds: keys of live maps tell of those of live tables, what is live is closed
+/// then, and pairs that are taken away leave it as it is.
+pub fn laws_of_starts()
+    ensures maps { MapsTellFromStarts }
+    ensures closed { LiveIsClosedFromStarts }
+    ensures taken { TakenPairsLeaveStarts }
 {}
 
 /// A weak map that can be reached has at least as many pairs as entries whose key can be reached. In

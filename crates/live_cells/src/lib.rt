@@ -9,4 +9,6 @@
 
 mod laws;
 
-pub use laws::{laws_of_counts, laws_of_exact_heaps, laws_of_fitting, laws_of_live_cells};
+pub use laws::{
+    laws_of_counts, laws_of_exact_heaps, laws_of_fitting, laws_of_live_cells, laws_of_starts,
+};

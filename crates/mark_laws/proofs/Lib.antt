@@ -23,7 +23,7 @@ pub mod Named
 pub mod Blacks
 pub mod StoredSlots
 pub mod SettledSlots
-mod BlackLeads
+pub mod BlackLeads
 pub mod Blackness
 pub mod Drained
 pub mod Slots

@@ -14,9 +14,7 @@ use Rattle.heap_model.specs.Slots.{undefined_word, HoldsStore}
 use Rattle.heap_model.specs.Kinds.{HasTable, IsSoundOf}
 use Rattle.heap_model.specs.Showing.{ShowsObject}
 use Rattle.object_cells.proofs.RunCells.{bare_layout}
-use Rattle.mutator.specs.Making.{empty_counted, shape_of_counted}
-use Rattle.mutator.specs.declared.making.Counted.{Counted}
-use Rattle.mutator.specs.declared.making.Counted.TheVariants as counted
+use Rattle.mutator.specs.Making.{CountedCell, empty_counted, shape_of_counted}
 use Rattle.mutator.proofs.NewCells.{NewCell, cell_of, RefersNowhere, CountsNone}
 
 -- what such a cell is made of
@@ -104,20 +102,20 @@ weak_is_counted = record {
 }
 
 -- the kind of the own cell of such an object
-abbrev pub kind_of_counted : Counted → Kind
-kind_of_counted counted.List = kind.List
-kind_of_counted counted.Weak = kind.Weak
+abbrev pub kind_of_counted : CountedCell → Kind
+kind_of_counted CountedCell.list = kind.List
+kind_of_counted CountedCell.weak = kind.Weak
 
 -- the object, without elements or entries
-abbrev pub object_of_counted : Counted → Object
-object_of_counted counted.List = ListOf []
-object_of_counted counted.Weak = Weak []
+abbrev pub object_of_counted : CountedCell → Object
+object_of_counted CountedCell.list = ListOf []
+object_of_counted CountedCell.weak = Weak []
 
 -- its cell is one of these
-pub is_counted : (counted : Counted) → IsCountedKind (kind_of_counted counted) (shape_of_counted counted)
+pub is_counted : (counted : CountedCell) → IsCountedKind (kind_of_counted counted) (shape_of_counted counted)
     (object_of_counted counted)
-is_counted counted.List = list_is_counted
-is_counted counted.Weak = weak_is_counted
+is_counted CountedCell.list = list_is_counted
+is_counted CountedCell.weak = weak_is_counted
 
 -- then it is the cell of an object without a store or a table
 pub counted_fresh : {k : Kind} {shape : ℕ} {what : Object} (header : Header) → IsCountedKind k shape what

@@ -27,6 +27,7 @@ use Rattle.mutator.specs.CarriesOut.{Carries}
 use Rattle.mutator.specs.Reading.{IsFound}
 use Rattle.mutator.proofs.KnownObjects.{IsKnown, known_found, change_carried}
 use Rattle.mutator.proofs.FieldMeanings.{reshape_done, reshape_full, del_known}
+use Rattle.mutator.proofs.ChangedWords.{still_keeps}
 use Rattle.mutator.proofs.KeptStores.{keeps_still}
 use Rattle.heap_model.specs.Needs.{capacity_at}
 use Rattle.mutator.proofs.CommandRooms.{keeps_object}
@@ -87,18 +88,20 @@ taken_by : {old main new : Mutator} {graph : Graph} {x at : ℕ} (names : List (
 taken_by {main = main} {new} {graph} {x} names f None same taking is taken =
     let plain = taking.plain in
     let still = shows_still (taken.none is) taking.shows in
-    subst (λ main. Carries names main new graph (Del x f) [] (Ok tt)) same (
-      graph,
-      del_known names f taking.known
-          ∙ ap (λ one. reshape_if ideal_limits graph plain one (without_field plain.fields f)) is,
-      still,
-      λ rooms has. record {
+    subst (λ main. Carries names main new graph (Del x f) [] (Ok tt)) same
+    (record {
+      after = graph;
+      means = del_known names f taking.known
+          ∙ ap (λ one. reshape_if ideal_limits graph plain one (without_field plain.fields f)) is;
+      shows = still;
+      takes = λ rooms has. record {
         room = room_for_none taking.shows;
         uses = taken.uses;
         stores = keeps_still (Del x f) (taken.none is) taking.shows still has (λ number marked. marked) refl
             (λ number. refl);
-      },
-    )
+      };
+      words = still_keeps graph (Del x f) (taken.none is);
+    })
 taken_by {main = main} {graph = graph} {x} {at} names f (Some value) same taking is taken =
     let plain = taking.plain in
     let fields = without_field plain.fields f in
@@ -106,7 +109,7 @@ taken_by {main = main} {graph = graph} {x} {at} names f (Some value) same taking
     change_carried names same taking.shows taken.shows.shows
     (del_known names f taking.known ∙ ap (λ one. reshape_if ideal_limits graph plain one fields) is
     ∙ reshape_done graph plain fields taken.shows.paths taken.shows.added)
-    refl taken.changes (room_for_none taking.shows) taken.uses (λ rooms has. refl)
+    refl taking.known.bound stands.place taken.changes (room_for_none taking.shows) taken.uses (λ rooms has. refl)
     (λ rooms one fewer.
     keeps_object one fewer (Del x f) (Plain plain.cap fields) (capacity_at (heap_of main) at) refl stands.object
     stands.reached stands.place refl (one.has plain.number at _ stands.object stands.reached stands.place)

@@ -2,10 +2,12 @@
 use Rattle.std.proofs.Common.{◌≡◌, ℕ, List, [], Option, Some, None, Ok, ◌∙◌, ap, subst}
 use Rattle.std.specs.Prelude.{option_and_then}
 use Rattle.std.specs.FinMap.{get}
+use Rattle.graph_laws.specs.Laws.{MayChange}
 use Rattle.graph_laws.specs.ReachAfter.{made_for}
 use Rattle.heap_model.specs.Types.{Command, Value, Object}
 use Rattle.heap_model.specs.Laws.{ReachesNoMore}
 use Rattle.heap_model.specs.Rooms.{Room, HasRooms, need_of}
+use Rattle.heap_model.specs.Slots.{IsPlace}
 use Rattle.nursery.specs.Young.{HasRoom}
 use Rattle.object_cells.specs.Capacities.{ChangesObject}
 use Rattle.object_cells.specs.Uses.{UsesMore}
@@ -15,6 +17,7 @@ use Rattle.object_graph.specs.Meaning.{done, meaning}
 use Rattle.write_barrier.specs.MutatorState.{Mutator, heap_of, MainShows}
 use Rattle.mutator.specs.Capacities.{KeepsStores}
 use Rattle.mutator.specs.CarriesOut.{Carries}
+use Rattle.mutator.proofs.ChangedWords.{object_keeps}
 use Rattle.mutator.proofs.KeptStores.{IsAfter}
 use Rattle.mutator.proofs.Rebinding.{reaches_no_more}
 
@@ -38,26 +41,29 @@ pub known_is : {Kind : Type 0} {as_kind : ℕ → Object → Option Kind} {graph
 known_is {as_kind = as_kind} {graph} known =
     ap (option_and_then (found_at as_kind graph.objects)) known.bound ∙ known.refers
 
--- A command that makes nothing is carried out where its call changes one object so that the heap shows what the command
--- means, and takes the words that the command needs.
-pub change_carried : {old main new : Mutator} {graph after : Graph} {command : Command} {at capacity need : ℕ}
+-- A command that makes nothing is carried out where its call changes the object that it names so that the heap shows
+-- what the command means, and takes the words that the command needs.
+pub change_carried : {old main new : Mutator} {graph after : Graph} {command : Command} {number at capacity need : ℕ}
     (names : List (List ℕ)) → main ≡ old → MainShows main graph → MainShows new after
     → meaning ideal_limits names graph command ≡ done after [] → made_for command ≡ None
+    → MayChange graph command number → IsPlace (heap_of main) number at
     → ChangesObject (heap_of main) (heap_of new) at capacity → HasRoom main.young need → UsesMore main new need
     → ((rooms : ℕ → Room) → HasRooms (heap_of main) graph rooms → need ≡ need_of graph rooms command)
     → ((rooms : ℕ → Room) → IsAfter main new graph after rooms → ReachesNoMore graph after
     → KeepsStores (heap_of main) (heap_of new) graph after command rooms)
     → Carries names old new graph command [] (Ok tt)
-change_carried {main = main} {new} {graph} {after} {command} names same shows shown means none changes room uses needs
-    keeps =
-    subst (λ main. Carries names main new graph command [] (Ok tt)) same (
-      after,
-      means,
-      shown,
-      λ rooms has. record {
+change_carried {main = main} {new} {graph} {after} {command} names same shown shows means none may place changes room
+    uses needs keeps =
+    subst (λ main. Carries names main new graph command [] (Ok tt)) same
+    (record {
+      after = after;
+      means = means;
+      shows = shows;
+      takes = λ rooms has. record {
         room = subst (HasRoom main.young) (needs rooms has) room;
         uses = subst (UsesMore main new) (needs rooms has) uses;
-        stores = keeps rooms (record { shows = shows; shown = shown; has = has; stays = changes.stays })
-            (reaches_no_more names command [] shows means none);
-      },
-    )
+        stores = keeps rooms (record { shows = shown; shown = shows; has = has; stays = changes.stays })
+            (reaches_no_more names command [] shown means none);
+      };
+      words = object_keeps may place changes.words;
+    })

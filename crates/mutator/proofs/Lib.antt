@@ -2,6 +2,7 @@ pub mod HeldValues
 pub mod StillShown
 pub mod CellKinds
 pub mod ObjectsAt
+mod ChangedWords
 pub mod Rebinding
 pub mod Unbinding
 pub mod IntegerSums

@@ -16,9 +16,7 @@ use Rattle.write_barrier.specs.MutatorState.{Mutator, MainShows}
 use Rattle.mutator.proofs.EmptyCells.{no_fields, plain_cell, plain_fresh, plain_laid, IsEmptyCell, empty_is_sound}
 use Rattle.mutator.proofs.EmptyCells.{empty_shows}
 use Rattle.mutator.proofs.EmptyCounted.{IsCountedKind, counted_cell, counted_fresh, object_of_counted}
-use Rattle.mutator.specs.Making.{making_of}
-use Rattle.mutator.specs.declared.making.Counted.{Counted}
-use Rattle.mutator.specs.declared.making.Counted.TheVariants as counted
+use Rattle.mutator.specs.Making.{CountedCell, making_of}
 use Rattle.mutator.proofs.NewCells.{cell_of, CountsNone}
 use Rattle.object_cells.specs.Contents.{next_at}
 use Rattle.mutator.proofs.PutCells.{with_cell_words}
@@ -37,11 +35,11 @@ plain_making graph x cap few = record {
 }
 
 -- what `list` makes, or `weak`
-pub counted_making : (graph : Graph) (counted : Counted) (x : ℕ)
+pub counted_making : (graph : Graph) (counted : CountedCell) (x : ℕ)
     → IsMaking graph (making_of counted x) x 3 (object_of_counted counted)
-counted_making graph counted.List x =
+counted_making graph CountedCell.list x =
     record { fits = tt; done = λ names. refl; need = λ rooms. refl; gives = λ rooms number. refl }
-counted_making graph counted.Weak x =
+counted_making graph CountedCell.weak x =
     record { fits = tt; done = λ names. refl; need = λ rooms. refl; gives = λ rooms number. refl }
 
 -- the layout word of a shape of paths is that of plain cells, so the cell of a plain object without fields is made

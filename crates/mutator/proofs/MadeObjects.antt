@@ -42,6 +42,7 @@ use Rattle.object_cells.proofs.UnusedWords.{run_before_marks}
 use Rattle.mutator.specs.CarriesOut.{Carries}
 use Rattle.mutator.specs.Making.{new_touch}
 use Rattle.mutator.proofs.NewCells.{NewCell, cell_of}
+use Rattle.mutator.proofs.ChangedWords.{making_keeps}
 use Rattle.mutator.proofs.MadeRecords.{new_touches}
 use Rattle.mutator.proofs.MadeRooms.{MakesOne, makes_one, keeps_made}
 use Rattle.mutator.proofs.PutCells.{IsPutCell, with_cell_put}
@@ -258,11 +259,12 @@ module _ {old mid filled new : Mutator} {graph : Graph} {command : Command} {x a
   making_carried names =
       let makes_it : MakesOne (heap_of old) (heap_of new) what =
       subst (λ heap. MakesOne (heap_of old) heap what) (sym (bound_heap makes))
-      (makes_one x refers what shows.shows.whole made.fits.fresh put made.counts below) in (
-        make graph x what,
-        making.done names,
-        made_main,
-        λ rooms has. record {
+      (makes_one x refers what shows.shows.whole made.fits.fresh put made.counts below) in
+      record {
+        after = make graph x what;
+        means = making.done names;
+        shows = made_main;
+        takes = λ rooms has. record {
           room = subst (HasRoom old.young) (sym (making.need rooms)) room;
           uses = subst (UsesMore old new) (sym (making.need rooms)) made_uses;
           stores = keeps_made command what (record {
@@ -271,8 +273,9 @@ module _ {old mid filled new : Mutator} {graph : Graph} {command : Command} {x a
             has = has;
             stays = makes_it.stays;
           }) (reaches_one_more shows.is_graph making) refl (making.gives rooms) makes_it;
-        },
-      )
+        };
+        words = making_keeps graph command x refers made.fits below (bound_heap makes);
+      }
 
 -- where there is no room for the cell, the command stops with what it needs
 pub making_stopped : {main new : Mutator} {graph : Graph} {command : Command} {x size : ℕ} {what : Object}

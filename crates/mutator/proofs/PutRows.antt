@@ -1,11 +1,10 @@
 -- Words that are put in a row, where a cell is made: its header, its slot for a store, and what is behind them.
-use Rattle.std.proofs.Common.{◌≡◌, ℕ, ◌+◌, ◌≤◌, ◌<◌, inl, inr, List, ◌∷◌, ◌∙◌, sym, ap, subst, arith}
+use Rattle.std.proofs.Common.{◌≡◌, ℕ, ◌+◌, ◌≤◌, inl, inr, List, ◌∷◌, ◌∙◌, sym, ap, subst, arith}
 use Rattle.std.proofs.Common.{length, length-set, slice_get}
 use Rattle.std.specs.Prelude.{slice_set}
 use Rattle.page_space.specs.Extents.{marks_start}
 use Rattle.tagged_word.specs.Cells.{store_slot}
 use Rattle.heap_table.specs.Seats.{Seat, heap_words}
-use Rattle.heap_table.proofs.HeapWords.{heap_words-put}
 use Rattle.heap_model.specs.Remembered.{Touch}
 use Rattle.write_barrier.specs.MutatorState.{Mutator, forgets, with_slot, with_table, with_word}
 use Rattle.write_barrier.specs.Recording.{Touches, touched, touched_one, touched_then}
@@ -50,10 +49,8 @@ module _ {main mid next : Mutator} {at first second : ℕ} (puts : PutsTwo main 
       let one : marks_start mid.seat.space ≡ marks_start main.seat.space =
       ap (λ (now : Mutator). marks_start now.seat.space) puts.one in
       let two : marks_start next.seat.space ≡ marks_start mid.seat.space =
-      ap (λ (now : Mutator). marks_start now.seat.space) puts.two in
-      let below : at + store_slot < marks_start mid.seat.space = omega (arith, puts.within, one) in (
+      ap (λ (now : Mutator). marks_start now.seat.space) puts.two in (
         ap (λ (now : Mutator). length (heap_words now.seat)) puts.two
-            ∙ ap length (heap_words-put mid.seat (at + store_slot) second below)
             ∙ length-set (heap_words mid.seat) (at + store_slot) second ∙ puts.counted ∙ sym two,
         two ∙ one,
       )

@@ -37,6 +37,7 @@ use Rattle.object_cells.proofs.RestOfWords.{variable_beside}
 use Rattle.object_cells.proofs.TakenRuns.{bumped_none}
 use Rattle.mutator.specs.Binding.{Binds}
 use Rattle.mutator.specs.CarriesOut.{Carries}
+use Rattle.mutator.proofs.ChangedWords.{rebound_keeps}
 use Rattle.mutator.proofs.KeptStores.{keeps_bound}
 
 -- a variable was made to hold a value, and only its root words changed
@@ -153,19 +154,22 @@ pub binding_carried : {old new : Mutator} {graph : Graph} (after : Graph) (names
     → made_for command ≡ None → FitsCommand command → BindsAnew graph after x → x < old.seat.space.variables
     → FitsHeld one → ShowsHeld (heap_of old) one (get after.bindings x) → HoldsAnew old new x one
     → NeedsNone graph command → Carries names old new graph command [] (Ok tt)
-binding_carried {old} {new} after names command x one shows carried none fits anew below held_fits shown holds no_need
-    = let shown_after =
-    rebound_shows names command [] x one shows carried none fits anew below held_fits shown holds in (
-      after,
-      carried,
-      shown_after,
-      λ rooms has. record {
+binding_carried {old} {new} {graph} after names command x one shows carried none fits anew below held_fits shown holds
+    no_need =
+    let shown_after =
+    rebound_shows names command [] x one shows carried none fits anew below held_fits shown holds in
+    record {
+      after = after;
+      means = carried;
+      shows = shown_after;
+      takes = λ rooms has. record {
         room = subst (HasRoom old.young) (sym (no_need rooms).0) (room_for_none shows);
         uses = subst (UsesMore old new) (sym (no_need rooms).0) (uses_none x one holds below);
         stores = keeps_bound command x one below (heap_bound x one holds) shows shown_after has
             (reaches_no_more names command [] shows carried none) anew.objects (no_need rooms).1;
-      },
-    )
+      };
+      words = rebound_keeps graph command x one below (heap_bound x one holds);
+    }
 
 -- so is one that binds a variable to a value that is held, on a heap that is the same as before
 pub value_carried : {old now new : Mutator} {graph : Graph} {command : Command} {value : Value} (names : List (List ℕ))

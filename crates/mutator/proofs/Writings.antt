@@ -10,6 +10,7 @@ use Rattle.object_cells.specs.Uses.{UsesMore}
 use Rattle.object_cells.proofs.TakenRuns.{bumped_none}
 use Rattle.object_cells.proofs.RestOfWords.{same_rest}
 use Rattle.mutator.specs.CarriesOut.{Carries}
+use Rattle.mutator.proofs.ChangedWords.{still_keeps}
 use Rattle.mutator.proofs.KeptStores.{keeps_still}
 use Rattle.mutator.proofs.Rebinding.{NeedsNone, room_for_none}
 use Rattle.mutator.proofs.StillShown.{shows_still}
@@ -27,14 +28,15 @@ uses_none_still {old} same = record {
 pub writing_carried : {old new : Mutator} {graph : Graph} (names : List (List ℕ)) (command : Command) (text : List ℕ)
     → new ≡ old → MainShows old graph → meaning ideal_limits names graph command ≡ done graph text
     → NeedsNone graph command → Carries names old new graph command text (Ok tt)
-writing_carried {old} {new} {graph} names command text same shows carried no_need = (
-  graph,
-  carried,
-  shows_still same shows,
-  λ rooms has. record {
+writing_carried {old} {new} {graph} names command text same shows carried no_need = record {
+  after = graph;
+  means = carried;
+  shows = shows_still same shows;
+  takes = λ rooms has. record {
     room = subst (HasRoom old.young) (sym (no_need rooms).0) (room_for_none shows);
     uses = subst (UsesMore old new) (sym (no_need rooms).0) (uses_none_still same);
     stores = keeps_still command same shows (shows_still same shows) has (λ number marked. marked) refl
         (no_need rooms).1;
-  },
-)
+  };
+  words = still_keeps graph command same;
+}

@@ -9,6 +9,7 @@ use Rattle.heap_model.specs.Rooms.{Room, HasRooms, need_of, FindsMapFull}
 use Rattle.write_barrier.specs.MutatorState.{Mutator, heap_of, MainShows}
 use Rattle.object_cells.specs.Uses.{UsesMore}
 use Rattle.mutator.specs.Capacities.{KeepsStores}
+use Rattle.mutator.specs.Changing.{KeepsOtherWords}
 use Rattle.mutator.specs.declared.stop.Stop.{Stop}
 use Rattle.mutator.specs.declared.stop.Stop.TheVariants.{Fault, NoRoom, NoClear}
 
@@ -23,14 +24,21 @@ pub record TakesRoom (old new : Mutator) (graph after : Graph) (command : Comman
   pub uses : UsesMore old new (need_of graph rooms command)
   pub stores : KeepsStores (heap_of old) (heap_of new) graph after command rooms
 
--- The call carried the command out, and wrote the text: the heap then shows what the command means, and the words
--- that it needs were taken. It stops exactly where the meaning is a fault, or where there is none and the words are not
--- there where cells are made; or where a weak map is full of pairs, of which some may wait to be cleared, so that the
--- meaning may be a fault or not. All three change nothing.
+-- The call carried the command out, and wrote the text: the heap then shows what the command means, the words that it
+-- needs were taken, and no other words have changed but those of the object that it may change.
+pub record HasCarriedOut (names : List (List ℕ)) (old new : Mutator) (graph : Graph) (command : Command)
+    (text : List ℕ) : Type 0 where
+  pub after : Graph
+  pub means : meaning ideal_limits names graph command ≡ done after text
+  pub shows : MainShows new after
+  pub takes : (rooms : ℕ → Room) → HasRooms (heap_of old) graph rooms → TakesRoom old new graph after command rooms
+  pub words : KeepsOtherWords (heap_of old) (heap_of new) graph command
+
+-- The call carried the command out, or it stops: exactly where the meaning is a fault, or where there is none and the
+-- words are not there where cells are made; or where a weak map is full of pairs, of which some may wait to be cleared,
+-- so that the meaning may be a fault or not. All three change nothing.
 abbrev pub Carries : List (List ℕ) → Mutator → Mutator → Graph → Command → List ℕ → Result Unit Stop → Type 0
-Carries names old new graph command text (Ok _) =
-    (after : Graph) × (meaning ideal_limits names graph command ≡ done after text) × MainShows new after
-    × ((rooms : ℕ → Room) → HasRooms (heap_of old) graph rooms → TakesRoom old new graph after command rooms)
+Carries names old new graph command text (Ok _) = HasCarriedOut names old new graph command text
 Carries names old new graph command text (Err (Fault word)) =
     (meaning ideal_limits names graph command ≡ fault word) × (new ≡ old)
 Carries names old new graph command text (Err (NoRoom need)) =

@@ -1,3 +1,4 @@
+pub mod Changing
 pub mod CarriesOut
 pub mod Reading
 pub mod Kinds

@@ -4,8 +4,6 @@ use Rattle.tagged_word.specs.Cells.{store_slot}
 use Rattle.heap_model.specs.Types.{Command, Header}
 use Rattle.heap_command.specs.declared.command.Command.TheVariants as command
 use Rattle.tagged_word.specs.Shapes.{list_shape, weak_shape}
-use Rattle.mutator.specs.declared.making.Counted.{Counted}
-use Rattle.mutator.specs.declared.making.Counted.TheVariants.{List as ListOf, Weak}
 use Rattle.tagged_word.specs.Headers.{header_bits}
 use Rattle.heap_model.specs.Remembered.{Touch}
 use Rattle.heap_model.specs.Slots.{undefined_word, hole_word}
@@ -27,12 +25,17 @@ new_touch size at =
     touched_then (touched_then (touched_one Touch.Wiped at) (touched_one Touch.Stored (at + store_slot)))
     (touched Touch.Wiped (at + 2) (at + size))
 
+-- the own cell of a list, or of a weak map: it has a count, and a slot for a store or a table
+pub data CountedCell : Type 0 where
+  list : CountedCell
+  weak : CountedCell
+
 -- the shape of a list's own cell, or of a weak map's
-abbrev pub shape_of_counted : Counted → ℕ
-shape_of_counted ListOf = list_shape
-shape_of_counted Weak = weak_shape
+abbrev pub shape_of_counted : CountedCell → ℕ
+shape_of_counted list = list_shape
+shape_of_counted weak = weak_shape
 
 -- the command that binds a variable to a new list, or to a new weak map
-abbrev pub making_of : Counted → ℕ → Command
-making_of ListOf x = command.List x
-making_of Weak x = command.Weak x
+abbrev pub making_of : CountedCell → ℕ → Command
+making_of list x = command.List x
+making_of weak x = command.Weak x

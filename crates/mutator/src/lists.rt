@@ -8,7 +8,7 @@ ghost use Rattle.mutator.specs.Binding.{Binds, BindsMade};
 ghost use Rattle.mutator.specs.CarriesOut.{Carries, field_numbers};
 
 use crate::lookups::{find_list, integer, operand, operands};
-use crate::making::{Counted, new_counted};
+use crate::making::{ListCell, new_counted};
 use crate::stop::Stop;
 use heap_command::{Command, Operand};
 use write_barrier::Main;
@@ -26,7 +26,7 @@ pub fn new_list(main: &mut Main, x: u32, object: u32) -> Result<(), Stop>
         Carries names main.old main.new graph (Command.List x) [] result }
     ensures binds { OnOk result (BindsMade main.old main.new x) }
 {
-    new_counted(main, x, Counted::List, object)
+    new_counted::<ListCell>(main, x, object)
 }
 
 /// Makes the value the last element of the list `x`.

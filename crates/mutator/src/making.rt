@@ -24,25 +24,44 @@ use write_barrier::Main;
 /// its length or count.
 const COUNTED_WORDS: u32 = 3;
 
-/// An object whose own cell has a count, and a slot for what stands in another cell.
-#[derive(Clone, Copy)]
-pub(crate) enum Counted {
-    /// A list: its length, and the store of its elements.
-    List,
-    /// A weak map: the count of its pairs, and their table.
-    Weak,
+/// An object whose own cell has a count, and a slot for what stands in another cell. It is a type: so `new_counted` is
+/// compiled for each of the two, and inlined where it is called. A value would be told apart at each `list` of a loop.
+pub(crate) trait Counted {
+    ghost use Rattle.mutator.specs.Making.{CountedCell};
+
+    // Which of the two it is.
+    ghost which: { CountedCell };
+
+    /// The shape of its own cell.
+    fn shape() -> u32
+        ensures { result ≡ shape_of_counted which };
 }
 
-impl Counted {
-    /// The shape of its own cell.
+/// A list: its length, and the store of its elements.
+pub(crate) struct ListCell;
+
+impl Counted for ListCell {
+    ghost use Rattle.mutator.specs.Making.{CountedCell};
+
+    ghost which = { CountedCell.list };
+
     #[inline(always)]
-    fn shape(self) -> u32
-        ensures { result ≡ shape_of_counted self }
-    {
-        match self {
-            Counted::List => shape::LIST,
-            Counted::Weak => shape::WEAK,
-        }
+    fn shape() -> u32 {
+        shape::LIST
+    }
+}
+
+/// A weak map: the count of its pairs, and their table.
+pub(crate) struct WeakCell;
+
+impl Counted for WeakCell {
+    ghost use Rattle.mutator.specs.Making.{CountedCell};
+
+    ghost which = { CountedCell.weak };
+
+    #[inline(always)]
+    fn shape() -> u32 {
+        shape::WEAK
     }
 }
 
@@ -92,22 +111,17 @@ fn fill_plain(main: &mut Main, at: u32, header: Header, cap: u32)
 ///
 /// Stops with `NoRoom` where there is no room for the cell's three words.
 #[inline(always)]
-pub(crate) fn new_counted(
-    main: &mut Main,
-    x: u32,
-    counted: Counted,
-    object: u32,
-) -> Result<(), Stop>
+pub(crate) fn new_counted<C: Counted>(main: &mut Main, x: u32, object: u32) -> Result<(), Stop>
     requires shown { (graph : Graph) × MainShows main.old graph × (object ≡ length graph.objects) }
     requires within { x < main.old.seat.space.variables }
     ensures carried { (graph : Graph) (names : List (List ℕ)) → MainShows main.old graph →
         object ≡ length graph.objects →
-        Carries names main.old main.new graph (making_of counted x) [] result }
+        Carries names main.old main.new graph (making_of C.which x) [] result }
     ensures binds { OnOk result (BindsMade main.old main.new x) }
 {
     let run = main.reserve(COUNTED_WORDS)?;
     let header = Header {
-        shape: counted.shape(),
+        shape: C::shape(),
         object,
     };
     fill_counted(main, run.at, header);

@@ -8,7 +8,7 @@ ghost use Rattle.mutator.specs.Binding.{Binds, BindsMade};
 ghost use Rattle.mutator.specs.CarriesOut.{AsksWhereFull, Carries, field_numbers};
 
 use crate::lookups::{find_weak_map, key, operand, operands};
-use crate::making::{Counted, new_counted};
+use crate::making::{WeakCell, new_counted};
 use crate::stop::Stop;
 use handle_roots::Held;
 use heap_command::{Command, Operand};
@@ -27,7 +27,7 @@ pub fn new_weak(main: &mut Main, x: u32, object: u32) -> Result<(), Stop>
         Carries names main.old main.new graph (Command.Weak x) [] result }
     ensures binds { OnOk result (BindsMade main.old main.new x) }
 {
-    new_counted(main, x, Counted::Weak, object)
+    new_counted::<WeakCell>(main, x, object)
 }
 
 /// Gives the entry of the key `k` in the weak map `m` the value.

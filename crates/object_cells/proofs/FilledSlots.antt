@@ -1,13 +1,12 @@
 -- Which words are written where a slot is filled: those of the slot and of a box that is made, or the integer of the
 -- box that stands there.
 use Rattle.std.proofs.Common.{◌≡◌, ℕ, ◌+◌, ◌<◌, List, Option, Some, None, Bool, true, false, not, ◌&&◌, ℤ}
-use Rattle.std.proofs.Common.{slice_get, set, refl, sym, ◌∙◌, ap, arith}
+use Rattle.std.proofs.Common.{slice_get, set, refl, sym, ◌∙◌, ap}
 use Rattle.std.specs.Prelude.{slice_set}
 use Rattle.std.proofs.lemmas.Bool.{false≢true}
 use Rattle.std.proofs.lemmas.List.{set-get_or}
 use Rattle.std.proofs.lemmas.Option.{get_or_from_slice_get}
 use Rattle.tagged_word.specs.Words.{small}
-use Rattle.tagged_word.specs.Headers.{header_bits}
 use Rattle.heap_model.specs.Types.{Value, Rep, Held}
 use Rattle.object_graph.specs.declared.value.Rep.TheVariants as rep
 use Rattle.page_space.specs.Extents.{marks_start}
@@ -18,7 +17,6 @@ use Rattle.heap_model.specs.Heaps.{Heap}
 use Rattle.heap_model.specs.Slots.{raw_word, reference_word, IsSlotWord}
 use Rattle.heap_model.specs.Needs.{box_need, box_words, is_box_word, word_at}
 use Rattle.write_barrier.specs.MutatorState.{Mutator, heap_of, reserved, with_word, with_slot, IsTied}
-use Rattle.object_cells.specs.Formats.{box_header}
 use Rattle.object_cells.specs.declared.content.SlotContent.{SlotContent}
 use Rattle.object_cells.specs.declared.content.SlotContent.TheVariants as content
 use Rattle.object_cells.specs.Contents.{next_at, filling_of, filled, AllocatesBox, box_in, filling_need, with_box}
@@ -26,9 +24,7 @@ use Rattle.object_cells.specs.Contents.{FillsSlot, HoldsSlotWord}
 use Rattle.object_cells.specs.Made.{PutsWords, with_content, content_need, content_word, store_content, is_wide_held}
 use Rattle.object_cells.proofs.HeldContents.{HoldsValue}
 use Rattle.object_cells.proofs.SlotBoxes.{boxed_need}
-use Rattle.object_cells.proofs.WordsPut.{heap_with_word}
 use Rattle.object_cells.proofs.TakenRuns.{bumped_none}
-use Rattle.object_cells.proofs.UnusedWords.{next_before_marks}
 
 -- a list with one put that stood there is the same
 pub set_there : {A : Type 0} (xs : List A) (i : ℕ) (x : A) → slice_get xs i ≡ Some x → slice_set xs i x ≡ xs
@@ -64,27 +60,20 @@ filled_by old between new at word (content.Tagged one) found tied within room is
       beside = beside;
       paths = ap (λ (m : Mutator). m.paths) same;
       young = ap (λ (m : Mutator). m.young) (same ∙ ap (λ (m : Mutator). with_slot m at one.0) (reserved_none old));
-      heap = ap (λ (m : Mutator). heap_words m.seat) same ∙ heap_with_word old at one.0 within;
+      heap = ap (λ (m : Mutator). heap_words m.seat) same;
     }) refl
 filled_by old between new at word (content.Boxed v) (Some box) tied within room is not_raw allocates fills beside =
     FilledBy.of_box box v refl is (fills ∙ ap (λ (m : Mutator). with_word m (box + 1) (raw_word v)) allocates)
 filled_by old between new at word (content.Boxed v) None tied within room is not_raw allocates fills beside =
     let more : Mutator = reserved old box_words in
     let next : ℕ = next_at old in
-    let ends = next_before_marks old box_words tied allocates.0 in
-    let headed : Mutator = with_word more next (header_bits box_header) in
     let same : new ≡ with_slot (with_box more next v) at (reference_word next) =
     fills ∙ ap (λ (m : Mutator). with_slot (with_box m next v) at (reference_word next)) allocates.1 in
     FilledBy.slot allocates.0 (record {
       beside = beside;
       paths = ap (λ (m : Mutator). m.paths) same;
       young = ap (λ (m : Mutator). m.young) same;
-      heap = ap (λ (m : Mutator). heap_words m.seat) same
-          ∙ heap_with_word (with_box more next v) at (reference_word next) within
-          ∙ ap (λ all. slice_set all at (reference_word next))
-          (heap_with_word headed (next + 1) (raw_word v) (omega (arith, ends))
-          ∙ ap (λ all. slice_set all (next + 1) (raw_word v))
-          (heap_with_word more next (header_bits box_header) (omega (arith, ends))));
+      heap = ap (λ (m : Mutator). heap_words m.seat) same;
     }) (ap (λ found. filling_need (filling_of found next (content.Boxed v))) is)
 
 -- and so it is where it was filled

@@ -26,7 +26,6 @@ use Rattle.object_cells.proofs.SlotTargets.{target_before_marks}
 use Rattle.object_cells.proofs.TouchedCells.{then_next}
 use Rattle.object_cells.proofs.UnusedWords.{next_before_marks}
 use Rattle.object_cells.proofs.WipedRanges.{two_wiped}
-use Rattle.object_cells.proofs.WordsPut.{heap_with_word}
 
 -- both words of a box that is made are wiped
 pub box_touch : (main : Mutator) (at : ℕ) (v : ℤ) → at + box_words ≤ marks_start main.seat.space
@@ -42,10 +41,7 @@ box_counted : (main : Mutator) (at : ℕ) (v : ℤ) → at + box_words ≤ marks
 box_counted main at v within counted =
     let headed : Mutator = with_word main at (header_bits box_header) in
     let words = heap_words main.seat in
-    ap length (heap_with_word headed (at + 1) (raw_word v) (omega (arith, within))
-    ∙ ap (λ all. slice_set all (at + 1) (raw_word v))
-    (heap_with_word main at (header_bits box_header) (omega (arith, within))))
-    ∙ length-set (slice_set words at (header_bits box_header)) (at + 1) (raw_word v)
+    length-set (slice_set words at (header_bits box_header)) (at + 1) (raw_word v)
     ∙ length-set words at (header_bits box_header) ∙ counted
 
 -- so are addresses touched where a slot is filled

@@ -15,7 +15,6 @@ use Rattle.write_barrier.proofs.Recording.{then_touch, word_touch}
 use Rattle.object_cells.specs.Made.{PutsWords}
 use Rattle.object_cells.proofs.RestOfWords.{put_rest, range_beside}
 use Rattle.object_cells.proofs.WipedRanges.{wiped_on}
-use Rattle.object_cells.proofs.WordsPut.{heap_with_word}
 
 -- A header was put, a length behind it, and then so many holes.
 pub record PutsHeaded (old headed sized new : Mutator) (at many header long : ℕ) : Type 0 where
@@ -48,12 +47,9 @@ module _ {old headed sized new : Mutator} {at many header long : ℕ}
   sized_words : heap_words sized.seat ≡ with_head
   sized_words =
       ap (λ (main : Mutator). heap_words main.seat) puts.second
-      ∙ heap_with_word headed (at + 1) long (omega (arith, puts.within, headed_marks))
-      ∙ ap (λ all. slice_set all (at + 1) long)
-      (ap (λ (main : Mutator). heap_words main.seat) puts.first
-      ∙ heap_with_word old at header (omega (arith, puts.within)))
+      ∙ ap (λ all. slice_set all (at + 1) long) (ap (λ (main : Mutator). heap_words main.seat) puts.first)
 
-  -- all words from the marks on stay
+  -- the regions and the phase stay
   sized_beside : RestStays old.seat sized.seat
   sized_beside =
       put_rest (at + 1) long

@@ -40,7 +40,6 @@ use Rattle.object_cells.proofs.OwnerWrites.{owned_is_no_box, written_own_keeps_c
 use Rattle.object_cells.proofs.RestOfWords.{put_rest}
 use Rattle.object_cells.proofs.SlotBoxes.{IsBoxOf}
 use Rattle.object_cells.proofs.SlotsNow.{word_at_offset}
-use Rattle.object_cells.proofs.WordsPut.{heap_with_word}
 
 -- The integer is put into the box to which the word refers, which the object whose cell stands there names.
 pub record PutsInteger (owner owned : Kind) (old new : Mutator) (cell : Cell) (word box : ℕ) (v : ℤ) : Type 0 where
@@ -100,7 +99,7 @@ module _ {owner owned : Kind} {old new : Mutator} {cell : Cell} {word box : ℕ}
         cell_before_marks writing.whole.sized box_has,
       )
 
-  -- all words from the marks on stay
+  -- the regions and the phase stay
   pub rest_stays : RestStays old.seat new.seat
   rest_stays =
       put_rest (box + 1) (raw_word v) (rest_stays_itself old.seat)
@@ -108,7 +107,7 @@ module _ {owner owned : Kind} {old new : Mutator} {cell : Cell} {word box : ℕ}
 
   -- these are the words that came to be
   pub put_heap : heap_words new.seat ≡ put
-  put_heap = ap (λ (m : Mutator). heap_words m.seat) writing.puts_it ∙ heap_with_word old (box + 1) (raw_word v) within
+  put_heap = ap (λ (m : Mutator). heap_words m.seat) writing.puts_it
 
   -- so each other word stays
   kept : (a : ℕ) → a ≢ box + 1 → slice_get (heap_words new.seat) a ≡ slice_get (heap_words old.seat) a

@@ -1,9 +1,6 @@
--- What is written before the marks leaves all words from the marks on, and so the regions.
-use Rattle.std.proofs.Common.{◌≡◌, ℕ, ◌+◌, ◌-◌, ◌≤◌, ◌<◌, List, ◌++◌, length, take, drop}
-use Rattle.std.proofs.Common.{refl, sym, ◌∙◌, ap, subst, arith, length-append, length-take}
+-- What is written before the marks leaves the regions, the phase, and how many words there are.
+use Rattle.std.proofs.Common.{◌≡◌, ℕ, ◌+◌, ◌≤◌, ◌<◌, List, length, refl, sym, ap, subst, arith}
 use Rattle.std.specs.Prelude.{ℤ, slice_set}
-use Rattle.std.proofs.Math.Seq.{drop-append-add, drop-drop}
-use Rattle.std.proofs.lemmas.List.{length-take-le}
 use Rattle.tagged_word.specs.Headers.{header_bits}
 use Rattle.page_space.specs.Extents.{Space, marks_start}
 use Rattle.page_space.proofs.Starts.{layouts_start_is, marks_start_is}
@@ -15,12 +12,13 @@ use Rattle.heap_table.proofs.HeapWords.{stays_beside-put}
 use Rattle.heap_model.specs.Slots.{raw_word, reference_word}
 use Rattle.write_barrier.specs.MutatorState.{Mutator, with_table, with_variable, reserved}
 use Rattle.write_barrier.specs.Values.{with_range}
+use Rattle.write_barrier.proofs.PutRanges.{length-with_range}
 use Rattle.object_cells.specs.Formats.{box_header}
 use Rattle.object_cells.specs.declared.content.SlotWrite.{SlotWrite}
 use Rattle.object_cells.specs.declared.content.SlotWrite.TheVariants as filling
 use Rattle.object_cells.specs.Contents.{filled, with_box, AllocatesBox, IsBeforeMarks}
 
--- where nothing has changed, all these words stay
+-- where nothing has changed, all this stays
 pub same_rest : {old new : Mutator} → new ≡ old → RestStays old.seat new.seat
 same_rest {old} same =
     subst (λ (main : Mutator). RestStays old.seat main.seat) (sym same) (rest_stays_itself old.seat)
@@ -36,59 +34,36 @@ pub put_rest : {first mid last : Seat} (a word : ℕ) → RestStays first mid
     → last ≡ record mid { table = slice_set mid.table a word } → a < marks_start mid.space → RestStays first last
 put_rest {first} {mid} {last} a word stays same below =
     rest_stays_again first mid last stays
-    (subst (λ (other : Seat). RestStays mid other) (sym same) (stays_beside-put mid a word below))
+    (subst (λ (other : Seat). RestStays mid other) (sym same) (stays_beside-put mid a word))
 
--- words behind a stretch stay where others are put in its place
-drop-with_range : (words others : List ℕ) (at from : ℕ) → at ≤ length words → at + length others ≤ from
-    → drop from (with_range words at others) ≡ drop from words
-drop-with_range words others at from within behind =
-    let front : List ℕ = take at words ++ others in
-    let end : ℕ = at + length others in
-    let more : ℕ = from - end in
-    let past : from ≡ length front + more =
-    omega (arith, length-append (take at words) others, length-take-le at words within, behind) in
-    let last : end + more ≡ from = omega (arith, behind) in
-    ap (λ n. drop n (front ++ drop end words)) past
-    ∙ drop-append-add front (drop end words) more
-    ∙ drop-drop more end words
-    ∙ ap (λ n. drop n words) last
-
--- the table has as many words as stand before the marks, or more
-table_long : (seat : Seat) → length (heap_words seat) ≡ marks_start seat.space
-    → marks_start seat.space ≤ length seat.table
-table_long seat counted = omega (arith, counted, length-take (marks_start seat.space) seat.table)
-
--- so those from the marks on stay where a stretch before the marks is put
+-- the rest stays where a stretch before the marks is put
 pub range_beside : (main : Mutator) (at : ℕ) (others : List ℕ)
     → length (heap_words main.seat) ≡ marks_start main.seat.space
     → at + length others ≤ marks_start main.seat.space
     → RestStays main.seat (with_table main (with_range main.seat.table at others)).seat
-range_beside main at others counted within =
-    let space : Space = main.seat.space in
-    let below : at ≤ length main.seat.table = omega (arith, within, table_long main.seat counted) in
-    record {
-      space = refl;
-      phase = refl;
-      behind = drop-with_range main.seat.table others at (marks_start space) below within;
-    }
+range_beside main at others counted within = record {
+  space = refl;
+  phase = refl;
+  count = length-with_range main.seat.table others at (omega (arith, counted, within));
+}
 
--- they stay where a box is made before the marks
+-- it stays where a box is made before the marks
 pub box_beside : (main : Mutator) (at : ℕ) (v : ℤ) → at + 1 < marks_start main.seat.space
     → RestStays main.seat (with_box main at v).seat
 box_beside main at v within =
     put_rest {last = (with_box main at v).seat} (at + 1) (raw_word v)
-    (stays_beside-put main.seat at (header_bits box_header) (omega arith)) refl within
+    (stays_beside-put main.seat at (header_bits box_header)) refl within
 
 -- where a slot before the marks is filled
 pub filled_beside : (main : Mutator) (at : ℕ) (filling : SlotWrite) → at < marks_start main.seat.space
     → IsBeforeMarks main.seat.space filling → RestStays main.seat (filled main at filling).seat
-filled_beside main at (filling.Tagged word) below room = stays_beside-put main.seat at word.0 below
-filled_beside main at (filling.Raw word) below room = stays_beside-put main.seat at word below
+filled_beside main at (filling.Tagged word) below room = stays_beside-put main.seat at word.0
+filled_beside main at (filling.Raw word) below room = stays_beside-put main.seat at word
 filled_beside main at (filling.NewBox box v) below room =
     put_rest {last = (filled main at (filling.NewBox box v)).seat} at (reference_word box)
     (box_beside main box v (omega (arith, room))) refl below
 filled_beside main at (filling.OldBox box v) below room =
-    stays_beside-put main.seat (box + 1) (raw_word v) (omega (arith, room))
+    stays_beside-put main.seat (box + 1) (raw_word v)
 
 -- where words are used, the seat stays
 pub allocates_seat : (old new : Mutator) (filling : SlotWrite) → AllocatesBox old new filling → new.seat ≡ old.seat
@@ -116,4 +91,4 @@ variable_beside main variable held known =
     let at : ℕ = root_at space variable in
     let below : at + 1 < marks_start space = omega (arith, known, layouts_start_is space, marks_start_is space) in
     put_rest {last = (with_variable main variable held).seat} (at + 1) (second_word held)
-    (stays_beside-put main.seat at (first_word held) (omega (arith, below))) refl below
+    (stays_beside-put main.seat at (first_word held)) refl below

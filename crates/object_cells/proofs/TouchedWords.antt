@@ -1,8 +1,7 @@
 -- Addresses that were touched, and then that of a word that is put.
-use Rattle.std.proofs.Common.{◌≡◌, ℕ, ◌-◌, ◌<◌, ◌≤◌, ◌⊎◌, inl, inr, length, length-take, length-drop, refl, sym}
+use Rattle.std.proofs.Common.{◌≡◌, ℕ, ◌<◌, ◌≤◌, ◌⊎◌, inl, inr, length, refl, sym}
 use Rattle.std.proofs.Common.{◌∙◌, ap, subst, arith}
-use Rattle.page_space.specs.Extents.{marks_start, words_count}
-use Rattle.page_space.proofs.Starts.{board_start_is, words_count_is}
+use Rattle.page_space.specs.Extents.{Space, marks_start}
 use Rattle.heap_table.specs.Seats.{Seat, heap_words, RestStays}
 use Rattle.heap_model.specs.Remembered.{Touch}
 use Rattle.write_barrier.specs.MutatorState.{Mutator, reserved, with_word, with_slot}
@@ -15,21 +14,10 @@ use Rattle.object_cells.specs.Made.{content_need, content_touch}
 use Rattle.object_cells.proofs.FilledTouches.{reserved_touch}
 use Rattle.object_cells.proofs.TouchedCells.{touched_cases}
 
--- where all words from the marks on stay, there is still one for each address before them
-pub rest_counted : {old new : Seat} → RestStays old new → length old.table ≡ words_count old.space
+-- where the rest stays, there is still a word for each address before the marks
+pub rest_counted : {old new : Seat} → RestStays old new → length (heap_words old) ≡ marks_start old.space
     → length (heap_words new) ≡ marks_start new.space
-rest_counted {old} {new} rest counted =
-    let more : length new.table - marks_start new.space ≡ length old.table - marks_start old.space =
-    sym (length-drop (marks_start new.space) new.table) ∙ ap length rest.behind
-    ∙ length-drop (marks_start old.space) old.table in
-    omega (
-      arith,
-      length-take (marks_start new.space) new.table,
-      more,
-      counted,
-      board_start_is old.space,
-      words_count_is old.space,
-    )
+rest_counted rest counted = rest.count ∙ counted ∙ sym (ap (λ (space : Space). marks_start space) rest.space)
 
 -- where addresses were touched, and then a word was put that is no slot's, that was wiped
 pub then_wiped : {old mid new : Mutator} {touch : ℕ → Touch} (at word : ℕ) → Touches old mid touch

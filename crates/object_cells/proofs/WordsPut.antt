@@ -2,7 +2,6 @@
 use Rattle.std.proofs.Common.{◌≡◌, ◌≢◌, ℕ, ◌+◌, ◌<◌, ◌≤◌, ◌⊎◌, inl, inr, length, Some, slice_get}
 use Rattle.std.proofs.Common.{length-set, refl, sym, ◌∙◌, ap, subst, arith}
 use Rattle.std.specs.Prelude.{slice_set}
-use Rattle.std.proofs.Math.Seq.{take-set-lt}
 use Rattle.page_space.specs.Extents.{Space, layouts_start, marks_start}
 use Rattle.shape_tree.specs.Shapes.{AreShapes}
 use Rattle.shape_tree.specs.ShapeLayouts.{layout_word}
@@ -12,11 +11,6 @@ use Rattle.heap_table.proofs.HeapWords.{stays_beside-put}
 use Rattle.heap_model.specs.Wholeness.{HasSizes}
 use Rattle.write_barrier.specs.MutatorState.{Mutator, heap_of, put_word, with_word, with_slot}
 use Rattle.object_cells.proofs.RestOfWords.{put_rest}
-
--- a word that is put before the marks is one of the heap's
-pub heap_with_word : (main : Mutator) (a word : ℕ) → a < marks_start main.seat.space
-    → heap_words (put_word main a word).seat ≡ slice_set (heap_words main.seat) a word
-heap_with_word main a word below = take-set-lt (marks_start main.seat.space) main.seat.table a word below
 
 -- One word was put, a slot's or none: but for what is recorded, nothing else has changed.
 pub record PutsWord (old new : Mutator) (at word : ℕ) : Type 0 where
@@ -43,13 +37,13 @@ puts_slot is = record {
 -- then it is one of the heap's, where it is before the marks
 pub word_is_put : {old new : Mutator} {at word : ℕ} → PutsWord old new at word → at < marks_start old.seat.space
     → heap_words new.seat ≡ slice_set (heap_words old.seat) at word
-word_is_put {old} {at = at} {word} puts below = ap heap_words puts.seat ∙ heap_with_word old at word below
+word_is_put puts below = ap heap_words puts.seat
 
--- and all words from the marks on stay
+-- and the rest stays
 pub word_beside : {old new : Mutator} {at word : ℕ} → PutsWord old new at word → at < marks_start old.seat.space
     → RestStays old.seat new.seat
 word_beside {old} {at = at} {word} puts below =
-    subst (λ (seat : Seat). RestStays old.seat seat) (sym puts.seat) (stays_beside-put old.seat at word below)
+    subst (λ (seat : Seat). RestStays old.seat seat) (sym puts.seat) (stays_beside-put old.seat at word)
 
 -- Of the old mutator only words at two addresses have changed: that of an object's header, and one other.
 pub record PutsTwo (old new : Mutator) (object head at word : ℕ) : Type 0 where
@@ -95,7 +89,7 @@ puts_both {old} {mid} object head at word puts below within counted apart =
     let words = slice_set (heap_words old.seat) at word in
     let beside = word_beside puts below in
     let inside : object < marks_start mid.seat.space = omega (arith, within, ap marks_start beside.space) in
-    let heap = heap_with_word mid object head inside ∙ ap (λ all. slice_set all object head) first in
+    let heap = ap (λ all. slice_set all object head) first in
     let long : length words ≡ length (heap_words old.seat) = length-set (heap_words old.seat) at word in
     record {
       beside = put_rest {last = (with_word mid object head).seat} object head beside refl inside;

@@ -25,8 +25,8 @@ use Rattle.object_cells.specs.declared.content.SlotContent.TheVariants as conten
 use Rattle.object_cells.specs.declared.stores.Store.{Store}
 use Rattle.object_cells.specs.Contents.{held_rep, content_of}
 
--- Of the seat, the paths and the young generation only the words of the heap are others, and they are these; so the
--- marks and the board are as they were. What becomes of records and free runs is said beside it.
+-- Of the seat, the paths and the young generation only the words of the heap are others, and they are these. What
+-- becomes of records and free runs is said beside it.
 pub record PutsWords (old new : Mutator) (words : List ℕ) : Type 0 where
   pub beside : RestStays old.seat new.seat
   pub paths : new.paths ≡ old.paths

@@ -9,8 +9,8 @@ use std::test::Fail;
 /// twice the entries are more. A box has 2. A scavenge comes where the words that are wanted are not there, and leaves
 /// those of what lives, but for what was there at the scavenge before: that goes to pages. Where it leaves no room the
 /// words are granted of a page, and neither used words nor survivors come of it. All goes to pages where no run of one
-/// has the words, and where `finish` ends a cycle. Rows that begin with 512 objects of 4 words fill the only page with
-/// them. A soak collects fully at its end.
+/// has the words, and where `mark` begins a cycle or `finish` ends one. Rows that begin with 512 objects of 4 words fill
+/// the only page with them. A soak collects fully at its end.
 const COUNTS: &str = "\
 run |  | 0 0 0 | 0 0
 run | new x 2; set x a 5; get y x a; print y | 4 0 0 | 4 0
@@ -23,7 +23,8 @@ run | print 1; repeat 3; get y q f; end | 2 3 0 | 0 0
 run | gc | 1 0 0 | 0 0
 run | mark | 1 0 0 | 0 0
 run | mark x | 
-run | new x 0; mark | 2 0 0 | 2 0
+run | new x 0; mark | 2 0 0 | 0 0
+run | new x 0; mark; new y 0; mark | 4 0 0 | 2 0
 run | new x 0; finish | 2 0 0 | 2 0
 run | new x 0; mark; finish | 3 0 0 | 0 0
 run | new x 0; mark; scavenge; finish | 4 0 0 | 0 0

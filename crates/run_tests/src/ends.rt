@@ -62,10 +62,11 @@ fn check_front<R: Abort + Threads + Sync + AllocGlobal>(
 
 #[test]
 fn each_write_that_fails_leaves_the_front_of_the_output(rt: HostRuntime) -> Result<(), Fail> {
-    let fronts = [0usize, 4, 8, 10, 11, 12, 16, 19];
+    let fault = "print 1; print 2; get y q f";
+    let fronts = [0usize, 4, 8, 12, 16];
     for (before, front) in fronts.iter().enumerate() {
         let call = (4, before as u64 + 1);
-        check_front(&rt, "print 1; print 2; get y q f", call, (*front, "2 3 0"))?;
+        check_front(&rt, fault, call, (*front, "2 3 0"))?;
     }
     check_front(&rt, "print 5; print 6", (2, 2), (2, "2 0 0"))?;
     check_front(
@@ -84,6 +85,20 @@ fn each_write_that_fails_leaves_the_front_of_the_output(rt: HostRuntime) -> Resu
     ];
     for (before, wanted) in fronts.iter().enumerate() {
         check_front(&rt, long, (1 << 20, before as u64 + 1), *wanted)?;
+    }
+    Ok(())
+}
+
+#[test]
+fn a_last_line_is_written_in_one_call(rt: HostRuntime) -> Result<(), Fail> {
+    // The first call hands on what the commands have written, and the second has the whole last line.
+    for (failing_write, status) in [(2, 5), (3, 1)] {
+        let ends = Pace {
+            failing_write,
+            ..SURE
+        };
+        let seen = came(&rt, "run", "print 1; print 2; get y q f", ends)?;
+        assert_eq!(rt; seen.status, status, "call {failing_write}");
     }
     Ok(())
 }

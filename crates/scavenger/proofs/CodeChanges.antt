@@ -1,16 +1,13 @@
 -- What a scavenge changes of the mutator: heap words, one after another, and nothing beside them.
-use Rattle.std.proofs.Common.{◌≡◌, ℕ, ◌+◌, ◌-◌, ◌<◌, ◌≤◌, List, ◌++◌, length, take, drop}
-use Rattle.std.proofs.Common.{refl, sym, ◌∙◌, ap, subst, arith, length-append, length-set}
-use Rattle.std.specs.Prelude.{slice_set, slice_range}
-use Rattle.std.proofs.Math.Seq.{drop-append-add, drop-drop}
-use Rattle.std.proofs.lemmas.List.{length-take-le}
-use Rattle.page_space.specs.Extents.{Space, marks_start, words_count}
+use Rattle.std.proofs.Common.{◌≡◌, ℕ, ◌+◌, ◌-◌, ◌<◌, ◌≤◌, length}
+use Rattle.std.proofs.Common.{refl, sym, ◌∙◌, ap, subst, arith, length-set}
+use Rattle.std.specs.Prelude.{slice_set}
+use Rattle.page_space.specs.Extents.{marks_start}
 use Rattle.word_store.specs.Copies.{copied}
-use Rattle.word_store.proofs.CopiedWords.{length-piece, length-copied}
+use Rattle.word_store.proofs.CopiedWords.{length-copied}
 use Rattle.heap_table.specs.Seats.{RestStays, heap_words}
 use Rattle.heap_table.specs.Staying.{rest_stays_itself, rest_stays_again}
 use Rattle.heap_table.proofs.HeapWords.{stays_beside-put}
-use Rattle.page_space.proofs.LawsHold.{kinds_by_number}
 use Rattle.write_barrier.specs.MutatorState.{Mutator, forgets, with_word, with_table}
 use Rattle.write_barrier.proofs.JudgedSlots.{wiped_bound}
 use Rattle.scavenger.specs.Filling.{ChangesWords}
@@ -42,7 +39,7 @@ pub put_changes : {old new : Mutator} (a word : ℕ) → new ≡ with_word old a
     → heap_words new.seat ≡ slice_set (heap_words old.seat) a word → a < marks_start old.seat.space
     → ChangesWords old new
 put_changes {old} {new} a word is heap below = record {
-  seat = subst (λ (main : Mutator). RestStays old.seat main.seat) (sym is) (stays_beside-put old.seat a word below);
+  seat = subst (λ (main : Mutator). RestStays old.seat main.seat) (sym is) (stays_beside-put old.seat a word);
   paths = ap (λ (main : Mutator). main.paths) is;
   young = ap (λ (main : Mutator). main.young) is;
   bound = ap (λ (main : Mutator). main.recorded.bound) is ∙ wiped_bound old.recorded a (a + 1);
@@ -50,52 +47,22 @@ put_changes {old} {new} a word is heap below = record {
   rows = ap (λ (main : Mutator). length main.free) is;
 }
 
--- words behind the place of a copy stay
-drop-copied : (words : List ℕ) (from to count behind : ℕ) → from + count ≤ length words → to + count ≤ behind
-    → behind ≤ length words → drop behind (copied words from to count) ≡ drop behind words
-drop-copied words from to count behind within room few =
-    let piece : List ℕ = slice_range words from (from + count) in
-    let front : List ℕ = take to words ++ piece in
-    let end : ℕ = to + count in
-    let more : ℕ = behind - end in
-    let past : behind ≡ length front + more =
-    omega (
-      arith,
-      length-append (take to words) piece,
-      length-take-le to words (omega (arith, room, few)),
-      length-piece words from count within,
-      room,
-    ) in
-    let last : end + more ≡ behind = omega (arith, room) in
-    ap (λ n. drop n (front ++ drop end words)) past
-    ∙ drop-append-add front (drop end words) more
-    ∙ drop-drop more end words
-    ∙ ap (λ n. drop n words) last
-
 -- the copy of words to others before the marks is a change of heap words
 pub copy_changes : {old new : Mutator} (from to count : ℕ)
     → new ≡ with_table (forgets old to (to + count)) (copied old.seat.table from to count)
     → heap_words new.seat ≡ copied (heap_words old.seat) from to count
-    → length old.seat.table ≡ words_count old.seat.space
     → length (heap_words old.seat) ≡ marks_start old.seat.space
     → from + count ≤ marks_start old.seat.space → to + count ≤ marks_start old.seat.space
     → ChangesWords old new
-copy_changes {old} {new} from to count is heap counted heap_counted within room =
-    let space : Space = old.seat.space in
-    let table : List ℕ = old.seat.table in
-    let kinds = kinds_by_number space in
-    let few : marks_start space ≤ length table = omega (arith, counted, kinds.board, kinds.count) in
+copy_changes {old} {new} from to count is heap heap_counted within room =
+    let long = length-copied (heap_words old.seat) from to count (omega (arith, within, heap_counted))
+    (omega (arith, room, heap_counted)) in
     record {
-      seat = subst (λ (main : Mutator). RestStays old.seat main.seat) (sym is) (record {
-        space = refl;
-        phase = refl;
-        behind = drop-copied table from to count (marks_start space) (omega (arith, within, few)) room few;
-      });
+      seat = subst (λ (main : Mutator). RestStays old.seat main.seat) (sym is)
+          (record { space = refl; phase = refl; count = long });
       paths = ap (λ (main : Mutator). main.paths) is;
       young = ap (λ (main : Mutator). main.young) is;
       bound = ap (λ (main : Mutator). main.recorded.bound) is ∙ wiped_bound old.recorded to (to + count);
-      count = ap length heap
-          ∙ length-copied (heap_words old.seat) from to count (omega (arith, within, heap_counted))
-          (omega (arith, room, heap_counted));
+      count = ap length heap ∙ long;
       rows = ap (λ (main : Mutator). length main.free) is;
     }

@@ -65,7 +65,7 @@ store_changes : {old new : Mutator} (slot word : ℕ) → new ≡ with_slot old 
     → heap_words new.seat ≡ slice_set (heap_words old.seat) slot word → slot < marks_start old.seat.space
     → ChangesWords old new
 store_changes {old} {new} slot word is heap below = record {
-  seat = subst (λ (main : Mutator). RestStays old.seat main.seat) (sym is) (stays_beside-put old.seat slot word below);
+  seat = subst (λ (main : Mutator). RestStays old.seat main.seat) (sym is) (stays_beside-put old.seat slot word);
   paths = ap (λ (main : Mutator). main.paths) is;
   young = ap (λ (main : Mutator). main.young) is;
   bound = ap (λ (main : Mutator). main.recorded.bound) is ∙ judged_bound old.recorded slot word;

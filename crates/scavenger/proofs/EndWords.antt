@@ -19,6 +19,7 @@ use Rattle.scav_copy.proofs.Ending.{end_is_renaming}
 use Rattle.scavenger.specs.Starts.{Start, IsBegun, IsFreeRun, IsRootAt, room_start, room_of, room_of_run}
 use Rattle.scavenger.specs.Filling.{CopiesFillRooms, AllAreDone, IsEmptied}
 use Rattle.scavenger.specs.Following.{half_start, half_end}
+use Rattle.scavenger.proofs.OneSegment.{rooms_tell}
 use Rattle.scavenger.proofs.Sums.{few_filled}
 use Rattle.scavenger.proofs.TargetCells.{IsInSegment, young_size, recorded_below, run_ends}
 use Rattle.scavenger.proofs.PagesRuns.{HasRun}
@@ -113,7 +114,7 @@ module _ {start : Start} {left : ℕ} {fixed : Fixed} {homes : List Home} {rows 
   room_in_page : (home : Home) (room : Room) → LiesInRoom fixed room home.to (size_of fixed home.from)
       → home.to < eden_start start.heap.space → IsPromoted start fixed home
   room_in_page home room lies below =
-      elim ((ending.begun.begins.rooms room).0 lies.among) [
+      elim ((rooms_tell ending.begun.begins room).0 lies.among) [
         | inl segment ↦
             let from : room.from ≡ room_start start.heap.space start.half =
             ap (λ (one : Room). one.from) segment in
@@ -210,7 +211,7 @@ module _ {start : Start} {left : ℕ} {fixed : Fixed} {homes : List Home} {rows 
   -- an address of the rooms is one of the segment, or of a free run
   pub rooms_hold : (at : ℕ) → IsInRooms fixed at → IsInSegment start at ⊎ HasRun start.rows at
   rooms_hold at inside =
-      elim ((ending.begun.begins.rooms inside.0).0 inside.1) [
+      elim ((rooms_tell ending.begun.begins inside.0).0 inside.1) [
         | inl segment ↦
             let same : inside.0 ≡ room_of start.heap.space start.half = segment in
             inl record {

@@ -1,7 +1,6 @@
 -- A scavenge that has come to its end is one, and the heap that is left shows the graph.
 use Rattle.std.proofs.Common.{◌≡◌, ℕ, ◌<◌, ◌≤◌, ◌⊎◌, Bool, List, Contains, inl, inr, slice_get, sym, ◌∙◌, ap}
-use Rattle.std.proofs.Common.{subst}
-use Rattle.std.proofs.Common.{arith}
+use Rattle.std.proofs.Common.{[], ◌∷◌, refl, subst, arith}
 use Rattle.object_graph.specs.Graphs.{Graph}
 use Rattle.page_space.specs.Extents.{eden_start, roots_start}
 use Rattle.cell_layout.proofs.OneCell.{cells_have_words}
@@ -31,8 +30,7 @@ use Rattle.scavenger.proofs.EndHeap.{runs_are_free}
 use Rattle.scavenger.proofs.EndMoved.{is_collectable}
 use Rattle.scavenger.proofs.EndRecords.{end_is_remembered}
 use Rattle.scavenger.proofs.EndedHeap.{ending_is, left_young, left_is, left_is_moved, left_alone, left_stayed}
-use Rattle.scavenger.proofs.EndedHeap.{left_tiles}
-use Rattle.scavenger.proofs.EndedHeap.{left_few}
+use Rattle.scavenger.proofs.EndedHeap.{left_tiles, left_segment, left_few}
 
 module _ {old new : Mutator} {all : Bool} {fixed : Fixed} {homes : List Home} {words : List ℕ} {fill refused : ℕ}
     (young : IsYoung old.young) (is : IsEnded old new all fixed homes words fill refused) where
@@ -78,8 +76,9 @@ module _ {old new : Mutator} {all : Bool} {fixed : Fixed} {homes : List Home} {w
         outside = outside;
         seat = is.seat;
         paths = is.paths;
-        stayed = is.filled.stayed;
-        stayed_are = left_stayed young is;
+        segments = left_segment young is ∷ [];
+        workers = refl;
+        stayed = left_stayed young is;
         tiles = left_tiles young is;
         young = left_young young is;
         few = left_few young is;
@@ -88,6 +87,7 @@ module _ {old new : Mutator} {all : Bool} {fixed : Fixed} {homes : List Home} {w
         promotes = promotes;
         stays = is.placed.promoted;
         left = is.filled.left;
+        backs = is.filled.backs;
         apart = apart;
         rows = is.rows;
       }

@@ -17,6 +17,7 @@ use Rattle.scavenger.specs.declared.progress.Progress.{Progress}
 use Rattle.scavenger.specs.Starts.{Start, IsBegun, room_start}
 use Rattle.scavenger.specs.Filling.{Tiles, CopiesFillRooms, IsToDo}
 use Rattle.scavenger.specs.Walking.{IsWellPlaced, AreKept, MayBegin, Scavenging, at_root}
+use Rattle.scavenger.proofs.Backs.{backs_of_all}
 use Rattle.scavenger.proofs.CodeChanges.{changes_nothing}
 use Rattle.scavenger.proofs.FirstPages.{first_pages}
 use Rattle.scavenger.proofs.Started.{shown_heaps_may_begin}
@@ -50,6 +51,7 @@ module _ {start : Start} {fixed : Fixed} (begun : IsBegun start fixed) where
       λ either. elim either [ inl free ↦ free | inr copy ↦ absurd (none_in copy.0 copy.1) ],
     );
     free = begun.apart;
+    backs = backs_of_all start.rows;
     apart = λ at free copies. none_in copies.0 copies.1;
   }
 

@@ -17,8 +17,10 @@ use Rattle.scavenger.specs.Starts.{Start, IsBegun, room_start, room_of}
 use Rattle.scavenger.specs.Filling.{Tiles, CopiesFillRooms}
 use Rattle.scavenger.specs.Following.{IsFreeAt, moved_words}
 use Rattle.scavenger.specs.Paging.{IsUnmoved, promoted_words}
+use Rattle.scavenger.proofs.OneSegment.{rooms_tell}
 use Rattle.scavenger.proofs.Sums.{one_home_more}
 use Rattle.scavenger.proofs.PagesRuns.{free_is_left}
+use Rattle.scavenger.proofs.Backs.{backs_again, front_leaves_backs}
 use Rattle.scavenger.proofs.PagesCopies.{pages_stay_for_copies, words_stay_left, free_stays_apart}
 use Rattle.scavenger.proofs.PagesLeft.{words_are_left, free_is_left_apart}
 use Rattle.scavenger.proofs.PagesTakesOwn.{pages_take_copies}
@@ -55,7 +57,7 @@ fits_behind {start} begun filled new =
       size = new.size;
       room = room;
       lies = record {
-        among = (begun.begins.rooms room).1 (inl refl);
+        among = (rooms_tell begun.begins room).1 (inl refl);
         from = fill_above filled;
         ends = new.ends;
       };
@@ -113,6 +115,7 @@ filled_behind {start} {fixed} {words} {rows} {homes} {fill} {cell} begun filled 
       pages = pages_stay_for_copies start fixed words rows homes fill cell begun filled (unmoved new) new.ends;
       left = λ at. words_stay_left start fixed words rows homes fill cell at begun filled (unmoved new);
       free = filled.free;
+      backs = filled.backs;
       apart = λ at. free_stays_apart start fixed words rows homes fill cell at begun filled (unmoved new);
     }
 
@@ -145,5 +148,6 @@ filled_in_page {start} {fixed} {words} {rows} {left} {homes} {fill} {cell} {free
       left = λ at.
           words_are_left start fixed words rows left homes fill cell free run at begun filled (unmoved new) takes is_free;
       free = free_is_left start.heap.space words rows left cell run new.is_cell filled.free takes;
+      backs = backs_again start.rows rows left filled.backs (front_leaves_backs takes some filled.free);
       apart = λ at. free_is_left_apart start fixed words rows left homes fill cell run at begun filled (unmoved new) takes;
     }

@@ -14,6 +14,7 @@ use Rattle.scav_copy.specs.Copies.{LiesInRoom}
 use Rattle.scav_copy.proofs.Spots.{none_in}
 use Rattle.scavenger.specs.Starts.{Start, IsBegun, IsFreeRun, room_of_run}
 use Rattle.scavenger.specs.Filling.{CopiesFillRooms}
+use Rattle.scavenger.proofs.OneSegment.{rooms_tell}
 use Rattle.scavenger.proofs.PagesRuns.{lies_in_row, run_in, one_run, run_of_word, word_of_run}
 
 -- no run of a row begins where another ends
@@ -103,7 +104,7 @@ run_lies {start} {rows = rows} run begun filled is =
     let room : Room = room_of_run start.heap.space lies.whole in (
       room,
       record {
-        among = (begun.begins.rooms room).1 (inr (lies.whole, lies.is, refl));
+        among = (rooms_tell begun.begins room).1 (inr (lies.whole, lies.is, refl));
         from = lies.from;
         ends = lies.ends;
       },

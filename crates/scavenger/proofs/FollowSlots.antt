@@ -60,6 +60,7 @@ renaming_goes_on start left fixed words rows homes todo front home fill slot pla
         pages = pages_stay_for_slots start fixed words rows homes fill slot place (bits_of (Ref home.to)) begun filled stood;
         left = filled.left;
         free = filled.free;
+        backs = filled.backs;
         apart = filled.apart;
       };
       others = λ others other origin cell also now is.

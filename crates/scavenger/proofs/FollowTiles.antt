@@ -14,6 +14,7 @@ use Rattle.scav_copy.proofs.Ascending.{new_in, old_in, joined_is}
 use Rattle.scav_copy.proofs.Spots.{none_in}
 use Rattle.scavenger.specs.Starts.{Start, IsBegun, IsFreeRun, room_start, room_of, room_of_run}
 use Rattle.scavenger.specs.Filling.{Tiles, none, next, CopiesFillRooms}
+use Rattle.scavenger.proofs.OneSegment.{rooms_tell}
 use Rattle.scavenger.proofs.TargetCells.{run_ends}
 
 -- what copies with a first one say of it
@@ -185,7 +186,7 @@ copy_in_page {fixed = fixed} home begun copying there below =
     let housed = copying.housed home there in
     let lies = housed.1 in
     ends_by housed.0 home.to (size_of fixed home.from) begun lies.from lies.ends below
-    ((begun.begins.rooms housed.0).0 lies.among)
+    ((rooms_tell begun.begins housed.0).0 lies.among)
 
 -- behind the copies of the segment no word is in a copy
 pub segment_is_free : {start : Start} {fixed : Fixed} {words : List ℕ} {rows : List (List Run)} {homes : List Home}

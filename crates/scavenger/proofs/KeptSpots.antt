@@ -13,6 +13,7 @@ use Rattle.scav_copy.specs.Copies.{Copying}
 use Rattle.scav_copy.proofs.Spots.{home_itself, copy_in_room, slot_in_cell, within_by}
 use Rattle.scavenger.specs.Starts.{Start, IsBegun, room_start, room_of}
 use Rattle.scavenger.specs.Walking.{AreKept, IsPromotedSlot, RefersToRoom}
+use Rattle.scavenger.proofs.OneSegment.{rooms_tell}
 use Rattle.scavenger.proofs.FollowTiles.{copy_in_page}
 use Rattle.scavenger.proofs.TargetCells.{recorded_below, IsInSegment, in_segment_or_page}
 
@@ -49,7 +50,7 @@ module _ {start : Start} {fixed : Fixed} (begun : IsBegun start fixed) where
       → at < room_start start.heap.space start.half + start.heap.space.sizes.young → IsInRooms fixed at
   segment_is_room at from below =
       let room : Room = room_of start.heap.space start.half in
-      (room, (begun.begins.rooms room).1 (inl refl), record { from = from; below = below })
+      (room, (rooms_tell begun.begins room).1 (inl refl), record { from = from; below = below })
 
   -- a home copy that begins in a page is in pages
   pub page_copy : {words : List ℕ} {homes : List Home} (home : Home) (at : ℕ) → Copying fixed words homes

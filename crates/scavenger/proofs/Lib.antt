@@ -1,9 +1,11 @@
+pub mod OneSegment
 pub mod StartReadings
 pub mod Sums
 pub mod TargetNumbers
 pub mod TargetCells
 pub mod Targets
 pub mod PagesRuns
+pub mod Backs
 pub mod PagesWords
 pub mod PagesSlots
 pub mod PagesCopies

@@ -43,7 +43,7 @@ changes_since {first} {old} {new} before now = record {
   seat = record {
     space = now.seat.space ∙ sym before.seat.space;
     phase = now.seat.phase ∙ sym before.seat.phase;
-    behind = now.seat.behind ∙ sym before.seat.behind;
+    count = now.seat.count ∙ sym before.seat.count;
   };
   paths = now.paths ∙ sym before.paths;
   young = now.young ∙ sym before.young;

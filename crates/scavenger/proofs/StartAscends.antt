@@ -20,7 +20,7 @@ Climbs from to [] = from ≤ to
 Climbs from to (at ∷ ats) = (from ≤ at) × Climbs (at + 1) to ats
 
 -- so they do from a lower number on
-climbs_lower : (low from to : ℕ) (ats : List ℕ) → low ≤ from → Climbs from to ats → Climbs low to ats
+pub climbs_lower : (low from to : ℕ) (ats : List ℕ) → low ≤ from → Climbs from to ats → Climbs low to ats
 climbs_lower low from to [] less climbs = omega arith
 climbs_lower low from to (at ∷ ats) less climbs = (omega (arith, climbs.0), climbs.1)
 

@@ -22,6 +22,7 @@ use Rattle.scav_copy.specs.declared.places.Room.{Room}
 use Rattle.scav_copy.specs.Places.{Fixed, IsInRoom, IsInRooms}
 use Rattle.scav_copy.proofs.Spots.{none_in}
 use Rattle.scavenger.specs.Starts.{Start, Begins, IsFreeRun, room_of, room_of_run, room_start}
+use Rattle.scavenger.proofs.OneSegment.{rooms_tell}
 use Rattle.scavenger.proofs.PagesRuns.{HasRun, one_run}
 use Rattle.scavenger.proofs.PagesSlots.{free_slots}
 
@@ -96,7 +97,7 @@ module _ {start : Start} {fixed : Fixed} (ready : IsReady start fixed) where
   pub room_place : (at : ℕ) → IsInRooms fixed at → ContainsAddress (segment_of start) at ⊎ HasRun start.rows at
   room_place at in_rooms =
       let room : Room = in_rooms.0 in
-      elim ((ready.begins.rooms room).0 in_rooms.1) [
+      elim ((rooms_tell ready.begins room).0 in_rooms.1) [
         | inl same ↦ inl (in_segment start room at same in_rooms.2)
         | inr is ↦
             inr (record { run = is.0; is = is.1; of_run = in_run start.heap.space is.0 room at is.2 in_rooms.2 })
@@ -123,14 +124,14 @@ module _ {start : Start} {fixed : Fixed} (ready : IsReady start fixed) where
       → IsInRoom room at → IsInRoom other at → room ≡ other
   one_of_rooms room other at among among_too inside inside_too =
       let space : Space = start.heap.space in
-      elim ((ready.begins.rooms room).0 among) [
-        | inl same ↦ elim ((ready.begins.rooms other).0 among_too) [
+      elim ((rooms_tell ready.begins room).0 among) [
+        | inl same ↦ elim ((rooms_tell ready.begins other).0 among_too) [
           | inl same_too ↦ same ∙ sym same_too
           | inr run ↦
               absurd (run_not_in_segment run.1 (in_run space run.0 other at run.2 inside_too)
               (in_segment start room at same inside))
         ]
-        | inr run ↦ elim ((ready.begins.rooms other).0 among_too) [
+        | inr run ↦ elim ((rooms_tell ready.begins other).0 among_too) [
           | inl same ↦
               absurd (run_not_in_segment run.1 (in_run space run.0 room at run.2 inside)
               (in_segment start other at same inside_too))

@@ -21,8 +21,9 @@ use Rattle.heap_model.proofs.CellsApart.{has_is_cell, ends_within, used_few}
 use Rattle.scav_copy.specs.declared.places.Room.{Room}
 use Rattle.scav_copy.specs.Places.{Fixed, size_of, offsets_of}
 use Rattle.scav_copy.specs.Renamings.{RefersToAddress}
-use Rattle.scavenger.specs.Starts.{Start, Begins, IsBegun, IsSlotPlace, IsYoungCell, IsRootAt, IsFreeRun, room_of}
-use Rattle.scavenger.specs.Starts.{room_of_run, start_of}
+use Rattle.scavenger.specs.Starts.{Start, Begins, IsBegun, IsSlotPlace, IsYoungCell, IsRootAt, IsFreeRun, IsSegmentRoom}
+use Rattle.scavenger.specs.Starts.{room_of, room_of_run, start_of}
+use Rattle.scavenger.proofs.OneSegment.{one_segment}
 use Rattle.scavenger.specs.Laws.{ShownHeapsMayBegin}
 use Rattle.scavenger.proofs.StartReadings.{low_within, size_is, offsets_are}
 use Rattle.scavenger.proofs.StartRows.{young_cells, young_has, young_in}
@@ -120,18 +121,19 @@ run_rooms_are space rows room =
 
 -- its rooms are the segment and the free runs
 rooms_are : (start : Start) (rows : HasRows start.heap) (room : Room) → Contains (fixed_of start rows).rooms room
-    ↔ ((room ≡ room_of start.heap.space start.half)
+    ↔ (IsSegmentRoom start.heap.space start.half room
     ⊎ ((run : Run) × IsFreeRun start.rows run × (room ≡ room_of_run start.heap.space run)))
 rooms_are start rows room =
     let space : Space = start.heap.space in
     let own : Room = room_of space start.half in
+    let one = one_segment space start.half room in
     let runs : List Room = run_rooms space start.rows in (
       λ among. elim (in_cases own runs room among) [
-        | inl same ↦ inl (sym same)
+        | inl same ↦ inl (one.1 (sym same))
         | inr there ↦ inr ((run_rooms_are space start.rows room).0 there)
       ],
       λ either. elim either [
-        | inl same ↦ subst (Contains (own ∷ runs)) (sym same) (first_in own runs)
+        | inl segment ↦ subst (Contains (own ∷ runs)) (sym (one.0 segment)) (first_in own runs)
         | inr run ↦ rest_in own runs room ((run_rooms_are space start.rows room).1 run)
       ],
     )
@@ -155,7 +157,7 @@ rows_stand heap rows =
     All-weaker (Contains rows.rows) (StandsIn heap) each rows.rows (All-contains_itself rows.rows)
 
 -- the cells ascend
-cells_ascend : (heap : Heap) (rows : HasRows heap)
+pub cells_ascend : (heap : Heap) (rows : HasRows heap)
     → AllPairs (λ one other. one < other) (addresses (young_cells rows.rows))
 cells_ascend heap rows =
     climbs_pairs 0 _ (addresses (young_cells rows.rows))

@@ -20,6 +20,7 @@ use Rattle.scav_copy.specs.declared.places.Room.{Room}
 use Rattle.scav_copy.specs.Places.{Fixed, last_address, cell_before, words_in, size_of, IsInCells, IsInRoom, IsInRooms}
 use Rattle.scav_copy.specs.Copies.{Copying}
 use Rattle.scavenger.specs.Starts.{Start, IsBegun, IsYoungCell, IsRootAt, IsFreeRun, room_start, room_of, room_of_run}
+use Rattle.scavenger.proofs.OneSegment.{rooms_tell}
 use Rattle.scavenger.proofs.StartReadings.{low_sized, cell_before_is}
 use Rattle.scavenger.proofs.TargetNumbers.{room_below_roots}
 
@@ -106,7 +107,7 @@ room_by {start} room at begun inside (inr of_run) =
 pub in_segment_or_page : {start : Start} {fixed : Fixed} (at : ℕ) → IsBegun start fixed → IsInRooms fixed at
     → IsInSegment start at ⊎ (at < eden_start start.heap.space)
 in_segment_or_page at begun inside =
-    room_by inside.0 at begun inside.2 ((begun.begins.rooms inside.0).0 inside.1)
+    room_by inside.0 at begun inside.2 ((rooms_tell begun.begins inside.0).0 inside.1)
 
 -- no word of them is a layout word
 layout_not : {start : Start} (shape : ℕ) → start.half ≤ 1

@@ -18,6 +18,7 @@ use Rattle.scav_copy.specs.Places.{Fixed, size_of, IsInCopy, IsInCopies, StoodAt
 use Rattle.scav_copy.specs.Renamings.{RefersToAddress}
 use Rattle.scav_copy.specs.Copies.{Copying}
 use Rattle.scavenger.specs.Starts.{Start, IsFreeRun, room_start}
+use Rattle.scavenger.specs.Backs.{AreBacks}
 
 -- the copies stand one behind another from an address to another, in this order
 pub data Tiles (fixed : Fixed) : ℕ → ℕ → List Home → Type 0 where
@@ -67,7 +68,8 @@ IsInPromoted start fixed homes at =
     (home : Home) × Contains homes home × (home.to < eden_start start.heap.space) × IsInCopy fixed home at
 
 -- Words, free runs and homes between two slots. Some home copies fill the segment from its start to `fill`, one behind
--- another; the others stand in pages. Each word that was in a free run is in one, or in a copy.
+-- another; the others stand in pages. Each word that was in a free run is in one, or in a copy, and each free run is
+-- the back of one that was.
 pub record CopiesFillRooms (start : Start) (fixed : Fixed) (words : List ℕ) (rows : List (List Run)) (homes : List Home)
     (fill : ℕ)
     : Type 0 where
@@ -81,6 +83,7 @@ pub record CopiesFillRooms (start : Start) (fixed : Fixed) (words : List ℕ) (r
   pub pages : PagesStand start words rows homes
   pub left : (at : ℕ) → IsFreeWord start.rows at ↔ (IsFreeWord rows at ⊎ IsInPromoted start fixed homes at)
   pub free : AreFree rows
+  pub backs : AreBacks start.rows rows
   pub apart : (at : ℕ) → IsFreeWord rows at → IsInCopies fixed homes at → ⊥
 
 -- Up to where slots are done: first root words before `root`, recorded ones before `recorded`; and of the copy at hand

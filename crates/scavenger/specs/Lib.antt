@@ -1,4 +1,5 @@
 pub mod Starts
+pub mod Backs
 pub mod Filling
 pub mod Following
 pub mod Paging

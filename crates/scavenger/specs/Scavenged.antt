@@ -1,7 +1,7 @@
 -- What a scavenge comes to.
 use Rattle.std.specs.Prelude.{◌≡◌, ℕ, ◌+◌, ◌<◌, ◌≤◌, ◌↔◌, ◌⊎◌, Bool, false, ◌||◌, List, [], ◌∷◌, Option, Some, None, Contains}
-use Rattle.std.specs.Prelude.{length, sum_by, slice_get, nat_lt, ◌==◌, if◌then◌else◌}
-use Rattle.page_space.specs.Extents.{eden_start, roots_start}
+use Rattle.std.specs.Prelude.{length, map, sum_by, slice_get, nat_lt, ◌==◌, if◌then◌else◌}
+use Rattle.page_space.specs.Extents.{Space, eden_start, roots_start}
 use Rattle.nursery.specs.Young.{turned}
 use Rattle.free_runs.specs.FreeRuns.{AreFree, longest_of}
 use Rattle.free_runs.specs.Laws.{IsFreeWord}
@@ -14,7 +14,8 @@ use Rattle.scav_copy.specs.declared.places.Home.{Home}
 use Rattle.scav_copy.specs.Places.{Fixed, size_of}
 use Rattle.scav_copy.specs.Renamings.{Renaming}
 use Rattle.scav_copy.specs.Copies.{AreHoused}
-use Rattle.scavenger.specs.Starts.{Start, Begins, IsRootAt, start_of, room_start}
+use Rattle.scavenger.specs.Starts.{Start, Begins, IsRootAt, start_of, copying_workers, segment_from}
+use Rattle.scavenger.specs.Backs.{AreBacks}
 use Rattle.scavenger.specs.Filling.{Tiles, IsInPromoted}
 use Rattle.scavenger.specs.Walking.{IsToPromote}
 
@@ -45,13 +46,35 @@ place_after start homes at =
 abbrev pub words_of_homes : Fixed → List Home → ℕ
 words_of_homes fixed homes = sum_by (λ home. size_of fixed home.from) homes
 
+-- the home copies in a worker's segment, in the order of their addresses
+pub record SegmentCopies : Type 0 where
+  pub worker : ℕ
+  pub homes : List Home
+
+-- the home copy stands in one of these segments
+pub record StaysIn (segments : List SegmentCopies) (home : Home) : Type 0 where
+  pub segment : SegmentCopies
+  pub of_all : Contains segments segment
+  pub among : Contains segment.homes home
+
+-- they fill the segment of a half, from its start on
+abbrev pub FillsSegment : Space → ℕ → Fixed → SegmentCopies → Type 0
+FillsSegment space half fixed segment =
+    let from = segment_from space half segment.worker in
+    Tiles fixed from (from + words_of_homes fixed segment.homes) segment.homes
+
+-- how many words the home copies in all segments have
+abbrev pub words_of_segments : Fixed → List SegmentCopies → ℕ
+words_of_segments fixed segments = sum_by (λ segment. words_of_homes fixed segment.homes) segments
+
 -- A scavenge, which promotes survivors alone, or all. Exactly the young cells that were reached, from variables and
 -- recorded slots through slots of such cells, have homes: they stand there, and all that referred to them refers to
--- that. Those that stay young fill the main side's segment of the half that was empty, from its start on; they are the
--- survivors, and eden is empty. A survivor, or any where all are promoted, has its home in a page, unless it is longer
--- than each free run that is left; no other has. Each word that was in a free run is in one, or in such a copy, and the
--- runs that are left neither overlap nor touch; as many pages have a row of them. Else nothing changed in pages, in
--- second root words and in layout words.
+-- that. Those that stay young fill segments of the half that was empty, one for each worker that copies, each from its
+-- start on; they are the survivors, and eden is empty. A survivor, or any where all are promoted, has its home in a
+-- page, unless it is longer than each free run that is left; no other has. Each word that was in a free run is in one,
+-- or in such a copy: copies take the fronts of free runs, and what is left are the backs of them. The runs that are left
+-- neither overlap nor touch; as many pages have a row of them. Else nothing changed in pages, in second root words and
+-- in layout words.
 pub record Scavenges (old new : Mutator) (all : Bool) : Type 0 where
   pub fixed : Fixed
   pub homes : List Home
@@ -63,13 +86,13 @@ pub record Scavenges (old new : Mutator) (all : Bool) : Type 0 where
       → slice_get (heap_words new.seat) at ≡ slice_get (heap_words old.seat) at
   pub seat : RestStays old.seat new.seat
   pub paths : new.paths ≡ old.paths
-  pub stayed : List Home
-  pub stayed_are : (home : Home) → Contains stayed home
-      ↔ (Contains homes home × (eden_start old.seat.space ≤ home.to))
-  pub tiles : let from = room_start old.seat.space (start_of old).half in
-      Tiles fixed from (from + words_of_homes fixed stayed) stayed
-  pub young : new.young ≡ turned old.young (words_of_homes fixed stayed)
-  pub few : words_of_homes fixed stayed ≤ old.young.survivors + old.young.used
+  pub segments : List SegmentCopies
+  pub workers : map (λ segment. segment.worker) segments ≡ copying_workers old.seat.space
+  pub stayed : (home : Home) → StaysIn segments home ↔ (Contains homes home × (eden_start old.seat.space ≤ home.to))
+  pub tiles : (segment : SegmentCopies) → Contains segments segment
+      → FillsSegment old.seat.space (start_of old).half fixed segment
+  pub young : new.young ≡ turned old.young (words_of_segments fixed segments)
+  pub few : words_of_segments fixed segments ≤ old.young.survivors + old.young.used
   pub moved : IsMoved (heap_of old) (heap_of new) (place_after (start_of old) homes)
   pub alone : (cell : Cell) (words : List ℕ) → HasCell (heap_of new) cell words
       → eden_start old.seat.space ≤ cell.at → (home : Home) × Contains homes home × (home.to ≡ cell.at)
@@ -79,5 +102,6 @@ pub record Scavenges (old new : Mutator) (all : Bool) : Type 0 where
       → IsToPromote old.seat.space all home.from
   pub left : (at : ℕ) → IsFreeWord old.free at
       ↔ (IsFreeWord new.free at ⊎ IsInPromoted (start_of old) fixed homes at)
+  pub backs : AreBacks old.free new.free
   pub apart : AreFree new.free
   pub rows : length new.free ≡ length old.free

@@ -1,6 +1,6 @@
 -- What a scavenge of a heap begins with: which cells may be copied, which slots outside refer to them, and where copies
 -- go.
-use Rattle.std.specs.Prelude.{◌≡◌, ℕ, ◌+◌, ◌*◌, ◌<◌, ◌≤◌, ◌↔◌, ◌⊎◌, List, Contains, AllPairs, sum_by}
+use Rattle.std.specs.Prelude.{◌≡◌, ℕ, ◌+◌, ◌*◌, ◌<◌, ◌≤◌, ◌↔◌, ◌⊎◌, List, [], ◌∷◌, Contains, AllPairs, sum_by}
 use Rattle.page_space.specs.Extents.{Space, eden_start, segments_start, half_segments}
 use Rattle.cell_layout.specs.Cells.{layouts_in}
 use Rattle.free_runs.specs.FreeRuns.{AreFree}
@@ -32,18 +32,34 @@ start_of main = record {
   rows = main.free;
 }
 
--- the first address of the main side's segment of this half, which is the last one
-abbrev pub room_start : Space → ℕ → ℕ
-room_start space half =
-    segments_start space + space.sizes.young * (half * half_segments space + space.sizes.helpers)
+-- the workers that copy to a segment of their own: the main side alone, which has the last segment of each half
+abbrev pub copying_workers : Space → List ℕ
+copying_workers space = space.sizes.helpers ∷ []
 
--- that segment as the room of copies
-abbrev pub room_of : Space → ℕ → Room
-room_of space half = record {
-  worker = space.sizes.helpers;
-  from = room_start space half;
-  to = room_start space half + space.sizes.young;
+-- the first address of a worker's segment of this half
+abbrev pub segment_from : Space → ℕ → ℕ → ℕ
+segment_from space half worker = segments_start space + space.sizes.young * (half * half_segments space + worker)
+
+-- that segment as a room of copies
+abbrev pub segment_room : Space → ℕ → ℕ → Room
+segment_room space half worker = record {
+  worker = worker;
+  from = segment_from space half worker;
+  to = segment_from space half worker + space.sizes.young;
 }
+
+-- the room is the segment of a worker that copies
+pub record IsSegmentRoom (space : Space) (half : ℕ) (room : Room) : Type 0 where
+  pub worker : ℕ
+  pub copies : Contains (copying_workers space) worker
+  pub is : room ≡ segment_room space half worker
+
+-- the first address of the main side's segment of this half, and that segment as a room
+abbrev pub room_start : Space → ℕ → ℕ
+room_start space half = segment_from space half space.sizes.helpers
+
+abbrev pub room_of : Space → ℕ → Room
+room_of space half = segment_room space half space.sizes.helpers
 
 -- a free run as such a room
 abbrev pub room_of_run : Space → Run → Room
@@ -70,14 +86,14 @@ pub record IsRootAt (space : Space) (at : ℕ) : Type 0 where
   pub stands : at ≡ root_at space variable
 
 -- The words before are the heap's. The cells are the young ones, the slots the first root words of the variables and
--- the recorded ones, and copies go to the main side's segment of this half and to free runs.
+-- the recorded ones, and copies go to segments of this half and to free runs.
 pub record Begins (start : Start) (fixed : Fixed) : Type 0 where
   pub before : fixed.before ≡ start.heap.words
   pub layouts : fixed.layouts ≡ layouts_in start.heap.space start.heap.words
   pub cells : (at : ℕ) → Contains fixed.cells at ↔ IsYoungCell start.heap at
   pub slots : (at : ℕ) → Contains fixed.slots at ↔ (IsRootAt start.heap.space at ⊎ Contains start.recorded at)
   pub rooms : (room : Room) → Contains fixed.rooms room
-      ↔ ((room ≡ room_of start.heap.space start.half)
+      ↔ (IsSegmentRoom start.heap.space start.half room
       ⊎ ((run : Run) × IsFreeRun start.rows run × (room ≡ room_of_run start.heap.space run)))
 
 -- the word at this place is that of a slot: one of the slots outside, or one that a scavenge visits in one of the cells

@@ -17,7 +17,7 @@ use Rattle.script_text.specs.Scripts.{ScriptText, NumberedStatement, what_in, en
 use Rattle.script_text.specs.Grammar.{nest, nested, followed, stated_then, stated_from, past_limit, lines_from}
 use Rattle.script_text.specs.Grammar.{open_after, innermost_of, script_of}
 use Rattle.script_laws.specs.Canonical.{statement_text}
-use Rattle.script_text.proofs.Speaking.{AreStated, MayStand, deeper}
+use Rattle.script_text.specs.Fitting.{AreStated, MayStand, deeper}
 use Rattle.script_laws.proofs.Spacing.{Avoids, AllAvoid, is_feed}
 use Rattle.script_laws.proofs.Spelling.{statements_are_read_again, feed-statement_text}
 

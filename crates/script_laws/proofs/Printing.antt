@@ -13,8 +13,8 @@ use Rattle.script_text.specs.Grammar.{stated_from, past_limit, lines_from, open_
 use Rattle.script_text.specs.Grammar.{within_limit, script_or_stop, reading}
 use Rattle.script_laws.specs.Canonical.{spaced, ended, written_token, statement_text, token_of, arguments_in, what_text}
 use Rattle.script_laws.specs.Canonical.{printed, ParsesAs, PrintedIsReadAgain}
-use Rattle.script_text.proofs.Fits.{AllFit}
-use Rattle.script_text.proofs.Speaking.{AreStated, deeper, stated_from-AreStated}
+use Rattle.script_text.specs.Fitting.{AllFit, AreStated, deeper}
+use Rattle.script_text.proofs.Speaking.{stated_from-AreStated}
 use Rattle.script_text.proofs.Numbers.{Contains-first_uses}
 use Rattle.script_laws.proofs.Naming.{slice_get-number_of}
 use Rattle.script_text.proofs.Within.{AreIn, AreIn-left, AreIn-right}

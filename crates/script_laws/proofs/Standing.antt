@@ -9,7 +9,7 @@ use Rattle.script_text.specs.declared.table.OperandKind.TheVariants.{Variable, F
 use Rattle.script_text.specs.Table.{places_of}
 use Rattle.script_text.specs.Statements.{RawOperand, variable, field, literal, integer, undefined, bound}
 use Rattle.script_text.specs.Scripts.{argument_of, what_of}
-use Rattle.script_text.proofs.Fits.{Fits, AllFit}
+use Rattle.script_text.specs.Fitting.{Fits, AllFit}
 use Rattle.script_text.proofs.Within.{what_at_places}
 use Rattle.script_laws.specs.Canonical.{keyword_of, arguments_in}
 

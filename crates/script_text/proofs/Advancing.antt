@@ -1,7 +1,7 @@
 -- One statement after another becomes a line, and its names get numbers.
-use Rattle.std.proofs.Common.{◌≡◌, ℕ, ◌+◌, ◌<◌, ◌≤◌, Bool, true, false, cond, ◌||◌, nat_lt, List, []}
-use Rattle.std.proofs.Common.{◌∷◌, ◌++◌, length, map, fold, drop, get_or, slice_get, Some, None, unwrap_or}
-use Rattle.std.proofs.Common.{append-nil, refl, sym, ap, ◌∙◌, subst, arith}
+use Rattle.std.proofs.Common.{◌≡◌, ℕ, ◌+◌, ◌≤◌, Bool, true, false, cond, ◌||◌, nat_lt, List, []}
+use Rattle.std.proofs.Common.{◌∷◌, ◌++◌, length, map, fold, drop, Some, None}
+use Rattle.std.proofs.Common.{append-nil, suc, length-append, refl, sym, ap, ◌∙◌, subst, arith}
 use Rattle.std.specs.List.{flat_map}
 use Rattle.std.proofs.lemmas.Bool.Decides.{nat_tests}
 use Rattle.std.proofs.lemmas.List.{drop_all}
@@ -12,12 +12,14 @@ use Rattle.script_text.specs.declared.statements.NumberedStatement.{NumberedStat
 use Rattle.script_text.specs.Limits.{variable_names_most, field_names_most}
 use Rattle.script_text.specs.Statements.{Statement}
 use Rattle.script_text.specs.Names.{with_name, first_uses, variables_of, fields_of}
-use Rattle.script_text.specs.Scripts.{NumberedStatement, line, argument_of, what_in}
-use Rattle.script_text.specs.Grammar.{past_limit, lines_from, open_after, script_of}
-use Rattle.script_text.specs.Blocks.{ends_from}
+use Rattle.script_text.specs.Scripts.{NumberedStatement, line, argument_of, end_after, what_in}
+use Rattle.script_text.specs.Grammar.{past_limit, lines_from, innermost_of, open_after, script_of}
+use Rattle.script_text.specs.Blocks.{AreBelow, closed_lines}
+use Rattle.script_text.specs.Fitting.{AreStated, MayStand}
 use Rattle.script_text.specs.Shown.{statement_shown, stated_shown, are_too_many}
 use Rattle.script_text.specs.Sound.{script_text}
-use Rattle.script_text.proofs.Lining.{lines_from-read, lines-more}
+use Rattle.script_text.proofs.Ending.{all_ended, below_after, length-closed_lines, lines-step}
+use Rattle.script_text.proofs.Nested.{later}
 use Rattle.script_text.proofs.Within.{AreIn, what_at_places}
 use Rattle.script_text.proofs.Staying.{arguments-fold, AreIn-fold}
 
@@ -41,7 +43,12 @@ pub record AreLines (stated : List StatedSlices) (i : ℕ) (variables fields : L
   pub few_fields : length fields ≤ field_names_most
   pub within : past_limit variables fields (map stated_shown (drop i stated))
       ≡ past_limit [] [] (map stated_shown stated)
-  pub all : lines ++ lines_from (first_uses (variables_in (map stated_shown stated)))
+  pub count : length lines ≡ i
+  pub below : AreBelow i open'
+  pub blocks : AreStated (length open') (map stated_shown (drop i stated))
+  -- where each open `repeat` ends is known from the rest
+  pub all : all_ended (λ n. end_after n i (map stated_shown (drop i stated))) open' lines
+      ++ lines_from (first_uses (variables_in (map stated_shown stated)))
       (first_uses (fields_in (map stated_shown stated))) i open' (map stated_shown (drop i stated))
       ≡ (script_of (map stated_shown stated)).lines
 
@@ -110,26 +117,53 @@ what_in-stays stated i x variables fields variables' fields' open' lines ends re
     ∙ ap (λ names. map (argument_of names (fold with_name fields' (fields_in rest))) statement.operands) vs
     ∙ ap (λ names. map (argument_of (first_uses (variables_in (map stated_shown stated))) names) statement.operands) fs)
 
+-- the step to the next statement, where there are as many lines as statements were read
+step-here : (stated : List StatedSlices) (i : ℕ) (x : StatedSlices) (vs fs : List (List ℕ)) (open' : List ℕ)
+    (lines : List Line) → length lines ≡ i → AreBelow i open' → MayStand (length open') x.statement.keyword
+    → all_ended (λ n. end_after n (i + 1) (map stated_shown (drop (i + 1) stated))) (open_after i open' x.statement.keyword)
+    (closed_lines x.statement.keyword i open' lines ++ line x.number (what_in vs fs 0 (innermost_of open')
+    (statement_shown x.statement)) ∷ [])
+    ++ lines_from vs fs (i + 1) (open_after i open' x.statement.keyword) (map stated_shown (drop (i + 1) stated))
+    ≡ all_ended (λ n. end_after n i (stated_shown x ∷ map stated_shown (drop (i + 1) stated))) open' lines
+    ++ lines_from vs fs i open' (stated_shown x ∷ map stated_shown (drop (i + 1) stated))
+step-here stated i x vs fs open' lines count below may =
+    let k = x.statement.keyword in
+    let operands = (statement_shown x.statement).operands in
+    let more = map stated_shown (drop (i + 1) stated) in
+    let here : suc i ≡ i + 1 = omega arith in
+    let Step = λ (at next : ℕ).
+    all_ended (λ n. end_after n next more) (open_after at open' k)
+    (closed_lines k at open' lines ++ line x.number (what_in vs fs 0 (innermost_of open') (statement_shown x.statement)) ∷ [])
+    ++ lines_from vs fs next (open_after at open' k) more
+    ≡ all_ended (λ n. end_after n at (stated_shown x ∷ more)) open' lines
+    ++ lines_from vs fs at open' (stated_shown x ∷ more) in
+    subst (Step i) here (subst (λ at. Step at (suc at)) count
+    (lines-step k vs fs x.number operands open' lines more (subst (λ at. AreBelow at open') (sym count) below) may))
+
+-- the statement that stands here, and those of the rest
+pub next-AreStated : (stated : List StatedSlices) (i : ℕ) (x : StatedSlices) (depth : ℕ)
+    → drop i stated ≡ x ∷ drop (i + 1) stated → AreStated depth (map stated_shown (drop i stated))
+    → AreStated depth (stated_shown x ∷ map stated_shown (drop (i + 1) stated))
+next-AreStated stated i x depth here h = subst (λ all. AreStated depth (map stated_shown all)) here h
+
 -- one more statement is a line
 pub AreLines-more : (stated : List StatedSlices) (i : ℕ) (x : StatedSlices)
     (variables fields variables' fields' : List (List ℕ)) (open' inner : List ℕ) (lines pushed : List Line)
-    (all_ends : List ℕ) (ends repeats : ℕ) (what : What) → i < length stated
     → AreLines stated i variables fields open' lines → IsNext stated i x variables fields variables' fields'
-    → are_too_many variables' fields' ≡ false → all_ends ≡ ends_from 0 (map stated_shown stated)
-    → ends ≡ get_or all_ends i 0 → repeats ≡ unwrap_or (slice_get open' 0) 0
-    → inner ≡ open_after i open' x.statement.keyword
-    → what ≡ what_in variables' fields' ends repeats (statement_shown x.statement)
-    → pushed ≡ lines ++ line x.number what ∷ []
+    → are_too_many variables' fields' ≡ false → inner ≡ open_after i open' x.statement.keyword
+    → pushed ≡ closed_lines x.statement.keyword i open' lines ++ line x.number
+    (what_in variables' fields' 0 (innermost_of open') (statement_shown x.statement)) ∷ []
     → AreLines stated (i + 1) variables' fields' inner pushed
-AreLines-more stated i x variables fields variables' fields' open' inner lines pushed all_ends ends repeats what lt h
-    next few ends_are ends_is repeats_is inner_is what_is pushed_is =
+AreLines-more stated i x variables fields variables' fields' open' inner lines pushed h next few inner_is pushed_is =
     let vs = first_uses (variables_in (map stated_shown stated)) in
     let fs = first_uses (fields_in (map stated_shown stated)) in
+    let k = x.statement.keyword in
+    let more = map stated_shown (drop (i + 1) stated) in
     let both = neither (nat_lt variable_names_most (length variables')) (nat_lt field_names_most (length fields')) few in
-    let read =
-    lines_from-read vs fs stated i x open' inner all_ends ends repeats lt next.here ends_are
-    ends_is repeats_is inner_is in
-    let same = what_is ∙ what_in-stays stated i x variables fields variables' fields' open' lines ends repeats h next in
+    let is = next-AreStated stated i x (length open') next.here h.blocks in
+    let same = what_in-stays stated i x variables fields variables' fields' open' lines 0 (innermost_of open') h next in
+    let last = λ (what : What). closed_lines k i open' lines ++ line x.number what ∷ [] in
+    let written = pushed_is ∙ ap last same in
     record {
       variables_are =
           names-next variables_of stated i x variables variables' next.here next.variables_are ∙ h.variables_are;
@@ -137,17 +171,34 @@ AreLines-more stated i x variables fields variables' fields' open' inner lines p
       few_variables = at_most variable_names_most (length variables') both.0;
       few_fields = at_most field_names_most (length fields') both.1;
       within =
-          let later = past_limit variables' fields' (map stated_shown (drop (i + 1) stated)) in
+          let later = past_limit variables' fields' more in
           sym (past_limit-next stated i x variables fields variables' fields' next
           ∙ ap (λ past. cond past (Some x.number) later) few)
           ∙ h.within;
-      all = lines-more lines pushed _ _ _ _ (pushed_is ∙ ap (λ w. lines ++ line x.number w ∷ []) same) read h.all;
+      count =
+          ap length pushed_is ∙ length-append (closed_lines k i open' lines) _
+          ∙ ap (λ n. n + 1) (length-closed_lines k i open' lines ∙ h.count);
+      below = subst (AreBelow (i + 1)) (sym inner_is) (below_after i open' k h.below);
+      blocks = subst (λ deep. AreStated (length deep) more) (sym inner_is) (later i open' k more is.2);
+      all =
+          ap (λ deep. all_ended (λ n. end_after n (i + 1) more) deep pushed ++ lines_from vs fs (i + 1) deep more) inner_is
+          ∙ ap (λ all. all_ended (λ n. end_after n (i + 1) more) (open_after i open' k) all
+          ++ lines_from vs fs (i + 1) (open_after i open' k) more) written
+          ∙ step-here stated i x vs fs open' lines h.count h.below is.1
+          ∙ ap (λ all. all_ended (λ n. end_after n i (map stated_shown all)) open' lines
+          ++ lines_from vs fs i open' (map stated_shown all)) (sym next.here)
+          ∙ h.all;
     }
 
 -- All statements are lines.
 pub record AreAll (stated : List StatedSlices) (variables fields : List (List ℕ)) (lines : List Line) : Type 0 where
   pub script : script_of (map stated_shown stated) ≡ script_text lines variables fields
   pub within : past_limit [] [] (map stated_shown stated) ≡ None
+
+-- no `repeat` is open after the last statement
+no_open : (open' : List ℕ) → length open' ≡ 0 → open' ≡ []
+no_open [] e = refl
+no_open (innermost ∷ outer) e = absurd (omega (arith, e))
 
 -- past the last statement, all are
 pub AreLines-all : (stated : List StatedSlices) (i : ℕ) (variables fields : List (List ℕ)) (open' : List ℕ)
@@ -160,9 +211,12 @@ AreLines-all stated i variables fields open' lines past h =
     sym (ap (λ rest. fold with_name variables (variables_in (map stated_shown rest))) end) ∙ h.variables_are in
     let fs : fields ≡ all.fields =
     sym (ap (λ rest. fold with_name fields (fields_in (map stated_shown rest))) end) ∙ h.fields_are in
+    let none = no_open open' (subst (λ rest. AreStated (length open') (map stated_shown rest)) end h.blocks) in
+    let rest_of = λ (rest : List StatedSlices) (deep : List ℕ).
+    all_ended (λ n. end_after n i (map stated_shown rest)) deep lines
+    ++ lines_from all.variables all.fields i deep (map stated_shown rest) in
     let ls : lines ≡ all.lines =
-    sym (append-nil lines)
-    ∙ sym (ap (λ rest. lines ++ lines_from all.variables all.fields i open' (map stated_shown rest)) end) ∙ h.all in
+    sym (ap (λ rest. rest_of rest open') end ∙ ap (rest_of []) none ∙ append-nil lines) ∙ h.all in
     record {
       script =
           sym (ap (λ some. script_text some variables fields) ls

@@ -17,27 +17,7 @@ use Rattle.script_text.specs.Statements.{written_at}
 use Rattle.script_text.specs.Statements.{written_all, joined, literal_up_to, integer_or_bound, statement_of}
 use Rattle.script_text.specs.Statements.{statement_of_line}
 use Rattle.script_text.specs.Statements.{statement_with, if_command}
-
--- the operand may stand at this place
-abbrev pub Fits : OperandKind → RawOperand → Type 0
-Fits Variable (variable token) = Unit {0}
-Fits Field (field token) = is_name token ≡ true
-Fits (Literal most) (literal n) = n ≤ most
-Fits Value (integer v) = Unit {0}
-Fits Value undefined = Unit {0}
-Fits Value (bound token) = Unit {0}
-Fits _ _ = ⊥
-
--- there is an operand for each place, which may stand there
-abbrev pub AllFit : List OperandKind → List RawOperand → Type 0
-AllFit [] [] = Unit {0}
-AllFit [] (written ∷ operands) = ⊥
-AllFit (place ∷ places) [] = ⊥
-AllFit (place ∷ places) (written ∷ operands) = Fits place written × AllFit places operands
-
--- the statement of a line that is not refused: its operands fit its command
-pub record IsStated (statement : Statement) : Type 0 where
-  pub fitting : AllFit (places_of statement.keyword) statement.operands
+use Rattle.script_text.specs.Fitting.{Fits, AllFit, IsStated}
 
 -- what is given where a test passes
 given : (test : Bool) (made : RawOperand) (reason : Why) (written : RawOperand)

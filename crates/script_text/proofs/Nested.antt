@@ -8,7 +8,7 @@ use Rattle.script_text.specs.Scripts.{NumberedStatement}
 use Rattle.script_text.specs.Grammar.{lines_from, open_after}
 use Rattle.script_text.specs.Sound.{depth_of}
 use Rattle.script_text.proofs.Ending.{speaks}
-use Rattle.script_text.proofs.Speaking.{AreStated, deeper, MayStand}
+use Rattle.script_text.specs.Fitting.{AreStated, deeper, MayStand}
 
 -- as many `repeat`s are open after a command
 length-open_after : (at : ℕ) (open' : List ℕ) (k : Keyword) → length (open_after at open' k) ≡ deeper (length open') k

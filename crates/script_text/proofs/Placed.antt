@@ -10,7 +10,7 @@ use Rattle.script_text.specs.Scripts.{NumberedStatement, end_after}
 use Rattle.script_text.specs.Grammar.{lines_from, open_after}
 use Rattle.script_text.specs.Whole.{run_line, repeat_line, end_line, AreBlocks, IsPaired}
 use Rattle.script_text.proofs.Ending.{speaks, end_after-end}
-use Rattle.script_text.proofs.Speaking.{AreStated, MayStand}
+use Rattle.script_text.specs.Fitting.{AreStated, MayStand}
 use Rattle.script_text.proofs.Nested.{later}
 
 -- lines at their places are whole

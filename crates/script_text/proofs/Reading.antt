@@ -41,17 +41,15 @@ lines-few source lines e =
     let count : length lines ≡ length (lines_of source) = sym (length-map lines (λ line. line.now)) ∙ ap length e in
     omega (arith, length-lines_of source)
 
--- at most as many statements as lines
-pub stated-few : (lines : List (Bor (List ℕ))) (stated : List StatedSlices)
-    → stated_from 1 [] (map (λ line. line.now) lines) ≡ Ok (map stated_shown stated)
-    → length stated ≤ length lines
-stated-few lines stated e =
+-- a source has at most a statement for each byte
+pub stated-few : (source : List ℕ) (stated : List StatedSlices)
+    → stated_from 1 [] (lines_of source) ≡ Ok (map stated_shown stated) → length stated ≤ length source
+stated-few source stated e =
     omega (
       arith,
-      stated_from-few 1 [] (map (λ line. line.now) lines)
-          (map stated_shown stated) e,
+      stated_from-few 1 [] (lines_of source) (map stated_shown stated) e,
       length-map stated stated_shown,
-      length-map lines (λ line. line.now),
+      length-lines_of source,
     )
 
 -- the script of statements that were read is sound where it has not too many names

@@ -12,8 +12,7 @@ use Rattle.script_text.specs.Statements.{RawOperand, variable, field, literal, i
 use Rattle.script_text.specs.Names.{position_of_name, with_name, first_uses, field_in, fields_of}
 use Rattle.script_text.specs.Scripts.{NumberedStatement}
 use Rattle.script_text.specs.Sound.{AreShort}
-use Rattle.script_text.proofs.Fits.{Fits, AllFit}
-use Rattle.script_text.proofs.Speaking.{AreStated, deeper}
+use Rattle.script_text.specs.Fitting.{Fits, AllFit, AreStated, deeper}
 
 -- a name has few bytes
 abbrev IsShort : List ℕ → Type 0

@@ -1,5 +1,5 @@
 -- The statements of lines that were read: each fits, and the blocks are nested.
-use Rattle.std.proofs.Common.{◌≡◌, ℕ, suc, ◌-◌, ◌<◌, ◌≤◌, Bool, true, false, cond, nat_lt, List, []}
+use Rattle.std.proofs.Common.{◌≡◌, ℕ, suc, ◌<◌, ◌≤◌, Bool, true, false, cond, nat_lt, List, []}
 use Rattle.std.proofs.Common.{◌∷◌, length, Option, Some, None, Result, Ok, Err, refl, sym, ap, ◌∙◌, subst, arith}
 use Rattle.std.proofs.lemmas.Bool.Decides.{nat_tests}
 use Rattle.script_text.specs.declared.script.Why.{Why}
@@ -11,26 +11,8 @@ use Rattle.script_text.specs.Limits.{open_most}
 use Rattle.script_text.specs.Statements.{Statement, statement_of_line}
 use Rattle.script_text.specs.Scripts.{NumberedStatement}
 use Rattle.script_text.specs.Grammar.{nest, nested, followed, stated_then, stated_from}
-use Rattle.script_text.proofs.Fits.{IsStated, statement_of_line-IsStated}
-
--- how many `repeat`s are open after a command
-abbrev pub deeper : ℕ → Keyword → ℕ
-deeper depth keyword.Repeat = suc depth
-deeper depth keyword.End = depth - 1
-deeper depth other = depth
-
--- the command may stand where so many `repeat`s are open
-abbrev pub MayStand : ℕ → Keyword → Type 0
-MayStand depth keyword.Repeat = depth < open_most
-MayStand depth keyword.End = 0 < depth
-MayStand depth other = Unit {0}
-
--- the statements were read from lines, inside so many `repeat`s
-abbrev pub AreStated : ℕ → List NumberedStatement → Type 0
-AreStated depth [] = depth ≡ 0
-AreStated depth (stated ∷ more) =
-    IsStated stated.statement × MayStand depth stated.statement.keyword
-    × AreStated (deeper depth stated.statement.keyword) more
+use Rattle.script_text.specs.Fitting.{IsStated, AreStated, MayStand, deeper}
+use Rattle.script_text.proofs.Fits.{statement_of_line-IsStated}
 
 -- what `nest` has allowed
 pub record IsNested (k : Keyword) (open' inner : List ℕ) : Type 0 where

@@ -1,7 +1,8 @@
 -- A name that has a number keeps it when more names get numbers.
 use Rattle.std.proofs.Common.{◌≡◌, inl, inr, ℕ, ◌≤◌, cond, List, [], ◌∷◌, ◌++◌, length, map, fold, Option}
-use Rattle.std.proofs.Common.{Some, None, unwrap_or, option_map, slice_get, refl, sym, ap, ◌∙◌, subst, arith}
+use Rattle.std.proofs.Common.{Some, None, suc, take, unwrap_or, option_map, slice_get, refl, sym, ap, ◌∙◌, subst, arith}
 use Rattle.std.specs.List.{Contains, flat_map}
+use Rattle.std.proofs.lemmas.List.{length-map}
 use Rattle.std.proofs.lemmas.List.Sums.{fold-append}
 use Rattle.std.proofs.lemmas.Option.{slice_get-map}
 use Rattle.script_text.specs.declared.commands.Argument.{Argument}
@@ -10,8 +11,11 @@ use Rattle.heap_command.specs.declared.command.Operand.TheVariants.{Undefined, V
 use Rattle.script_text.specs.declared.commands.Argument.TheVariants as argument
 use Rattle.script_text.specs.declared.table.Keyword.{Keyword}
 use Rattle.script_text.specs.declared.table.Keyword.TheVariants as keyword
+use Rattle.script_text.specs.declared.table.OperandKind.{OperandKind}
+use Rattle.script_text.specs.declared.table.OperandKind.TheVariants as place
 use Rattle.script_text.specs.Table.{places_of}
-use Rattle.script_text.specs.Statements.{RawOperand, variable, field, bound}
+use Rattle.script_text.specs.Fitting.{Fits, AllFit, IsOfKind, AreOfKinds}
+use Rattle.script_text.specs.Statements.{RawOperand, variable, field, literal, integer, undefined, bound}
 use Rattle.script_text.specs.Names.{position_of_name, number_of_name, with_name, names_at, variable_in, field_in}
 use Rattle.script_text.specs.Scripts.{argument_of, argument_at}
 use Rattle.script_text.proofs.Numbers.{known_or_new, bytes_tell, Contains-with_name, Contains-fold}
@@ -182,3 +186,52 @@ three_enter operands vs fs vs1 fs1 vs2 fs2 vs3 fs3 a b c few one two three =
           ∙ ap (λ names. argument_at (map (argument_of vs3 names) operands) 1) (sym three.fields_are);
       third = three.argument_is;
     }
+
+-- the arguments of operands that fit their places are what these want
+pub arguments_of_kinds : (vs fs : List (List ℕ)) (places : List OperandKind) (operands : List RawOperand)
+    → AllFit places operands → AreOfKinds places (map (argument_of vs fs) operands)
+arguments_of_kinds vs fs [] [] fit = tt
+arguments_of_kinds vs fs [] (written ∷ operands) fit = absurd fit
+arguments_of_kinds vs fs (place ∷ places) [] fit = absurd fit
+arguments_of_kinds vs fs (first ∷ places) (written ∷ operands) fit =
+    (of_kind first written fit.0, arguments_of_kinds vs fs places operands fit.1)
+  where
+    of_kind : (kind : OperandKind) (written : RawOperand) → Fits kind written → IsOfKind kind (argument_of vs fs written)
+    of_kind place.Variable (variable token) fit = tt
+    of_kind place.Field (field token) fit = tt
+    of_kind (place.Literal most) (literal n) fit = tt
+    of_kind place.Value (integer v) fit = tt
+    of_kind place.Value undefined fit = tt
+    of_kind place.Value (bound token) fit = tt
+    of_kind kind written fit = absurd fit
+
+-- there is an operand for each place
+length-AllFit : (places : List OperandKind) (operands : List RawOperand) → AllFit places operands
+    → length places ≡ length operands
+length-AllFit [] [] fit = refl
+length-AllFit [] (written ∷ operands) fit = absurd fit
+length-AllFit (place ∷ places) [] fit = absurd fit
+length-AllFit (place ∷ places) (written ∷ operands) fit = ap suc (length-AllFit places operands fit.1)
+
+-- at most three arguments are those at the first places
+taken_arguments : (arguments : List Argument) → length arguments ≤ 3
+    → take (length arguments) (argument_at arguments 0 ∷ argument_at arguments 1 ∷ argument_at arguments 2 ∷ [])
+    ≡ arguments
+taken_arguments [] few = refl
+taken_arguments (a ∷ []) few = refl
+taken_arguments (a ∷ b ∷ []) few = refl
+taken_arguments (a ∷ b ∷ c ∷ []) few = refl
+taken_arguments (a ∷ b ∷ c ∷ d ∷ more) few = absurd (omega (arith, few))
+
+-- so are those of operands that were entered
+pub entered_arguments : (places : List OperandKind) (operands : List RawOperand) (vs fs vs' fs' : List (List ℕ))
+    (a b c : Argument) → length operands ≤ 3 → AllFit places operands → AllEnter operands vs fs vs' fs' a b c
+    → take (length places) (a ∷ b ∷ c ∷ []) ≡ map (argument_of vs' fs') operands
+entered_arguments places operands vs fs vs' fs' a b c few fit all =
+    let arguments = map (argument_of vs' fs') operands in
+    let count : length arguments ≡ length operands = length-map operands (argument_of vs' fs') in
+    ap (λ n. take n (a ∷ b ∷ c ∷ [])) (length-AllFit places operands fit ∙ sym count)
+    ∙ ap (λ x. take (length arguments) (x ∷ b ∷ c ∷ [])) all.first
+    ∙ ap (λ x. take (length arguments) (argument_at arguments 0 ∷ x ∷ c ∷ [])) all.second
+    ∙ ap (λ x. take (length arguments) (argument_at arguments 0 ∷ argument_at arguments 1 ∷ x ∷ [])) all.third
+    ∙ taken_arguments arguments (omega (arith, count, few))

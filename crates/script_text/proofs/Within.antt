@@ -20,8 +20,7 @@ use Rattle.script_text.specs.Scripts.{as_value}
 use Rattle.script_text.specs.Scripts.{what_of, end_after}
 use Rattle.script_text.specs.Grammar.{lines_from, open_after, innermost_of, script_of}
 use Rattle.script_text.specs.Sound.{NamesWithin, IsNumbered}
-use Rattle.script_text.proofs.Fits.{Fits, AllFit}
-use Rattle.script_text.proofs.Speaking.{AreStated, deeper}
+use Rattle.script_text.specs.Fitting.{Fits, AllFit, AreStated, deeper}
 use Rattle.script_text.proofs.Numbers.{number_of_name-lt, Contains-first_uses}
 
 -- each of these names is in the list

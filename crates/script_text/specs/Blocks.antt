@@ -1,21 +1,28 @@
--- Where the `repeat`s that are open end.
-use Rattle.std.specs.Prelude.{ℕ, suc, List, [], ◌∷◌, drop}
+-- Where `repeat`s end: the line of each is told so at its `end`.
+use Rattle.std.specs.Prelude.{ℕ, zero, suc, ◌<◌, List, [], ◌∷◌}
 use Rattle.script_text.specs.declared.table.Keyword.{Keyword}
-use Rattle.script_text.specs.declared.table.Keyword.TheVariants.{Repeat, End}
-use Rattle.script_text.specs.Scripts.{NumberedStatement, end_after}
+use Rattle.script_text.specs.declared.table.Keyword.TheVariants as keyword
+use Rattle.script_text.specs.declared.script.Line.{Line}
+use Rattle.script_text.specs.declared.script.What.{What}
+use Rattle.script_text.specs.declared.script.What.TheVariants.{Repeat}
 
--- the places of the `end`s of the `repeat`s that are open before a command at this place, from those open after it
-abbrev pub end_before : ℕ → Keyword → List ℕ → List ℕ
-end_before at Repeat ends = drop 1 ends
-end_before at End ends = at ∷ ends
-end_before at _ ends = ends
+-- what a line does, if it is a `repeat` that ends at this place
+abbrev pub ended : ℕ → What → What
+ended end_at (Repeat times last) = Repeat times end_at
+ended end_at other = other
 
--- the places of the `end`s that have no `repeat` among these statements, the first at this place
-abbrev pub ends_before : ℕ → List NumberedStatement → List ℕ
-ends_before at [] = []
-ends_before at (stated ∷ more) = end_before at stated.statement.keyword (ends_before (suc at) more)
+-- the lines, where the `repeat` at the second place ends at the first
+abbrev pub with_end : ℕ → ℕ → List Line → List Line
+with_end end_at at [] = []
+with_end end_at zero (line ∷ lines) = record { number = line.number; what = ended end_at line.what } ∷ lines
+with_end end_at (suc at) (line ∷ lines) = line ∷ with_end end_at at lines
 
--- for each statement the place where the innermost `repeat` that is open after it ends
-abbrev pub ends_from : ℕ → List NumberedStatement → List ℕ
-ends_from at [] = []
-ends_from at (stated ∷ more) = end_after 0 (suc at) more ∷ ends_from (suc at) more
+-- the lines before a command at a place: where it is an `end`, the innermost of the open `repeat`s ends there
+abbrev pub closed_lines : Keyword → ℕ → List ℕ → List Line → List Line
+closed_lines keyword.End at (innermost ∷ outer) lines = with_end at innermost lines
+closed_lines k at open' lines = lines
+
+-- these places are below this one
+abbrev pub AreBelow : ℕ → List ℕ → Type 0
+AreBelow most [] = Unit {0}
+AreBelow most (place ∷ places) = (place < most) × AreBelow most places

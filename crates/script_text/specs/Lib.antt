@@ -11,6 +11,7 @@ pub mod Gathered
 pub mod Unrolled
 pub mod Pieces
 pub mod Shown
+pub mod Fitting
 pub mod Sound
 pub mod Whole
 pub mod Left

@@ -1,45 +1,34 @@
 //! Which `end` belongs to which `repeat`.
-ghost use Rattle.std.specs.Prelude.{◌≡◌, ◌<◌, ◌^◌, IfOk, OnOk, length, map};
-ghost use Rattle.script_text.specs.Blocks.{ends_from, end_before};
+ghost use Rattle.std.specs.Prelude.{◌≡◌, ◌<◌, OnOk, length};
+ghost use Rattle.std.specs.Vec.{vec_len};
+ghost use Rattle.script_text.specs.Blocks.{ended, with_end};
 ghost use Rattle.script_text.specs.Grammar.{open_after};
-ghost use Rattle.script_text.specs.Shown.{stated_shown};
 
+use crate::script::{Line, What};
 use crate::stack::Stack;
-use crate::statements::NumberedStatement;
 use crate::table::Keyword;
-use std::alloc::{AllocError, Global};
+use std::alloc::AllocError;
 
-/// For each statement the place where the innermost `repeat` that is open after it ends; where none is
-/// open, the number of statements.
-pub(crate) fn ends<'s>(
-    alloc: Global,
-    stated: &[NumberedStatement<'s>],
-) -> Result<Vec<u32>, AllocError>
-    requires { length stated.now < 2 ^ 32 }
-    ensures { IfOk result (λ ends. ends.items ≡ ends_from 0 (map stated_shown stated.now)) }
+/// What a line does, if it is a `repeat` that ends at this place.
+fn ended(what: What, end_at: u32) -> What
+    ensures { result ≡ ended end_at what }
 {
-    let none = stated.len() as u32;
-    let mut ends = vec![in alloc; none; stated.len()]?;
-    let mut later = Stack::new(alloc);
-    for i in (0..stated.len()).rev() {
-        ends[i] = later.top().unwrap_or(none);
-        end_before(&mut later, i as u32, stated[i].statement.keyword)?;
+    match what {
+        What::Repeat { times, end_at: _ } => What::Repeat { times, end_at },
+        other => other,
     }
-    Ok(ends)
 }
 
-/// Where the `repeat`s that are open after a command end becomes where those open before it end.
-fn end_before(ends: &mut Stack, at: u32, keyword: Keyword) -> Result<(), AllocError>
-    ensures { OnOk result (ends.new ≡ end_before at keyword ends.old) }
+/// Tells the `repeat` at the second place that it ends at the first.
+pub(crate) fn end_repeat(lines: &mut Vec<Line>, end_at: u32, repeat_at: u32)
+    requires { repeat_at < vec_len lines.old }
+    ensures { lines.new.items ≡ with_end end_at repeat_at lines.old.items }
 {
-    match keyword {
-        Keyword::Repeat => {
-            ends.pop();
-        }
-        Keyword::End => ends.push(at)?,
-        _ => {}
-    }
-    Ok(())
+    let line = lines[repeat_at as usize];
+    lines[repeat_at as usize] = Line {
+        number: line.number,
+        what: ended(line.what, end_at),
+    };
 }
 
 /// Opens or closes a `repeat`, where the command at this place is one or its `end`.

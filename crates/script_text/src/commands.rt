@@ -1,6 +1,8 @@
 //! What a line does: its command, with the arguments that its operands are.
 ghost use Rattle.std.specs.Prelude.{◌≡◌};
-ghost use Rattle.script_text.specs.Scripts.{as_variable, as_field, as_literal, as_value, what_of};
+ghost use Rattle.script_text.specs.Fitting.{AreOfKinds};
+ghost use Rattle.script_text.specs.Scripts.{argument_at, what_of};
+ghost use Rattle.script_text.specs.Table.{places_of};
 
 use crate::script::What;
 use crate::table::Keyword;
@@ -19,96 +21,70 @@ pub enum Argument {
     Value(Operand),
 }
 
-impl Argument {
-    /// The variable's number; 0 for another argument.
-    fn variable(self) -> u32
-        ensures { result ≡ as_variable self }
-    {
-        match self {
-            Argument::Variable(number) => number,
-            _ => 0,
-        }
-    }
-
-    /// The field's number; 0 for another argument.
-    fn field(self) -> u32
-        ensures { result ≡ as_field self }
-    {
-        match self {
-            Argument::Field(number) => number,
-            _ => 0,
-        }
-    }
-
-    /// The literal; 0 for another argument.
-    fn literal(self) -> u32
-        ensures { result ≡ as_literal self }
-    {
-        match self {
-            Argument::Literal(n) => n,
-            _ => 0,
-        }
-    }
-
-    /// The value; `undefined` for another argument.
-    fn value(self) -> Operand
-        ensures { result ≡ as_value self }
-    {
-        match self {
-            Argument::Value(value) => value,
-            _ => Operand::Undefined,
-        }
-    }
-}
-
-/// What a command is with these arguments, as many as it has; the others are not read. A `repeat`
-/// ends at the first place, and an `end` ends the `repeat` at the second.
-pub(crate) fn what_of(
-    end_at: u32,
-    repeat_at: u32,
-    keyword: Keyword,
-    first: Argument,
-    second: Argument,
-    third: Argument,
-) -> What
-    ensures { result ≡ what_of end_at repeat_at keyword first second third }
+/// What a command is with these arguments, of which each is what its place wants. A `repeat` ends at the first place, and
+/// an `end` ends the `repeat` at the second.
+pub(crate) fn what_of(end_at: u32, repeat_at: u32, keyword: Keyword, arguments: &[Argument]) -> What
+    requires { AreOfKinds (places_of keyword) arguments.now }
+    ensures { let argument = argument_at arguments.now in
+        result ≡ what_of end_at repeat_at keyword (argument 0) (argument 1) (argument 2) }
 {
-    let (a, u, times) = (first.variable(), first.value(), first.literal());
-    let (b, f, v, cap) = (
-        second.variable(),
-        second.field(),
-        second.value(),
-        second.literal(),
-    );
-    let (g, w) = (third.field(), third.value());
-    What::Run(match keyword {
-        Keyword::New => Command::New { x: a, cap },
-        Keyword::List => Command::List { x: a },
-        Keyword::Weak => Command::Weak { x: a },
-        Keyword::Let => Command::LetValue { x: a, v },
-        Keyword::Drop => Command::DropVar { x: a },
-        Keyword::Add => Command::Add { x: a, v },
-        Keyword::Set => Command::Set { x: a, f, v: w },
-        Keyword::Get => Command::Get { y: a, x: b, f: g },
-        Keyword::Del => Command::Del { x: a, f },
-        Keyword::Push => Command::Push { x: a, v },
-        Keyword::Put => Command::Put { x: a, i: v, v: w },
-        Keyword::At => Command::At { y: a, x: b, i: w },
-        Keyword::Shift => Command::Shift { x: a, n: v },
-        Keyword::Trunc => Command::Trunc { x: a, n: v },
-        Keyword::WPut => Command::WPut { m: a, k: v, v: w },
-        Keyword::WGet => Command::WGet { y: a, m: b, k: w },
-        Keyword::WDel => Command::WDel { m: a, k: v },
-        Keyword::Print => Command::Print { v: u },
-        Keyword::Same => Command::Same { a: u, b: v },
-        Keyword::Alike => Command::Alike { x: a, y: b },
-        Keyword::Shape => Command::Shape { x: a },
-        Keyword::Repeat => return What::Repeat { times, end_at },
-        Keyword::End => return What::End { repeat_at },
-        Keyword::Scavenge => Command::Scavenge,
-        Keyword::Mark => Command::Mark,
-        Keyword::Finish => Command::Finish,
-        Keyword::Gc => Command::Gc,
-        Keyword::Census => Command::Census,
+    use Argument::{Field, Literal, Value, Variable};
+    What::Run(match (keyword, arguments) {
+        (Keyword::New, [Variable(x), Literal(cap)]) => Command::New { x: *x, cap: *cap },
+        (Keyword::List, [Variable(x)]) => Command::List { x: *x },
+        (Keyword::Weak, [Variable(x)]) => Command::Weak { x: *x },
+        (Keyword::Let, [Variable(x), Value(v)]) => Command::LetValue { x: *x, v: *v },
+        (Keyword::Drop, [Variable(x)]) => Command::DropVar { x: *x },
+        (Keyword::Add, [Variable(x), Value(v)]) => Command::Add { x: *x, v: *v },
+        (Keyword::Set, [Variable(x), Field(f), Value(v)]) => Command::Set {
+            x: *x,
+            f: *f,
+            v: *v,
+        },
+        (Keyword::Get, [Variable(y), Variable(x), Field(f)]) => Command::Get {
+            y: *y,
+            x: *x,
+            f: *f,
+        },
+        (Keyword::Del, [Variable(x), Field(f)]) => Command::Del { x: *x, f: *f },
+        (Keyword::Push, [Variable(x), Value(v)]) => Command::Push { x: *x, v: *v },
+        (Keyword::Put, [Variable(x), Value(i), Value(v)]) => Command::Put {
+            x: *x,
+            i: *i,
+            v: *v,
+        },
+        (Keyword::At, [Variable(y), Variable(x), Value(i)]) => Command::At {
+            y: *y,
+            x: *x,
+            i: *i,
+        },
+        (Keyword::Shift, [Variable(x), Value(n)]) => Command::Shift { x: *x, n: *n },
+        (Keyword::Trunc, [Variable(x), Value(n)]) => Command::Trunc { x: *x, n: *n },
+        (Keyword::WPut, [Variable(m), Value(k), Value(v)]) => Command::WPut {
+            m: *m,
+            k: *k,
+            v: *v,
+        },
+        (Keyword::WGet, [Variable(y), Variable(m), Value(k)]) => Command::WGet {
+            y: *y,
+            m: *m,
+            k: *k,
+        },
+        (Keyword::WDel, [Variable(m), Value(k)]) => Command::WDel { m: *m, k: *k },
+        (Keyword::Print, [Value(v)]) => Command::Print { v: *v },
+        (Keyword::Same, [Value(a), Value(b)]) => Command::Same { a: *a, b: *b },
+        (Keyword::Alike, [Variable(x), Variable(y)]) => Command::Alike { x: *x, y: *y },
+        (Keyword::Shape, [Variable(x)]) => Command::Shape { x: *x },
+        (Keyword::Repeat, [Literal(times)]) => return What::Repeat {
+            times: *times,
+            end_at,
+        },
+        (Keyword::End, _) => return What::End { repeat_at },
+        (Keyword::Scavenge, _) => Command::Scavenge,
+        (Keyword::Mark, _) => Command::Mark,
+        (Keyword::Finish, _) => Command::Finish,
+        (Keyword::Gc, _) => Command::Gc,
+        (Keyword::Census, _) => Command::Census,
+        _ => unreachable!(),
     })
 }

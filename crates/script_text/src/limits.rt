@@ -3,6 +3,9 @@
 /// The most bytes of a line.
 pub(crate) const LINE_BYTES_MOST: usize = 4096;
 
+/// The least bytes of a line with a command, as `gc`.
+pub(crate) const COMMAND_BYTES_LEAST: usize = 2;
+
 /// The most bytes of a name.
 pub(crate) const NAME_BYTES_MOST: usize = 32;
 

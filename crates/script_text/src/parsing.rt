@@ -2,7 +2,6 @@
 ghost use Rattle.std.specs.Prelude.{◌≡◌, ◌≢◌, IfOk, IfErr, Ok, Err};
 ghost use Rattle.script_text.specs.Grammar.{reading};
 
-use crate::lines::lines;
 use crate::numbering::with_numbers;
 use crate::script::{BadScript, Script};
 use crate::statements::statements_of;
@@ -17,8 +16,7 @@ pub fn parse<'s>(alloc: Global, source: &'s [u8]) -> Result<Script<'s>, BadScrip
     if source.len() > u32::MAX as usize {
         return Err(BadScript::NoMemory);
     }
-    let lines = lines(alloc, source)?;
-    let stated = statements_of(alloc, &lines)?;
+    let stated = statements_of(alloc, source)?;
     let numbered = with_numbers(alloc, &stated)?;
     Ok(Script::new(
         numbered.lines,

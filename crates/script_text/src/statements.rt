@@ -3,10 +3,12 @@ ghost use Rattle.std.specs.Prelude.{◌≡◌, ℕ, ◌<◌, ◌+◌, ◌^◌, L
 ghost use Rattle.std.specs.Prelude.{length, map};
 ghost use Rattle.script_text.specs.Gathered.{gathered};
 ghost use Rattle.script_text.specs.Grammar.{closed, nest, open_after, stated_from};
+ghost use Rattle.script_text.specs.Lines.{lines_of};
 ghost use Rattle.script_text.specs.Shown.{stated_shown, IsBad};
 
 use crate::blocks::open_after;
-use crate::limits::OPEN_MOST;
+use crate::limits::{COMMAND_BYTES_LEAST, OPEN_MOST};
+use crate::lines::lines;
 use crate::script::{BadScript, Why};
 use crate::stack::Stack;
 use crate::statement::{Statement, statement_of_line};
@@ -20,8 +22,22 @@ pub(crate) struct NumberedStatement<'s> {
     pub(crate) statement: Statement<'s>,
 }
 
-/// The statements of the lines, or the line that is refused.
+/// The statements of a source, or the line that is refused. The list of its lines is let go once they were read.
 pub(crate) fn statements_of<'s>(
+    alloc: Global,
+    source: &'s [u8],
+) -> Result<Vec<NumberedStatement<'s>>, BadScript>
+    requires { length source.now < 2 ^ 32 }
+    ensures stated { IfOk result (λ stated.
+        stated_from 1 [] (lines_of source.now) ≡ Ok (map stated_shown stated.items)) }
+    ensures refused { IfErr result (λ stop. IsBad (stated_from 1 [] (lines_of source.now)) stop) }
+{
+    let lines = lines(alloc, source)?;
+    statements_of_lines(alloc, &lines)
+}
+
+/// The statements of the lines, or the line that is refused.
+fn statements_of_lines<'s>(
     alloc: Global,
     lines: &[&'s [u8]],
 ) -> Result<Vec<NumberedStatement<'s>>, BadScript>
@@ -32,8 +48,13 @@ pub(crate) fn statements_of<'s>(
     ensures refused { IfErr result (λ stop.
         IsBad (stated_from 1 [] (map (λ line. line.now) lines.now)) stop) }
 {
+    // Room is reserved once: a list that doubled would take twice the memory, and half as much again while it moves.
+    let count = lines
+        .iter()
+        .filter(|line| line.len() >= COMMAND_BYTES_LEAST)
+        .count();
     let mut statements = Statements {
-        stated: Vec::new(alloc),
+        stated: Vec::with_capacity(alloc, count)?,
         opened: Stack::new(alloc),
     };
     for (i, line) in lines.iter().enumerate() {

@@ -111,7 +111,7 @@ module _ {old mid new : Mutator} {path : Path} {cell : Cell} {shape at word need
   pub over_young : PutsOver old mid new path cell shape at word need words → new.young ≡ bumped old.young need
   over_young over = over.puts.young ∙ over.adds.young
 
-  -- all words from the marks on stay
+  -- the regions and the phase stay
   pub over_beside : PutsOver old mid new path cell shape at word need words → RestStays old.seat new.seat
   over_beside over = rest_stays_again old.seat mid.seat new.seat over.adds.beside over.puts.beside
 

@@ -7,7 +7,7 @@ use Rattle.page_space.specs.Extents.{marks_start}
 use Rattle.object_graph.proofs.Lists.{slice_get-set_same, slice_get-set_other}
 use Rattle.heap_table.specs.Seats.{Seat, heap_words, RestStays}
 use Rattle.heap_table.specs.Staying.{rest_stays_again}
-use Rattle.heap_table.proofs.HeapWords.{heap_words-put, stays_beside-put}
+use Rattle.heap_table.proofs.HeapWords.{stays_beside-put}
 use Rattle.heap_model.specs.Remembered.{Touch}
 use Rattle.write_barrier.specs.MutatorState.{Mutator, put_word, with_word, with_slot}
 use Rattle.write_barrier.specs.Recording.{Touches, touched_one}
@@ -18,10 +18,10 @@ use Rattle.shape_change.proofs.SlotTouches.{more_by}
 pub rest_put : (old new : Mutator) (a word : ℕ) → new.seat ≡ (put_word old a word).seat → new.paths ≡ old.paths
     → new.young ≡ old.young → a < marks_start old.seat.space → KeepsRest old new
 rest_put old new a word seat paths young below = record {
-  beside = subst (λ (one : Seat). RestStays old.seat one) (sym seat) (stays_beside-put old.seat a word below);
+  beside = subst (λ (one : Seat). RestStays old.seat one) (sym seat) (stays_beside-put old.seat a word);
   paths = paths;
   young = young;
-  count = ap (λ (one : Seat). length (heap_words one)) seat ∙ ap length (heap_words-put old.seat a word below)
+  count = ap (λ (one : Seat). length (heap_words one)) seat
       ∙ length-set (heap_words old.seat) a word;
 }
 

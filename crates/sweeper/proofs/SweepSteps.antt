@@ -20,7 +20,7 @@ pub stays_again : (first old new : Seat) → RestStays first old → RestStays o
 stays_again first old new one then = record {
   space = then.space ∙ one.space;
   phase = then.phase ∙ one.phase;
-  behind = then.behind ∙ one.behind;
+  count = then.count ∙ one.count;
 }
 
 -- only the mutator runs, as when the sweep began
@@ -39,7 +39,7 @@ sweep_begins first now marked rows cleared =
     let Rests : Seat → Type 0 = λ one. RestStays first.seat one in
     let Forgotten : Recorded → Type 0 = λ one. AreForgotten [] first.recorded one in
     record {
-      seat = subst Rests (sym seat) (record { space = refl; phase = refl; behind = refl });
+      seat = subst Rests (sym seat) (record { space = refl; phase = refl; count = refl });
       paths = ap (λ (main : Mutator). main.paths) same;
       young = ap (λ (main : Mutator). main.young) same;
       gaps = [];

@@ -32,7 +32,7 @@ fn put_at(seat: &mut MainSeat, a: u32, word: u64)
     }
 }
 
-/// The word at an address, as commands read it; none from the marks on.
+/// The word at an address, as commands read it; none from the marks on, where the table has no words.
 fn word_at(seat: &MainSeat, a: u32) -> Option<u64>
     requires { seat.now.phase ≢ Scavenge }
 {
@@ -45,7 +45,7 @@ fn word_at(seat: &MainSeat, a: u32) -> Option<u64>
 }
 
 /// Copies the three words at 3 to 1,000 while no other thread runs. Answers how many words the
-/// whole table has, and the size of the cell at 1,000.
+/// table has, and the size of the cell at 1,000.
 fn while_paused(seat: &mut MainSeat) -> (u32, u32)
     requires { seat.old.phase ≡ Quiet }
     ensures { seat.new.phase ≡ Quiet }
@@ -79,7 +79,7 @@ fn a_new_table_is_0_and_what_is_put_and_copied_is_read_again(rt: HostRuntime) ->
     put_at(&mut seat, 4, 3);
     put_at(&mut seat, 2_249, 8);
     put_at(&mut seat, HEAP_WORDS - 1, u64::MAX);
-    assert!(rt; while_paused(&mut seat) == (HEAP_WORDS + 2_048 + 64, 3));
+    assert!(rt; while_paused(&mut seat) == (HEAP_WORDS, 3));
     match cell_at(&mut seat, &one_page(), 1_000) {
         Ok(cell) => assert!(rt; cell.size == 3 && cell.length == 3),
         Err(_) => return Err(Fail::from("no cell")),

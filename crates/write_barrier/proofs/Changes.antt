@@ -7,13 +7,13 @@ use Rattle.std.proofs.lemmas.List.{length-replicate, get_or-replicate}
 use Rattle.std.proofs.lemmas.Option.{slice_get-get_or}
 use Rattle.tagged_word.specs.Headers.{header_bits}
 use Rattle.page_space.specs.Sizes.{page_words}
-use Rattle.page_space.specs.Extents.{Space, marks_start, words_count}
-use Rattle.page_space.proofs.Starts.{roots_start_is, layouts_start_is, marks_start_is, board_start_is, words_count_is}
+use Rattle.page_space.specs.Extents.{Space, marks_start}
+use Rattle.page_space.proofs.Starts.{roots_start_is, layouts_start_is, marks_start_is}
 use Rattle.object_graph.proofs.Lists.{slice_get-set_same, slice_get-set_other}
 use Rattle.handle_roots.specs.Roots.{root_at}
 use Rattle.heap_table.specs.Seats.{RestStays, heap_words, fresh}
 use Rattle.heap_table.specs.Staying.{rest_stays_itself, rest_stays_again}
-use Rattle.heap_table.proofs.HeapWords.{slice_get-heap_words, stays_beside-put}
+use Rattle.heap_table.proofs.HeapWords.{stays_beside-put}
 use Rattle.write_barrier.specs.MutatorState.{Mutator, put_word, IsOneGap, gap_header}
 use Rattle.write_barrier.specs.Opening.{ChangesWithin, AreZero}
 
@@ -24,7 +24,7 @@ pub put_changes : (old new : Mutator) (a word from to : ℕ) → new ≡ put_wor
     → ChangesWithin old new from to
 put_changes old new a word from to is heap low high before = record {
   seat = subst (λ (main : Mutator). RestStays old.seat main.seat) (sym is)
-      (stays_beside-put old.seat a word (omega arith));
+      (stays_beside-put old.seat a word);
   paths = ap (λ (main : Mutator). main.paths) is;
   young = ap (λ (main : Mutator). main.young) is;
   free = ap (λ (main : Mutator). main.free) is;
@@ -94,12 +94,8 @@ gap_put words between new page at is within first second =
 -- the words of a blank heap are 0
 pub blank_zero : (space : Space) → AreZero (heap_words (fresh space)) 0 (marks_start space)
 blank_zero space a from below =
-    let counted : length (fresh space).table ≡ words_count space = length-replicate (words_count space) 0 in
-    let within : a < words_count space = omega (arith, board_start_is space, words_count_is space) in
-    let there : a < length (fresh space).table = subst (λ (n : ℕ). a < n) (sym counted) within in
-    slice_get-heap_words (fresh space) a counted below
-    ∙ slice_get-get_or (fresh space).table a 0 there
-    ∙ ap (λ word. Some word) (get_or-replicate (words_count space) a 0 0 within)
+    slice_get-get_or (heap_words (fresh space)) a 0 (omega (arith, length-replicate {A = ℕ} (marks_start space) 0))
+    ∙ ap (λ word. Some word) (get_or-replicate (marks_start space) a 0 0 below)
 
 -- a root stands before the marks
 pub root_before_marks : (space : Space) (variable : ℕ) → variable < space.variables

@@ -8,7 +8,6 @@ use Rattle.page_space.specs.Extents.{eden_start, marks_start}
 use Rattle.object_graph.proofs.Lists.{slice_get-set_same, slice_get-set_other}
 use Rattle.remembered_set.specs.Recorded.{Recorded, IsBetween}
 use Rattle.heap_table.specs.Seats.{heap_words}
-use Rattle.heap_table.proofs.HeapWords.{heap_words-put}
 use Rattle.heap_model.specs.Types.{Cell}
 use Rattle.heap_model.specs.Wholeness.{HasRows, Whole}
 use Rattle.heap_model.specs.Changes.{CellsChange}
@@ -157,8 +156,7 @@ forget_touch main from to = wiped_touch main (forgets main from to) from to refl
 put_other : (main : Mutator) (at word other : ℕ) → at < marks_start main.seat.space → other ≢ at
     → slice_get (heap_words (put_word main at word).seat) other ≡ slice_get (heap_words main.seat) other
 put_other main at word other before apart =
-    ap (λ words. slice_get words other) (heap_words-put main.seat at word before)
-    ∙ slice_get-set_other (heap_words main.seat) at other word apart
+    slice_get-set_other (heap_words main.seat) at other word apart
 
 -- a word that is no slot's wipes its address
 pub word_touch : (main : Mutator) (at word : ℕ) → at < marks_start main.seat.space
@@ -256,8 +254,7 @@ page_slot_touch : (main : Mutator) (at word : ℕ) → length (heap_words main.s
     → Touches main (with_slot main at word) (touched_one Touch.Stored at)
 page_slot_touch main at word counted before of_page =
     judged_touch main (with_slot main at word) at word of_page refl refl
-    (ap (λ words. slice_get words at) (heap_words-put main.seat at word before)
-    ∙ slice_get-set_same (heap_words main.seat) at word (omega (arith, counted, before)))
+    (slice_get-set_same (heap_words main.seat) at word (omega (arith, counted, before)))
     (λ other apart. put_other main at word other before apart)
 
 -- the word of a slot is stored there

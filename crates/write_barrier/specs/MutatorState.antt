@@ -140,7 +140,7 @@ abbrev pub none_recorded : Space → Recorded
 none_recorded space = record { bound = eden_start space; slots = [] }
 
 -- A heap that was just opened: nothing is used and nothing has survived, each page is one gap and one free run, nothing
--- is recorded, and the phase is quiet, each mark white and each place of the board empty, as in words of 0.
+-- is recorded, and the phase is quiet.
 pub record IsOpened (main : Mutator) : Type 0 where
   pub young : main.young ≡ new_young main.seat.space
   pub free : main.free ≡ whole_rows main.seat.space.sizes.pages

@@ -57,8 +57,8 @@ blank space = record {
   recorded = none_recorded space;
 }
 
--- Nothing is used, each page is one gap, segments hold 0, each variable is bound to nothing, the layout words are
--- there, and all behind them is as in words of 0.
+-- Nothing is used, each page is one gap, segments hold 0, each variable is bound to nothing, and the layout words are
+-- there.
 pub record IsStarted (main : Mutator) : Type 0 where
   pub beside : RestStays (fresh main.seat.space) main.seat
   pub paths : main.paths ≡ empty_paths

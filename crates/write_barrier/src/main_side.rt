@@ -6,7 +6,7 @@ ghost use Rattle.std.specs.Borrow.{sem};
 ghost use Rattle.std.proofs.Common.{◌∙◌};
 ghost use Rattle.tagged_word.specs.Readings.{header_at};
 ghost use Rattle.page_space.specs.Sizes.{AreWithin};
-ghost use Rattle.page_space.specs.Extents.{words_count, marks_start};
+ghost use Rattle.page_space.specs.Extents.{marks_start};
 ghost use Rattle.shape_tree.specs.Shapes.{AreShapes, IsPathShape, IsLocated, shape_path, has_name};
 ghost use Rattle.shape_tree.specs.CachedSlots.{IsCachedSlot};
 ghost use Rattle.nursery.specs.Young.{IsYoung};
@@ -51,7 +51,6 @@ impl Main {
     #[inline(always)]
     pub fn regions(&self) -> Regions
         ensures regions { result ≡ self.now.seat.space }
-        ensures counted { length self.now.seat.table ≡ words_count self.now.seat.space }
         ensures heap_counted { length (heap_words self.now.seat) ≡ marks_start self.now.seat.space }
         ensures within { AreWithin self.now.seat.space.sizes self.now.seat.space.variables }
     {
@@ -65,7 +64,6 @@ impl Main {
     #[inline(always)]
     pub fn word(&self, a: u32) -> u64
         requires { a < marks_start self.now.seat.space }
-        ensures of_table { slice_get self.now.seat.table a ≡ Some result }
         ensures of_heap { slice_get (heap_words self.now.seat) a ≡ Some result }
     {
         self.seat.word(a)
@@ -75,7 +73,6 @@ impl Main {
     #[inline(always)]
     pub fn slot(&self, cell: u32, offset: u32) -> u64
         requires { cell + offset < marks_start self.now.seat.space }
-        ensures of_table { slice_get self.now.seat.table (cell + offset) ≡ Some result }
         ensures of_heap { slice_get (heap_words self.now.seat) (cell + offset) ≡ Some result }
     {
         self.seat.slot(cell, offset)
@@ -92,11 +89,10 @@ impl Main {
         Header::of_bits(self.word(at))
     }
 
-    /// No address of a heap is past 32 bits: there is a word for each address of the regions, and
-    /// these are within their limits. The call says so, and does nothing else.
+    /// No address of a heap is past 32 bits: there is a word for each address before the marks, and the
+    /// regions are within their limits. The call says so, and does nothing else.
     #[inline(always)]
     pub fn addresses_fit(&self)
-        ensures counted { length self.now.seat.table ≡ words_count self.now.seat.space }
         ensures heap_counted { length (heap_words self.now.seat) ≡ marks_start self.now.seat.space }
         ensures within { AreWithin self.now.seat.space.sizes self.now.seat.space.variables }
         ensures fit { marks_start self.now.seat.space < 2 ^ 32 }

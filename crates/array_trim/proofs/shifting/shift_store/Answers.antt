@@ -123,7 +123,7 @@ returns c =
     (c.set_header.ensures.written ∙ ap (λ (main : Mutator). with_word main start (header_bits store_header)) same)
     c.write_slot.ensures.written within in
     let stored = then_stored (c.args.list + 1) (reference_word start) head named
-    (rest_counted moved.beside c.addresses_fit.ensures.counted)
+    (rest_counted moved.beside c.addresses_fit.ensures.heap_counted)
     (omega (arith, slot_before, ap marks_start moved.beside.space)) in
     let wiped = then_wiped (c.args.list + 2) _ stored c.write_slot-2.ensures.written
     (omega (arith, count_before, ap marks_start linked.beside.space)) in

@@ -1,9 +1,5 @@
 use Rattle.std.proofs.Common.{ℕ, ◌∙◌, ap, true}
 use Rattle.std.proofs.lemmas.Bool.{cases_eq}
-use Rattle.heap_model.specs.Heaps.{Heap}
-use Rattle.heap_model.specs.Images.{image_heap}
-use Rattle.write_barrier.specs.MutatorState.{heap_of}
-use Rattle.collector.proofs.ImagesShow.{images_are_blank}
 use Rattle.heap_run.specs.Texts.{sink_fault_status}
 use Rattle.heap_run.proofs.Concluding.{IsKeepable}
 use Rattle.heap_run.proofs.Imaged.{laws_hold, finishes_imaged}
@@ -16,7 +12,6 @@ returns g c = λ seed forms is.
     let ran = c.run_script-finished.ensures in
     let script = c.args.script.now in
     let space = c.args.heap.main.seat.space in
-    let heap : Heap = heap_of c.run_script-finished.new.heap.main in
     let kept = c.keep.ensures in
     let image = c.keep.result.image in
     let imaged = kept.image in
@@ -24,7 +19,6 @@ returns g c = λ seed forms is.
     let keepable : IsKeepable space.sizes script image = record {
       regions = imaged.space ∙ ran.space
           ∙ ap (λ (n : ℕ). record { sizes = space.sizes; variables = n }) c.requires.variables;
-      blank = images_are_blank heap (image_heap image) ran.finishes.reached.shown.whole imaged;
     } in
     rw (kept.need, kept.line, kept.executed)
     (Soaks-finished space.sizes seed forms script image c.run_script-finished.new.sink finished.how finished.line

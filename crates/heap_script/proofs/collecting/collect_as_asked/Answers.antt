@@ -2,7 +2,7 @@ use Rattle.std.proofs.Common.{[], append-nil, sym, subst}
 use Rattle.object_graph.specs.Reach.{reached_objects, reached_entries}
 use Rattle.object_graph.specs.Texts.{line, census_text}
 use Rattle.write_barrier.specs.MutatorState.{Mutator, MainShows}
-use Rattle.heap_script.proofs.Asking.{asked_scavenge, asked_mark, asked_finish_by, asked_gc, asked_census}
+use Rattle.heap_script.proofs.Asking.{asked_scavenge, asked_mark_by, asked_finish_by, asked_gc, asked_census}
 use Rattle.heap_script.proofs.collecting.collect_as_asked.Goals as goal
 
 pub returns-in-Scavenge-clause-carried : goal.returns-in-Scavenge-clause-carried
@@ -15,10 +15,11 @@ returns-in-Scavenge-clause-carried c = λ names graph shown. (
 
 pub returns-in-Mark-clause-carried : goal.returns-in-Mark-clause-carried
 returns-in-Mark-clause-carried c = λ names graph shown.
-    let same = c.begin_cycle.ensures.main in (
+    let begun = c.begin_cycle.ensures in (
       [],
       rw c.in-Mark.is
-          (asked_mark same (subst (λ (main : Mutator). MainShows main graph) (sym same) shown.main)),
+          (asked_mark_by c.args.heap.now.rest.in_cycle (λ none. begun.begun none graph shown) begun.stays
+          (begun.shows graph shown).main),
       sym (append-nil c.args.out.now),
     )
 

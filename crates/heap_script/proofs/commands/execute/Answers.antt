@@ -79,12 +79,20 @@ returns-in-Weak-clause-executed g c = (
 )
 
 pub returns-in-LetValue-clause-executed : goal.returns-in-LetValue-clause-executed
-returns-in-LetValue-clause-executed g c =
-    (c.let_value.result, c.of.ensures, rw c.in-LetValue.is (executes c.main_mut-main.ensures.main refl refl refl c.let_value.ensures.carried))
+returns-in-LetValue-clause-executed g c = (
+  c.let_value.result,
+  c.of.ensures,
+  rw c.in-LetValue.is
+      (executes c.main_mut-main.ensures.main refl refl refl c.let_value.ensures.carried),
+)
 
 pub returns-in-DropVar-clause-executed : goal.returns-in-DropVar-clause-executed
-returns-in-DropVar-clause-executed g c =
-    (c.drop_var.result, c.of-in-DropVar.ensures, rw c.in-DropVar.is (executes c.main_mut-main.ensures.main refl refl refl c.drop_var.ensures.carried))
+returns-in-DropVar-clause-executed g c = (
+  c.drop_var.result,
+  c.of-in-DropVar.ensures,
+  rw c.in-DropVar.is
+      (executes c.main_mut-main.ensures.main refl refl refl c.drop_var.ensures.carried),
+)
 
 pub returns-in-Add-clause-executed : goal.returns-in-Add-clause-executed
 returns-in-Add-clause-executed g c =
@@ -102,28 +110,48 @@ returns-in-Get-clause-executed g c =
     (came, says, rw c.in-Get.is (executes c.main_mut-main.ensures.main refl refl refl carries))
 
 pub returns-in-Del-clause-executed : goal.returns-in-Del-clause-executed
-returns-in-Del-clause-executed g c =
-    (c.del.result, c.of-in-Del.ensures, rw c.in-Del.is (executes c.main_mut-main.ensures.main refl refl refl c.del.ensures.carried))
+returns-in-Del-clause-executed g c = (
+  c.del.result,
+  c.of-in-Del.ensures,
+  rw c.in-Del.is
+      (executes c.main_mut-main.ensures.main refl refl refl c.del.ensures.carried),
+)
 
 pub returns-in-Push-clause-executed : goal.returns-in-Push-clause-executed
-returns-in-Push-clause-executed g c =
-    (c.push.result, c.of-in-Push.ensures, rw c.in-Push.is (executes c.main_mut-main.ensures.main refl refl refl c.push.ensures.carried))
+returns-in-Push-clause-executed g c = (
+  c.push.result,
+  c.of-in-Push.ensures,
+  rw c.in-Push.is
+      (executes c.main_mut-main.ensures.main refl refl refl c.push.ensures.carried),
+)
 
 pub returns-in-Put-clause-executed : goal.returns-in-Put-clause-executed
-returns-in-Put-clause-executed g c =
-    (c.put.result, c.of-in-Put.ensures, rw c.in-Put.is (executes c.main_mut-main.ensures.main refl refl refl c.put.ensures.carried))
+returns-in-Put-clause-executed g c = (
+  c.put.result,
+  c.of-in-Put.ensures,
+  rw c.in-Put.is
+      (executes c.main_mut-main.ensures.main refl refl refl c.put.ensures.carried),
+)
 
 pub returns-in-At-clause-executed : goal.returns-in-At-clause-executed
 returns-in-At-clause-executed g c =
     (c.at.result, c.of-in-At.ensures, rw c.in-At.is (executes c.main_mut-main.ensures.main refl refl refl c.at.ensures.carried))
 
 pub returns-in-Shift-clause-executed : goal.returns-in-Shift-clause-executed
-returns-in-Shift-clause-executed g c =
-    (c.shift.result, c.of-in-Shift.ensures, rw c.in-Shift.is (executes c.main_mut-main.ensures.main refl refl refl c.shift.ensures.carried))
+returns-in-Shift-clause-executed g c = (
+  c.shift.result,
+  c.of-in-Shift.ensures,
+  rw c.in-Shift.is
+      (executes c.main_mut-main.ensures.main refl refl refl c.shift.ensures.carried),
+)
 
 pub returns-in-Trunc-clause-executed : goal.returns-in-Trunc-clause-executed
-returns-in-Trunc-clause-executed g c =
-    (c.trunc.result, c.of-in-Trunc.ensures, rw c.in-Trunc.is (executes c.main_mut-main.ensures.main refl refl refl c.trunc.ensures.carried))
+returns-in-Trunc-clause-executed g c = (
+  c.trunc.result,
+  c.of-in-Trunc.ensures,
+  rw c.in-Trunc.is
+      (executes c.main_mut-main.ensures.main refl refl refl c.trunc.ensures.carried),
+)
 
 pub returns-in-WPut-clause-executed : goal.returns-in-WPut-clause-executed
 returns-in-WPut-clause-executed g c = (
@@ -133,9 +161,17 @@ returns-in-WPut-clause-executed g c = (
 )
 
 pub returns-in-WGet-clause-executed : goal.returns-in-WGet-clause-executed
-returns-in-WGet-clause-executed g c =
-    (c.wget.result, c.of-in-WGet.ensures, rw c.in-WGet.is (executes c.main_mut-main.ensures.main refl refl refl c.wget.ensures.carried))
+returns-in-WGet-clause-executed g c = (
+  c.wget.result,
+  c.of-in-WGet.ensures,
+  rw c.in-WGet.is
+      (executes c.main_mut-main.ensures.main refl refl refl c.wget.ensures.carried),
+)
 
 pub returns-in-WDel-clause-executed : goal.returns-in-WDel-clause-executed
-returns-in-WDel-clause-executed g c =
-    (c.wdel.result, c.of-in-WDel.ensures, rw c.in-WDel.is (executes c.main_mut-main.ensures.main refl refl refl c.wdel.ensures.carried))
+returns-in-WDel-clause-executed g c = (
+  c.wdel.result,
+  c.of-in-WDel.ensures,
+  rw c.in-WDel.is
+      (executes c.main_mut-main.ensures.main refl refl refl c.wdel.ensures.carried),
+)

@@ -60,6 +60,7 @@ returns-then-executed-eq-LINES_MOST-clause-pauses g c =
     (record {
       reached = r.reached;
       collections = uncollected;
+      opened = r.opened;
       spends = r.spends;
       shown = r.shown;
       halts = (
@@ -80,6 +81,7 @@ returns-clause-pauses g c =
     (record {
       reached = r.reached;
       collections = uncollected;
+      opened = r.opened;
       spends = r.spends;
       shown = r.shown;
       halts = (
@@ -110,6 +112,7 @@ returns-in_default g c =
       pauses = rw c.after-in_default.ensures (record {
         reached = r.reached;
         collections = uncollected;
+        opened = r.opened;
         spends = r.spends;
         shown = r.shown;
         halts = (

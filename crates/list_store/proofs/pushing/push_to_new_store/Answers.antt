@@ -208,7 +208,7 @@ returns-clause-ok c =
     put_rest (c.args.list + 1) _ still (ap (λ (main : Mutator). main.seat) c.store-2.ensures.stored) slot_before in
     let count_before : c.args.list + 2 < marks_start linked.seat.space =
     omega (arith, count_within ready.whole.whole ready.there, ap (λ (s : Space). marks_start s) named.space) in
-    let counted = c.addresses_fit.ensures.counted in
+    let counted = c.addresses_fit.ensures.heap_counted in
     let stored = then_stored place c.boxed_word-word.result.0 (store_made c) c.store.ensures.stored
     (rest_counted first counted) place_within in
     let holds = store_content c.args.value in

@@ -1,7 +1,6 @@
 -- The three words are put one by one.
 use Rattle.std.proofs.Common.{◌≡◌, ◌+◌, List, ℕ, slice_set, sym, ◌∙◌, ap, subst, arith}
 use Rattle.tagged_word.specs.Headers.{header_bits}
-use Rattle.page_space.proofs.Starts.{marks_start_is, board_start_is, words_count_is}
 use Rattle.heap_model.specs.Remembered.{Touch}
 use Rattle.heap_model.specs.Slots.{undefined_word}
 use Rattle.heap_table.specs.Seats.{Seat, heap_words}
@@ -39,10 +38,7 @@ returns-clause-filled c =
     (omega (
       arith,
       c.requires.within,
-      c.addresses_fit.ensures.counted,
-      marks_start_is space,
-      board_start_is space,
-      words_count_is space,
+      c.addresses_fit.ensures.heap_counted,
     )))
 
 pub returns-clause-heap : goal.returns-clause-heap

@@ -2,7 +2,6 @@
 use Rattle.std.proofs.Common.{◌≡◌, ◌+◌, ℕ, List, sym, ◌∙◌, ap, subst, arith, replicate, length}
 use Rattle.std.proofs.lemmas.List.{length-replicate}
 use Rattle.tagged_word.specs.Headers.{header_bits}
-use Rattle.page_space.proofs.Starts.{marks_start_is, board_start_is, words_count_is}
 use Rattle.heap_model.specs.Remembered.{Touch}
 use Rattle.heap_model.specs.Slots.{hole_word, undefined_word}
 use Rattle.write_barrier.specs.MutatorState.{Mutator, with_slot}
@@ -39,10 +38,7 @@ returns-clause-filled c =
       arith,
       long,
       c.requires.within,
-      c.addresses_fit.ensures.counted,
-      marks_start_is space,
-      board_start_is space,
-      words_count_is space,
+      c.addresses_fit.ensures.heap_counted,
     ))
     (ap (λ (now : Mutator). now.seat) c.fill_holes.ensures.filled)
 

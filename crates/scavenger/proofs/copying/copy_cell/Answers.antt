@@ -16,7 +16,7 @@ returns c =
     let ends : cell.at + cell.size ≤ length (heap_words main.seat) = c.requires.is.reads.there in
     let copies : ChangesWords main c.copy_words.new.self =
     copy_changes cell.at c.args.to cell.size c.copy_words.ensures.copied c.copy_words.ensures.heap
-    c.addresses_fit.ensures.counted counted (omega (arith, ends, counted)) c.requires.room in
+    counted (omega (arith, ends, counted)) c.requires.room in
     let some = (cells_have_words main.seat.space (heap_words main.seat) cell c.requires.is).0 in
     let below : cell.at < marks_start main.seat.space = omega (arith, some, ends, counted) in
     let puts : ChangesWords c.copy_words.new.self c.write.new.self =

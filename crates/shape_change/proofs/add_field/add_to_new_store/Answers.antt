@@ -109,7 +109,7 @@ returns-clause-ok c =
     (subst (λ (main : Mutator). RestStays main.seat mid.seat) c.in_ok-at.ensures.reserved
     c.step_to-next.ensures.beside) made in
     let all = then_stored place c.boxed_word-word.result.0 (all_made c) c.store.ensures.stored
-    (rest_counted from_old c.addresses_fit.ensures.counted) below in
+    (rest_counted from_old c.addresses_fit.ensures.heap_counted) below in
     record {
       room = search rules;
       next = c.step_to-next.result;

@@ -10,7 +10,7 @@ returns-in-Found c =
     let paths = c.args.main.now.paths in
     let path = stepped (shape_path paths c.args.shape) c.args.field.name c.args.field.rep in
     record {
-      beside = record { space = refl; phase = refl; behind = refl };
+      beside = record { space = refl; phase = refl; count = refl };
       young = refl;
       free = refl;
       recorded = refl;

@@ -4,5 +4,5 @@ use Rattle.write_barrier.proofs.roots.copy_in.Goals as goal
 
 pub copy-requires-clause-within : goal.copy-requires-clause-within
 copy-requires-clause-within c =
-    rw (c.regions-regions.ensures.regions, c.paused-paused.ensures.seat, c.regions-regions.ensures.counted)
+    rw (c.regions-regions.ensures.regions, c.paused-paused.ensures.seat, c.regions-regions.ensures.heap_counted)
     (layouts_within c.args.seat.now.space)

@@ -1,12 +1,5 @@
-use Rattle.std.proofs.Common.{◌∙◌, ap, arith}
-use Rattle.heap_table.specs.Seats.{heap_words}
-use Rattle.heap_table.proofs.MarksStart.{marks_start_within}
-use Rattle.heap_table.proofs.HeapWords.{heap_words-put}
+use Rattle.std.proofs.Common.{arith}
 use Rattle.heap_table.proofs.main_seat.MainSeat.put.Goals as goal
 
 pub put_any-requires : goal.put_any-requires
-put_any-requires c = omega (arith, marks_start_within c.args.self.now.space)
-
-pub returns-clause-heap : goal.returns-clause-heap
-returns-clause-heap c =
-    ap heap_words c.put_any.ensures ∙ heap_words-put c.args.self.now c.args.a c.args.word c.requires.within
+put_any-requires c = omega (arith, c.regions-regions.ensures.heap_counted)

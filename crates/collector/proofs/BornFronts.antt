@@ -1,0 +1,128 @@
+-- After a full collection a copy takes the front of what the sweep left free.
+use Rattle.std.proofs.Common.{◌≡◌, ℕ, ◌+◌, ◌-◌, ◌*◌, ◌<◌, ◌≤◌, inl, inr, List, [], ◌∷◌, Contains}
+use Rattle.std.proofs.Common.{IsTrue, ap, sym, ◌∙◌, subst, arith}
+use Rattle.std.proofs.lemmas.Bool.{false≢true, cases_lt}
+use Rattle.std.proofs.lemmas.List.Elements.{Contains-get_or}
+use Rattle.tagged_word.specs.Cells.{is_free_kind}
+use Rattle.tagged_word.proofs.Members.{in_cases}
+use Rattle.page_space.specs.Sizes.{page_words}
+use Rattle.page_space.specs.Extents.{Space, eden_start}
+use Rattle.free_runs.specs.FreeRuns.{AscendIn, row_of}
+use Rattle.free_runs.specs.Laws.{IsOfRun}
+use Rattle.object_graph.specs.Graphs.{Graph}
+use Rattle.heap_model.specs.Types.{Cell, Run}
+use Rattle.heap_model.specs.Heaps.{Heap, HasCell}
+use Rattle.heap_model.specs.Wholeness.{HasRows}
+use Rattle.heap_model.proofs.CellsApart.{IsOfCell, first_of_cell, cells_apart}
+use Rattle.heap_model.proofs.RememberedSlots.{ends_in_page}
+use Rattle.heap_model.proofs.StaysCollectable.{object_not_free, owned_not_free}
+use Rattle.live_cells.specs.Fitting.{DeadIsFree}
+use Rattle.live_cells.proofs.DeadWords.{named_is_owned}
+use Rattle.live_cells.proofs.RunWords.{run_lies, page_there, run_of_page}
+use Rattle.collector.specs.Born.{FreeIsRun, IsCopy, CopiesTakeFronts}
+use Rattle.collector.specs.Collected.{LeavesExact}
+use Rattle.collector.specs.SweptRuns.{IsLiveWord}
+
+-- where each dead word of a page is in a free run, each word of a free cell of a page is
+pub dead_fills : {heap : Heap} {rows : List (List Run)} → HasRows heap → DeadIsFree heap rows → FreeIsRun heap rows
+dead_fills {heap} in_rows dead cell words at has free of_page word =
+    let one : IsOfCell cell at = record { from = word.from; below = word.below } in
+    dead at (omega (arith, ends_in_page has of_page, word.below))
+    (λ other others has_other of_other.
+    let two : IsOfCell other at = record { from = of_other.from; below = of_other.below } in
+    let same : cell ≡ other = cells_apart at in_rows has has_other one two in
+    let is_free : IsTrue (is_free_kind other.layout.kind) =
+    subst (λ (c : Cell). IsTrue (is_free_kind c.layout.kind)) same free in (
+      λ object. object_not_free other.layout.kind object is_free,
+      λ named. owned_not_free other.layout.kind (named_is_owned has_other named) is_free,
+    ))
+
+-- where a run of a row ends, no run of the row has the word
+none_behind : (start end : ℕ) (runs : List Run) (run other : Run) → AscendIn start end runs → Contains runs run
+    → Contains runs other → IsOfRun other (run.at + run.words) → ⊥
+none_behind start end [] run other ascend there there_too of_other = omega (arith, there.1)
+none_behind start end (first ∷ more) run other ascend there there_too of_other =
+    let behind = first.at + first.words + 1 in
+    elim (in_cases first more run there) [
+      | inl is ↦
+          let ends : first.at + first.words ≡ run.at + run.words = ap (λ (one : Run). one.at + one.words) is in
+          elim (in_cases first more other there_too) [
+            | inl is_too ↦
+                let ends_too : first.at + first.words ≡ other.at + other.words =
+                ap (λ (one : Run). one.at + one.words) is_too in
+                omega (arith, ends, ends_too, of_other.below)
+            | inr later ↦
+                let lies = run_lies behind end more other ascend.1 later in
+                omega (arith, ends, lies.from, of_other.from)
+          ]
+      | inr later ↦ elim (in_cases first more other there_too) [
+        | inl is_too ↦
+            let ends_too : first.at + first.words ≡ other.at + other.words =
+            ap (λ (one : Run). one.at + one.words) is_too in
+            let lies = run_lies behind end more run ascend.1 later in
+            omega (arith, ends_too, lies.from, of_other.below)
+        | inr later_too ↦ none_behind behind end more run other ascend.1 later later_too of_other
+      ]
+    ]
+
+module _ {old new : Heap} {rows : List (List Run)} {graph : Graph} (leaves : LeavesExact old new rows graph) where
+  -- a copy has no word that was live
+  copy_was_dead : (copy : Cell) → IsCopy old new copy → IsLiveWord old copy.at → ⊥
+  copy_was_dead copy is live =
+      let cell : Cell = live.cell in
+      let of_page : copy.at < eden_start old.space =
+      subst (λ (space : Space). copy.at < eden_start space) leaves.space is.of_page in
+      let (others, there) = leaves.places cell live.words live.has (omega (arith, of_page, live.of_cell.from)) live.live in
+      let of_cell : IsOfCell cell copy.at = record { from = live.of_cell.from; below = live.of_cell.below } in
+      let same : cell ≡ copy =
+      cells_apart copy.at leaves.exact.keeps.shows.whole.rows there is.has of_cell (first_of_cell is.has) in
+      is.fresh live.words (subst (λ (one : Cell). HasCell old one live.words) same live.has)
+
+  -- nor a word of a free run
+  copy_is_apart : (copy : Cell) (page : ℕ) (run : Run) → IsCopy old new copy → Contains (row_of rows page) run
+      → IsOfRun run copy.at → ⊥
+  copy_is_apart copy page run is there of_run =
+      let one = leaves.free (row_of rows page) run
+      (Contains-get_or rows page [] (page_there rows page run there)) there in
+      let of_one : IsOfCell one.cell copy.at =
+      record { from = omega (arith, one.stands, of_run.from); below = omega (arith, one.stands, one.size, of_run.below) } in
+      let same : one.cell ≡ copy =
+      cells_apart copy.at leaves.exact.keeps.shows.whole.rows one.has is.has of_one (first_of_cell is.has) in
+      let free : IsTrue (is_free_kind copy.layout.kind) =
+      subst (λ (c : Cell). IsTrue (is_free_kind c.layout.kind)) same one.free in
+      false≢true (sym is.used ∙ free)
+
+  -- so where a free cell ends, no copy begins in its page
+  pub copies_take_fronts : CopiesTakeFronts old new
+  copies_take_fronts cell copy words has free is touches =
+      let first = first_of_cell has in
+      let word = dead_fills leaves.exact.keeps.shows.whole.rows leaves.dead cell words (copy.at - 1) has free
+      (omega (arith, touches, first.below, is.of_page))
+      (record { from = omega (arith, touches, first.below); below = omega (arith, touches, first.below) }) in
+      let run : Run = word.free.run in
+      let back = leaves.backs word.page run word.free.among in
+      let was : Run = back.was in
+      let of_page : copy.at < eden_start old.space =
+      subst (λ (space : Space). copy.at < eden_start space) leaves.space is.of_page in
+      let behind = (leaves.swept_are.words copy.at of_page).1 (copy_was_dead copy is) in
+      let other : Run = behind.free.run in
+      let lies = run_of_page leaves.swept word.page was leaves.swept_are.apart back.among in
+      let lies_too = run_of_page leaves.swept behind.page other leaves.swept_are.apart behind.free.among in
+      elim (cases_lt copy.at (run.at + run.words)) [
+        | inl inside ↦ absurd (copy_is_apart copy word.page run is word.free.among
+            (record { from = omega (arith, word.free.of_run.from); below = inside }))
+        | inr past ↦
+            let ends : copy.at ≡ was.at + was.words =
+            omega (arith, past, word.free.of_run.below, back.ends, touches, first.below) in
+            elim (cases_lt word.page behind.page) [
+              | inl later ↦ (behind.page, omega (arith, later, ends, lies.below, lies_too.from, behind.free.of_run.from))
+              | inr before ↦
+                  let same : behind.page ≡ word.page =
+                  omega (arith, before, ends, lies.from, lies.some, lies_too.below, behind.free.of_run.below) in
+                  absurd (none_behind (page_words * word.page) (page_words * (word.page + 1))
+                  (row_of leaves.swept word.page) was other
+                  (leaves.swept_are.apart word.page (page_there leaves.swept word.page was back.among)) back.among
+                  (subst (λ (page : ℕ). Contains (row_of leaves.swept page) other) same behind.free.among)
+                  (subst (IsOfRun other) ends behind.free.of_run))
+            ]
+      ]

@@ -1,0 +1,111 @@
+-- What a collection leaves that ends a cycle of marking.
+use Rattle.std.specs.Prelude.{◌≡◌, ℕ, ◌+◌, ◌*◌, ◌<◌, ◌≤◌, ◌⊎◌, true, false, List, length, IsTrue}
+use Rattle.tagged_word.specs.Cells.{is_free_kind}
+use Rattle.page_space.specs.Sizes.{page_words}
+use Rattle.page_space.specs.Extents.{eden_start}
+use Rattle.free_runs.specs.FreeRuns.{AreFree}
+use Rattle.free_runs.specs.Laws.{IsFreeWord}
+use Rattle.object_graph.specs.Graphs.{Graph}
+use Rattle.object_graph.specs.Reach.{is_marked, reach}
+use Rattle.heap_model.specs.Types.{Cell, Run}
+use Rattle.heap_model.specs.Heaps.{Heap, HasCell}
+use Rattle.heap_model.specs.Collectable.{AreFreeRuns}
+use Rattle.heap_model.specs.Rooms.{RoomsAreNoFuller}
+use Rattle.heap_model.specs.Showing.{Shows}
+use Rattle.heap_model.specs.Slots.{IsPlace}
+use Rattle.live_cells.specs.Exact.{IsWordOf}
+use Rattle.live_cells.specs.Laws.{BelongsToReached}
+use Rattle.live_cells.specs.Live.{IsLive, IsRootTarget}
+use Rattle.write_barrier.specs.MutatorState.{Mutator}
+use Rattle.scavenger.specs.Laws.{KeepsGraphs}
+use Rattle.scavenger.specs.Scavenged.{Scavenges}
+use Rattle.collector.specs.Collected.{LeavesExact, CollectsAll}
+
+-- What a cycle of marking began with: the heap after the `mark` that opened it, and the graph that this heap shows.
+pub record Opening : Type 0 where
+  pub heap : Heap
+  pub graph : Graph
+
+-- What a `mark` does that opens a cycle: a scavenge promotes all that lives, and no survivor stays young; or one stays,
+-- since no free run had its words, and then the heap is fully collected.
+pub data BeginsCycle (old new : Mutator) (graph : Graph) : Type 0 where
+  promotes_all : Scavenges old new true → KeepsGraphs old new → new.young.survivors ≡ 0 → BeginsCycle old new graph
+  collects_all : (mid : Mutator) → Scavenges old mid true → KeepsGraphs old mid → 0 < mid.young.survivors
+      → CollectsAll mid new graph → BeginsCycle old new graph
+
+-- Since the first graph nothing was taken out, and nothing came back: what can be reached in the second graph could be
+-- reached in the first, or was made since.
+pub record StaysLost (before after : Graph) : Type 0 where
+  pub grows : length before.objects ≤ length after.objects
+  pub lost : (number : ℕ) → number < length before.objects → IsTrue (is_marked (reach after) number)
+      → IsTrue (is_marked (reach before) number)
+
+-- The word was dead when the cycle began: it was one of a cell that was not free, and that belonged to nothing that
+-- could be reached then.
+pub record WasDead (opening : Opening) (at : ℕ) : Type 0 where
+  pub cell : Cell
+  pub words : List ℕ
+  pub has : HasCell opening.heap cell words
+  pub of_cell : IsWordOf cell at
+  pub taken : is_free_kind cell.layout.kind ≡ false
+  pub lost : BelongsToReached opening.heap opening.graph cell.at → ⊥
+
+-- each word of a free cell of a page is in a free run
+abbrev pub FreeIsRun : Heap → List (List Run) → Type 0
+FreeIsRun heap rows =
+    (cell : Cell) (words : List ℕ) (at : ℕ) → HasCell heap cell words → IsTrue (is_free_kind cell.layout.kind)
+    → cell.at < eden_start heap.space → IsWordOf cell at → IsFreeWord rows at
+
+-- A cell may stand in what a collection leaves of a heap that shows a graph: it is free and of a page, or it stood there
+-- before, or it belongs to an object that can be reached.
+pub data MayStand (old new : Heap) (graph : Graph) (cell : Cell) : Type 0 where
+  free : IsTrue (is_free_kind cell.layout.kind) → cell.at < eden_start new.space → MayStand old new graph cell
+  stood : (words : List ℕ) → HasCell old cell words → MayStand old new graph cell
+  reached : BelongsToReached new graph cell.at → MayStand old new graph cell
+
+-- The cell of a page is a copy: it is not free, and it did not stand there before.
+pub record IsCopy (old new : Heap) (cell : Cell) : Type 0 where
+  pub words : List ℕ
+  pub has : HasCell new cell words
+  pub used : is_free_kind cell.layout.kind ≡ false
+  pub of_page : cell.at < eden_start new.space
+  pub fresh : (others : List ℕ) → HasCell old cell others → ⊥
+
+-- where a free cell ends, no copy begins in its page
+abbrev pub CopiesTakeFronts : Heap → Heap → Type 0
+CopiesTakeFronts old new =
+    (cell copy : Cell) (words : List ℕ) → HasCell new cell words → IsTrue (is_free_kind cell.layout.kind)
+    → IsCopy old new copy → cell.at + cell.size ≡ copy.at → (page : ℕ) × (copy.at ≡ page_words * page)
+
+-- What a collection leaves that ends a cycle, of a heap that shows a graph, and whose pages have these free runs then.
+pub record LeavesBorn (opening : Opening) (old new : Heap) (rows : List (List Run)) (graph : Graph) : Type 0 where
+  pub space : new.space ≡ old.space
+  pub shows : Shows new graph
+  -- each object's cell is of an object that could be reached when the cycle began, or was made since
+  pub born : (number at : ℕ) → IsPlace new number at
+      → IsTrue (is_marked (reach opening.graph) number) ⊎ (length opening.graph.objects ≤ number)
+  -- a cell of a page that is not free, and that belongs to nothing that can be reached, has no word that was dead when
+  -- the cycle began
+  pub no_dead_word : (cell : Cell) (words : List ℕ) → HasCell new cell words
+      → is_free_kind cell.layout.kind ≡ false → cell.at < eden_start new.space
+      → (BelongsToReached new graph cell.at → ⊥) → (at : ℕ) → IsWordOf cell at → WasDead opening at → ⊥
+  -- no cell is made that nothing needs
+  pub stands : (cell : Cell) (words : List ℕ) → HasCell new cell words → MayStand old new graph cell
+  -- what is free in pages is in free runs; these are single free cells that neither overlap nor touch
+  pub filled : FreeIsRun new rows
+  pub free : AreFreeRuns new rows
+  pub apart : AreFree rows
+  -- each live cell of a page stands where it stood
+  pub places : (cell : Cell) (words : List ℕ) → HasCell old cell words → cell.at < eden_start old.space
+      → IsLive old (IsRootTarget old) cell.at → (others : List ℕ) × HasCell new cell others
+  -- what came to a page took the front of a free run
+  pub fronts : CopiesTakeFronts old new
+  -- objects have stores of as many slots and tables of as many pairs, of which no more are filled
+  pub rooms : RoomsAreNoFuller old new graph
+  pub few : new.survivors + new.used ≤ old.survivors + old.used
+
+-- A full collection leaves so much, if nothing came back since the cycle began.
+abbrev pub ExactIsBorn : Type 0
+ExactIsBorn =
+    (opening : Opening) (old new : Heap) (rows : List (List Run)) (graph : Graph) → StaysLost opening.graph graph
+    → LeavesExact old new rows graph → LeavesBorn opening old new rows graph
