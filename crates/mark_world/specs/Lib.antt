@@ -8,6 +8,7 @@ pub mod Coverage
 pub mod Soundness
 pub mod BornCells
 pub mod BetweenCommands
+pub mod Cycles
 pub mod OneLayouts
 pub mod Unfinished
 pub mod Knowing

@@ -1,0 +1,12 @@
+mod Joined
+mod SpotWords
+mod KeptRule
+mod OtherViews
+mod EventSteps
+mod StoreSteps
+mod ColourSteps
+mod PutSteps
+mod Loads
+mod Beginnings
+mod LentSeats
+mod Whitened

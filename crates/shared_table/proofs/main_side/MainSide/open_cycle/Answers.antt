@@ -1,0 +1,27 @@
+-- The cycle that is chosen meets the rule.
+use Rattle.std.proofs.Common.{◌≡◌, ◌∙◌, true, sym, ap, subst, arith, rules}
+use Rattle.mark_world.specs.BetweenCommands.{Fresh}
+use Rattle.shared_table.specs.Changes.{opened}
+use Rattle.shared_table.specs.Seats.{Side}
+use Rattle.shared_table.specs.Worlds.{overview_of, world_at_home}
+use Rattle.shared_table.proofs.Beginnings.{open_may}
+use Rattle.shared_table.proofs.main_side.MainSide.open_cycle.Goals as goal
+
+pub compare_exchange_with-requires : goal.compare_exchange_with-requires
+compare_exchange_with-requires g c =
+    let s = c.self.inside in
+    let inv = c.self.invariant in
+    let chosen = c.requires.chosen in
+    let home : (overview_of s.seat.me.0).home ≡ true =
+    ap (λ (v : Side). v.main.home) c.self.view_is ∙ c.requires.home in (
+      search rules,
+      omega (arith, ap (λ t. t.table.shared.table_id.words) c.deref.ensures, inv.counted),
+      open_may _ s.counts _ _ s.seat.me (overview_of s.seat.me.0) c.args.words.now g.M.Choice.fits (search rules)
+          inv.id inv.me
+          home (
+            chosen.0,
+            subst (λ (v : Side). g.M.Choice.fits c.args.words.now.items v.main chosen.0) (sym c.self.view_is) chosen.1,
+            subst (λ (v : Side). Fresh (world_at_home (opened v.main chosen.0)))
+                (sym c.self.view_is) chosen.2,
+          ),
+    )

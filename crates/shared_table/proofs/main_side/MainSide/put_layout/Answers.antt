@@ -1,0 +1,24 @@
+-- Any layout word may be put.
+use Rattle.std.proofs.Common.{◌≡◌, ◌+◌, ◌<◌, ℕ, length, sym, ap, subst, refl, arith, rules}
+use Rattle.mark_laws.specs.Types.{Spot}
+use Rattle.shared_table.specs.declared.phase.Phase.TheVariants.{Mark}
+use Rattle.shared_table.specs.Seats.{Side}
+use Rattle.shared_table.specs.Told.{shape_spot}
+use Rattle.shared_table.specs.Worlds.{overview_of}
+use Rattle.shared_table.proofs.PutSteps.{put_may}
+use Rattle.shared_table.proofs.main_side.MainSide.put_layout.Goals as goal
+
+pub store-requires : goal.store-requires
+store-requires c =
+    let s = c.self.inside in
+    let inv = c.self.invariant in
+    let inside : c.args.shape < s.counts.shapes =
+    omega (arith, ap (λ (v : Side). length v.main.layouts) c.self.view_is, inv.layouts, c.requires.within) in
+    let idle : (overview_of s.seat.me.0).phase ≡ Mark → ⊥ =
+    subst (λ (v : Side). v.main.phase ≡ Mark → ⊥) (sym c.self.view_is) c.requires.idle in (
+      search rules,
+      omega (arith, inside, ap (λ t. t.table.shared.table_id.words) c.deref.ensures, inv.counted),
+      put_may _ s.counts _ _ (s.counts.old + c.args.shape) c.args.word s.seat.me (overview_of s.seat.me.0)
+          (Spot.Layout c.args.shape) shape_spot (search rules) inv.id inv.me refl inside idle (λ colours three. three)
+          (ap (λ (i : ℕ). Spot.Layout i) (omega (arith, inv.old))),
+    )

@@ -1,0 +1,9 @@
+pub mod Colours
+pub mod Worlds
+pub mod Keeping
+pub mod Spots
+pub mod Changes
+pub mod Told
+pub mod Seats
+pub mod Seated
+pub mod Helped

@@ -1,0 +1,220 @@
+//! What each step on a word of the table tells its seat.
+ghost use Rattle.std.specs.Prelude.{List, ℕ};
+ghost use Rattle.mark_world.specs.Cycles.{Cycle};
+ghost use Rattle.shared_table.specs.declared.overview.Overview.{Overview};
+
+use crate::overview::View;
+use atomic_table::{Join, Play, Split};
+use std::marker::PhantomData;
+
+/// A word is stored in a slot.
+pub(crate) struct StoresSlot;
+
+impl Play<Vec<u64>, View> for StoresSlot {
+    ghost use Rattle.shared_table.specs.Told.{tells_event, slot_event};
+
+    ghost then = { tells_event slot_event };
+}
+
+/// A word is stored where no helper reads one that it visits by.
+pub(crate) struct StoresOwned;
+
+impl Play<Vec<u64>, View> for StoresOwned {
+    ghost use Rattle.shared_table.specs.Told.{tells_event, owned_event};
+
+    ghost then = { tells_event owned_event };
+}
+
+/// The shape of a plain cell changes.
+pub(crate) struct StoresHeader;
+
+impl Play<Vec<u64>, View> for StoresHeader {
+    ghost use Rattle.shared_table.specs.Told.{tells_event, header_event};
+
+    ghost then = { tells_event header_event };
+}
+
+/// A layout word comes to its place.
+pub(crate) struct AddsLayout;
+
+impl Play<Vec<u64>, View> for AddsLayout {
+    ghost use Rattle.shared_table.specs.Told.{tells_event, layout_event};
+
+    ghost then = { tells_event layout_event };
+}
+
+/// A white cell turns grey.
+pub(crate) struct Shades;
+
+impl Play<Vec<u64>, View> for Shades {
+    ghost use Rattle.shared_table.specs.Told.{tells_found, shade_event};
+
+    ghost then = { tells_found shade_event };
+}
+
+/// A cell that is not white is shaded: its colour stays.
+pub(crate) struct LeavesColour;
+
+impl Play<Vec<u64>, View> for LeavesColour {
+    ghost use Rattle.shared_table.specs.Told.{tells_left, shade_event};
+
+    ghost then = { tells_left shade_event };
+}
+
+/// A cell turns black.
+pub(crate) struct Blackens;
+
+impl Play<Vec<u64>, View> for Blackens {
+    ghost use Rattle.shared_table.specs.Told.{tells_found, blacken_event};
+
+    ghost then = { tells_found blacken_event };
+}
+
+/// A new cell is black.
+pub(crate) struct MakesBlack;
+
+impl Play<Vec<u64>, View> for MakesBlack {
+    ghost use Rattle.shared_table.specs.Told.{tells_event, new_event};
+
+    ghost then = { tells_event new_event };
+}
+
+/// A cell is taken from the board.
+pub(crate) struct TakesCell;
+
+impl Play<Vec<u64>, View> for TakesCell {
+    ghost use Rattle.shared_table.specs.Told.{tells_found, take_event};
+
+    ghost then = { tells_found take_event };
+}
+
+/// A word of a page is put while helpers may not mark.
+pub(crate) struct PutsWord;
+
+impl Play<Vec<u64>, View> for PutsWord {
+    ghost use Rattle.shared_table.specs.Told.{tells_put, heap_spot};
+
+    ghost then = { tells_put heap_spot };
+}
+
+/// A layout word is put.
+pub(crate) struct PutsLayout;
+
+impl Play<Vec<u64>, View> for PutsLayout {
+    ghost use Rattle.shared_table.specs.Told.{tells_put, shape_spot};
+
+    ghost then = { tells_put shape_spot };
+}
+
+/// A colour is put.
+pub(crate) struct PutsColour;
+
+impl Play<Vec<u64>, View> for PutsColour {
+    ghost use Rattle.shared_table.specs.Told.{tells_put, colour_spot};
+
+    ghost then = { tells_put colour_spot };
+}
+
+/// A colour is read.
+pub(crate) struct SeesColour;
+
+impl Play<Vec<u64>, View> for SeesColour {
+    ghost use Rattle.shared_table.specs.Told.{tells_colour};
+
+    ghost then = { tells_colour };
+}
+
+/// The mutator's view is as it is in a sound world.
+pub(crate) struct IsSound;
+
+impl Play<Vec<u64>, View> for IsSound {
+    ghost use Rattle.shared_table.specs.Told.{tells_sound};
+
+    ghost then = { tells_sound };
+}
+
+/// With no seat out the world is sound.
+pub(crate) struct IsWhole;
+
+impl Play<Vec<u64>, View> for IsWhole {
+    ghost use Rattle.shared_table.specs.Told.{tells_whole};
+
+    ghost then = { tells_whole };
+}
+
+/// A cycle waits.
+pub(crate) struct Pauses;
+
+impl Play<Vec<u64>, View> for Pauses {
+    ghost use Rattle.shared_table.specs.Told.{tells_paused};
+
+    ghost then = { tells_paused };
+}
+
+/// A cycle is closed.
+pub(crate) struct Closes;
+
+impl Play<Vec<u64>, View> for Closes {
+    ghost use Rattle.shared_table.specs.Told.{tells_closed};
+
+    ghost then = { tells_closed };
+}
+
+/// The colours and the board are known again.
+pub(crate) struct ComesHome;
+
+impl Play<Vec<u64>, View> for ComesHome {
+    ghost use Rattle.shared_table.specs.Told.{tells_home};
+
+    ghost then = { tells_home };
+}
+
+/// Which cycle a main seat may come to be in, by the words that the caller has and what the seat knew before.
+pub trait Choice {
+    ghost fits: { List ℕ → Overview → Cycle → Type 0 };
+}
+
+/// A cycle is opened, one that may be.
+pub(crate) struct Opens<M> {
+    choice: PhantomData<M>,
+}
+
+impl<M: Choice> Play<Vec<u64>, View> for Opens<M> {
+    ghost use Rattle.shared_table.specs.Told.{tells_opened};
+
+    ghost then = { tells_opened M.fits };
+}
+
+/// A cycle that waited goes on, as one that may be.
+pub(crate) struct Resumes<M> {
+    choice: PhantomData<M>,
+}
+
+impl<M: Choice> Play<Vec<u64>, View> for Resumes<M> {
+    ghost use Rattle.shared_table.specs.Told.{tells_resumed};
+
+    ghost then = { tells_resumed M.fits };
+}
+
+/// A seat is lent.
+pub(crate) struct Lends;
+
+impl Split<View> for Lends {
+    ghost use Rattle.shared_table.specs.Changes.{lending_view, lent_view};
+
+    ghost left = { lending_view };
+
+    ghost right = { lent_view };
+}
+
+/// A seat is taken back.
+pub(crate) struct TakesBack;
+
+impl Join<View> for TakesBack {
+    ghost use Rattle.shared_table.specs.Changes.{taking_view};
+    ghost use Rattle.shared_table.specs.declared.overview.View.TheVariants.{Gone};
+
+    ghost both = { taking_view };
+
+    ghost spent = { Gone };
+}

@@ -1,0 +1,113 @@
+//! A cycle on a table of one page, in which one cell is made (`shared_table`). What is expected is worked out by hand.
+ghost use Rattle.std.specs.Prelude.{◌≡◌, ◌<◌, ◌%◌, ◌^◌, IfOk};
+ghost use Rattle.tagged_word.specs.Shapes.{shapes_most};
+ghost use Rattle.page_space.specs.Sizes.{page_words};
+ghost use Rattle.table_tests.specs.OneCell.{IsBare, HasOneCell};
+
+use shared_table::{Choice, Colour, Counts, MainSide, SharedTable};
+use std::alloc::Global;
+use std::test::Fail;
+use tagged_word::NoMemory;
+
+/// The cycle in which no cell is published so far.
+struct Empty;
+
+impl Choice for Empty {
+    ghost use Rattle.table_tests.specs.OneCell.{IsEmpty};
+
+    ghost fits = { IsEmpty };
+}
+
+/// The cycle that waited, with no cell promoted meanwhile.
+struct Same;
+
+impl Choice for Same {
+    ghost use Rattle.table_tests.specs.OneCell.{IsSame};
+
+    ghost fits = { IsSame };
+}
+
+/// A table with whole pages and all shapes.
+fn bare(alloc: Global, counts: Counts) -> Result<MainSide, NoMemory>
+    requires pages { counts.old % page_words ≡ 0 }
+    requires shapes { counts.shapes ≡ shapes_most }
+    ensures { IfOk result (λ side. IsBare side.main) }
+{
+    SharedTable::open(alloc, counts)
+}
+
+/// Opens a cycle, and makes a black cell in it.
+fn begin(side: &mut MainSide, words: &Vec<u64>, at: u32)
+    requires bare { IsBare side.old.main }
+    requires within { at < side.old.main.old }
+    ensures { HasOneCell side.new.main at }
+{
+    side.open_cycle::<Empty>(words);
+    side.new_black(at);
+}
+
+/// Lets the cycle wait, and goes on with it. What it was opened with stays.
+fn wait(side: &mut MainSide, words: &Vec<u64>, at: u32)
+    requires { HasOneCell side.old.main at }
+    ensures cell { HasOneCell side.new.main at }
+    ensures reached { side.new.main.reached ≡ side.old.main.reached }
+    ensures made { side.new.main.made ≡ side.old.main.made }
+{
+    side.pause_cycle();
+    side.resume_cycle::<Same>(words);
+}
+
+/// Which colours the cell has had: when it was shaded, when it was blackened, and at the end of the cycle.
+fn colours(side: &mut MainSide, at: u32) -> [Colour; 3]
+    requires { HasOneCell side.old.main at }
+{
+    let shaded = side.shade(at);
+    let blackened = side.blacken(at);
+    side.close_cycle();
+    [shaded, blackened, side.colour(at)]
+}
+
+/// Which colours the cell has before and after two seats are lent and taken back.
+fn lent(side: &mut MainSide, at: u32) -> [Colour; 2]
+    requires { HasOneCell side.old.main at }
+{
+    let before = side.colour(at);
+    let first = side.lend();
+    let second = side.lend();
+    side.take_back(first);
+    side.take_back(second);
+    [before, side.colour(at)]
+}
+
+#[test]
+fn a_new_cell_is_black_until_the_end_of_its_cycle(rt: HostRuntime) -> Result<(), Fail> {
+    let words = Vec::new(rt.alloc());
+    let counts = Counts {
+        old: 2_048,
+        shapes: 8_200,
+    };
+    for at in [0, 10, 2_047] {
+        let mut side = bare(rt.alloc(), counts)?;
+        if at < side.counts().old {
+            begin(&mut side, &words, at);
+            wait(&mut side, &words, at);
+            assert!(rt; colours(&mut side, at) == [Colour::Black; 3]);
+        }
+    }
+    Ok(())
+}
+
+#[test]
+fn seats_are_lent_and_come_back(rt: HostRuntime) -> Result<(), Fail> {
+    let words = Vec::new(rt.alloc());
+    let counts = Counts {
+        old: 2_048,
+        shapes: 8_200,
+    };
+    let mut side = bare(rt.alloc(), counts)?;
+    if 10 < side.counts().old {
+        begin(&mut side, &words, 10);
+        assert!(rt; lent(&mut side, 10) == [Colour::Black; 2]);
+    }
+    Ok(())
+}
