@@ -1,0 +1,40 @@
+-- What holds at the end of a cycle, when the last marking begins with the cells that have a colour.
+use Rattle.std.specs.Prelude.{◌≡◌, ◌≢◌, ◌≤◌, ◌<◌, ◌+◌, ◌⊎◌, ℕ}
+use Rattle.page_space.specs.Extents.{eden_start}
+use Rattle.page_space.specs.Sizes.{page_words}
+use Rattle.mark_world.specs.declared.world.World.{World}
+use Rattle.mark_world.specs.Coverage.{colour_of}
+use Rattle.mark_world.specs.Soundness.{Sound}
+use Rattle.mark_world.specs.BornCells.{Born}
+use Rattle.mark_world.specs.Steps.{white, black}
+use Rattle.mark_laws.specs.Runs.{HasNoneOut}
+use Rattle.heap_model.specs.Types.{Run}
+use Rattle.heap_model.specs.Heaps.{Heap}
+use Rattle.heap_model.specs.Wholeness.{Whole}
+use Rattle.heap_model.specs.Collectable.{IsFreeCell}
+use Rattle.live_cells.specs.Live.{HasSlotTo}
+use Rattle.mark_world.specs.Cycles.{Cycle}
+use Rattle.cycle_state.specs.Cycles.{IsWorldOf}
+use Rattle.cycle_state.specs.Keeping.{IsKept}
+use Rattle.cycle_state.specs.Resting.{IsPageCell, Rests}
+
+-- each cell that has a colour is a kept cell of a page
+abbrev pub ColouredIsKept : Type 0
+ColouredIsKept =
+    (heap : Heap) (cycle : Cycle) (world : World) (at : ℕ) → Rests heap cycle → IsWorldOf heap cycle world → Sound world
+    → Born world → colour_of world at ≢ white → IsPageCell heap at × IsKept heap cycle.born at
+
+-- With no seat out, what a slot of a black cell refers to that marking visits is young, or has a colour. So the last
+-- marking looks at no slot of a black cell but those of weak maps, whose tables are no starts of it.
+abbrev pub BlackSlotsLeadOn : Type 0
+BlackSlotsLeadOn =
+    (heap : Heap) (cycle : Cycle) (world : World) (from at : ℕ) → Rests heap cycle → IsWorldOf heap cycle world
+    → Sound world → HasNoneOut world → colour_of world from ≡ black → HasSlotTo heap from at
+    → (eden_start heap.space ≤ at) ⊎ (colour_of world at ≢ white)
+
+-- in a page that is one free run no cell has a colour
+abbrev pub FreePagesAreWhite : Type 0
+FreePagesAreWhite =
+    (heap : Heap) (cycle : Cycle) (world : World) (run : Run) (at : ℕ) → Whole heap → Rests heap cycle
+    → IsWorldOf heap cycle world → Sound world → IsFreeCell heap run → run.words ≡ page_words → run.at ≤ at
+    → at < run.at + run.words → colour_of world at ≡ white

@@ -1,0 +1,4 @@
+pub mod Cycles
+pub mod Keeping
+pub mod Resting
+pub mod Laws
