@@ -32,6 +32,7 @@ pub record HasCellAt (heap : Heap) (at : ℕ) : Type 0 where
   pub stands : cell.at ≡ at
   pub used : IsTrue (is_free_kind cell.layout.kind) → ⊥
 
+-- what stands at an address has such a cell
 pub cell_there : {heap : Heap} {at : ℕ} → StandsAt heap at → HasCellAt heap at
 cell_there (StandsAt.an_object number place) = record {
   cell = place.cell;
@@ -108,6 +109,7 @@ slotted_used kind.Filler cell offset there free = omega (arith, there.1)
 slotted_used kind.Gap cell offset there free = omega (arith, there.1)
 slotted_used _ cell offset there free = false≢true free
 
+-- so the cell of such a slot is not free
 pub slot_is_used : {heap : Heap} {from at : ℕ} → (slot : HasSlotTo heap from at)
     → IsTrue (is_free_kind slot.cell.layout.kind) → ⊥
 slot_is_used slot = slotted_used slot.cell.layout.kind slot.cell slot.offset slot.visited

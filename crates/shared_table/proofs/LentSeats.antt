@@ -61,6 +61,7 @@ lend_allowed counts main marks few s kept at =
       },
     )
 
+-- so a seat that knows itself as the main one may lend
 pub lend_may : {S : Type 0} (key counts : Counts) (id : ℕ) (me : Me S View) (main : Overview) → key ≡ counts → id ≡ 0
     → me ≡ (Main main, []) → main.phase ≡ Mark → main.out < helpers_most
     → Splits (KeepsRule {S = S} key) id me.0 (lending_view me.0) (lent_view me.0)
@@ -110,6 +111,7 @@ take_allowed counts (suc j) main lent marks s kept at apart here =
       },
     )
 
+-- so it may take back one that it lent
 pub take_may : {S : Type 0} (key counts : Counts) (id other : ℕ) (me them : Me S View) (main : Overview) (lent : Lent)
     → key ≡ counts → id ≡ 0 → me ≡ (Main main, []) → them ≡ (Helper lent, []) → main.phase ≡ Mark
     → Joins (KeepsRule {S = S} key) id me.0 other them.0 (taking_view me.0 them.0) Gone

@@ -50,6 +50,7 @@ not_white_rise colours later [] rise are = tt
 not_white_rise colours later (at ∷ rest) rise are =
     ((λ white. are.0 (omega (arith, rise at, white))), not_white_rise colours later rest rise are.1)
 
+-- and so it is with what each lent seat has seen
 pub seen_rise : (colours later : List ℕ) (others : List View)
     → ((at : ℕ) → slice_index colours at ≤ slice_index later at) → AreSeen colours others → AreSeen later others
 seen_rise colours later [] rise are = tt
@@ -69,6 +70,7 @@ seen_gone colours (Helper lent ∷ rest) (suc j) are = (are.0, seen_gone colours
 seen_gone colours (Gone ∷ rest) zero are = are
 seen_gone colours (Gone ∷ rest) (suc j) are = seen_gone colours rest j are
 
+-- the other seats are lent still once one was taken back
 pub lents_gone : (counts : Counts) (others : List View) (j : ℕ) → AreLent counts others
     → AreLent counts (set others j Gone)
 lents_gone counts [] j are = tt
@@ -86,6 +88,7 @@ seen_more colours (Main main ∷ rest) lent nothing are = seen_more colours rest
 seen_more colours (Helper one ∷ rest) lent nothing are = (are.0, seen_more colours rest lent nothing are.1)
 seen_more colours (Gone ∷ rest) lent nothing are = seen_more colours rest lent nothing are
 
+-- and with one seat more that is out
 pub lents_more : (counts : Counts) (others : List View) (lent : Lent) → AreLent counts others → lent.counts ≡ counts
     → IsTrue lent.view.out → AreLent counts (others ++ Helper lent ∷ [])
 lents_more counts [] lent are is out = (is, out, tt)
@@ -93,6 +96,7 @@ lents_more counts (Main main ∷ rest) lent are is out = absurd are
 lents_more counts (Helper one ∷ rest) lent are is out = (are.0, are.1, lents_more counts rest lent are.2 is out)
 lents_more counts (Gone ∷ rest) lent are is out = lents_more counts rest lent are is out
 
+-- its view comes last among those of the helpers
 pub views_more : (others : List View) (lent : Lent)
     → views_of (others ++ Helper lent ∷ []) ≡ views_of others ++ lent.view ∷ []
 views_more [] lent = refl

@@ -20,6 +20,7 @@ abbrev pub KeepsThree : Spot → ℕ → Type 0
 KeepsThree spot x = (colours : List ℕ) → All (λ colour. colour ≤ black) colours
     → All (λ colour. colour ≤ black) (colours_with spot x colours)
 
+-- a colour that is one of three keeps them so
 pub colour_keeps_three : (at x : ℕ) → x ≤ black → KeepsThree (Spot.Colour at) x
 colour_keeps_three at x one colours three = All-set (λ (colour : ℕ). colour ≤ black) colours at x one three
 

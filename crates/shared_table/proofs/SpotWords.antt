@@ -25,6 +25,7 @@ length-words_with (Spot.Layout shape) x words = refl
 length-words_with (Spot.Colour at) x words = refl
 length-words_with (Spot.Board place) x words = refl
 
+-- so do the layout words
 pub length-layouts_with : (spot : Spot) (x : ℕ) (layouts : List ℕ)
     → length (layouts_with spot x layouts) ≡ length layouts
 length-layouts_with (Spot.Heap at) x layouts = refl
@@ -32,6 +33,7 @@ length-layouts_with (Spot.Layout shape) x layouts = length-set layouts shape x
 length-layouts_with (Spot.Colour at) x layouts = refl
 length-layouts_with (Spot.Board place) x layouts = refl
 
+-- the colours
 pub length-colours_with : (spot : Spot) (x : ℕ) (colours : List ℕ)
     → length (colours_with spot x colours) ≡ length colours
 length-colours_with (Spot.Heap at) x colours = refl
@@ -39,6 +41,7 @@ length-colours_with (Spot.Layout shape) x colours = refl
 length-colours_with (Spot.Colour at) x colours = length-set colours at x
 length-colours_with (Spot.Board place) x colours = refl
 
+-- and the board
 pub length-board_with : (spot : Spot) (x : ℕ) (board : List ℕ) → length (board_with spot x board) ≡ length board
 length-board_with (Spot.Heap at) x board = refl
 length-board_with (Spot.Layout shape) x board = refl
