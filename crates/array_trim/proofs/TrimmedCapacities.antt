@@ -16,12 +16,13 @@ use Rattle.array_trim.proofs.TrimmedSlots.{trim_writing}
 module _ {old new : Heap} {cell store came : Cell} {pieces : List Cell} {before after : List Value} {from : ℕ}
     (trim : Trimming old new cell store came pieces before after from)
     (within : AreWithin old.space.sizes old.space.variables) where
-  -- the list has as many slots as the store that came, and each other object as many as before
-  pub trimmed_capacities : ChangesObject old new cell.at came.length
-  trimmed_capacities =
+  -- The list has as many slots as the store that came, and each other object as many as before. No cell was made,
+  -- wherever one would be.
+  pub trimmed_capacities : (begins ends : ℕ) → ChangesObject old new begins ends cell.at came.length
+  trimmed_capacities begins ends =
       let now = subst (λ (space : Space). AreWithin space.sizes space.variables) (sym trim.same_space) within in
-      own_capacities (trim_writing trim) came.length
+      own_capacities (trim_writing trim) begins ends came.length
       (capacity_of_store cell.at (store_now trim) (inl trim.still_store)
       (cell_fits trim.sized now (store_now trim)) trim.slot)
-      (λ at below apart not_new. trim.stay at below (apart cell (first_in cell (store ∷ [])))
+      (λ at below apart not_made. trim.stay at below (apart cell (first_in cell (store ∷ [])))
       (apart store (rest_in cell (store ∷ []) store (first_in store []))))

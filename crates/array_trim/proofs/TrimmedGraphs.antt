@@ -1,5 +1,5 @@
 -- A heap in which a list was trimmed shows the graph in which the list has the elements that stay.
-use Rattle.std.proofs.Common.{ℕ, List, [], ◌∷◌, length, take, drop, sym, ◌∙◌, ap, subst, arith}
+use Rattle.std.proofs.Common.{ℕ, ◌+◌, List, [], ◌∷◌, length, take, drop, sym, ◌∙◌, ap, subst, arith}
 use Rattle.std.proofs.Common.{length-take, length-drop}
 use Rattle.std.proofs.lemmas.List.Elements.{All-take, All-drop}
 use Rattle.tagged_word.proofs.Members.{first_in}
@@ -15,7 +15,8 @@ use Rattle.write_barrier.specs.MutatorState.{Mutator, heap_of, MainShows}
 use Rattle.write_barrier.specs.Recording.{Remembers}
 use Rattle.object_cells.specs.HeldValues.{IsReachedValue}
 use Rattle.object_cells.specs.Refills.{RestsAgain}
-use Rattle.object_cells.specs.Capacities.{ChangesObject}
+use Rattle.object_cells.specs.Capacities.{ChangesObjectUsing}
+use Rattle.object_cells.specs.Contents.{next_at}
 use Rattle.object_cells.specs.ElementChanges.{AreNewElements}
 use Rattle.object_cells.specs.ListObjects.{IsListAt}
 use Rattle.object_cells.specs.Made.{PutsWords}
@@ -116,7 +117,7 @@ module _ {old new : Mutator} {graph : Graph} {at : ℕ} {list : ListObject} {aft
   pub has_trimmed : HasTrimmed old new graph at list after trimmed.came.length
   has_trimmed = record {
     uses = none_used;
-    changes = subst (λ n. ChangesObject (heap_of old) (heap_of new) n trimmed.came.length) trimmed.shown.stands
-        (trimmed_capacities trimmed.trim trimmed.within);
+    changes = subst (λ n. ChangesObjectUsing old new 0 n trimmed.came.length) trimmed.shown.stands
+        (trimmed_capacities trimmed.trim trimmed.within (next_at old) (next_at old + 0));
     shows = graph_shown;
   }

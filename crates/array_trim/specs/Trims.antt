@@ -9,7 +9,7 @@ use Rattle.heap_model.specs.Needs.{capacity_at}
 use Rattle.heap_model.specs.Rooms.{truncated_capacity}
 use Rattle.write_barrier.specs.MutatorState.{Mutator, heap_of, MainShows}
 use Rattle.object_cells.specs.Uses.{UsesMore}
-use Rattle.object_cells.specs.Capacities.{ChangesObject}
+use Rattle.object_cells.specs.Capacities.{ChangesObjectUsing}
 use Rattle.object_cells.specs.declared.lists.Range.{Range}
 use Rattle.array_trim.specs.TrimWords.{PutsShifted, PutsTruncated}
 
@@ -18,7 +18,7 @@ use Rattle.array_trim.specs.TrimWords.{PutsShifted, PutsTruncated}
 pub record HasTrimmed (old new : Mutator) (graph : Graph) (at : ℕ) (list : ListObject) (elements : List Value)
     (capacity : ℕ) : Type 0 where
   pub uses : UsesMore old new 0
-  pub changes : ChangesObject (heap_of old) (heap_of new) at capacity
+  pub changes : ChangesObjectUsing old new 0 at capacity
   pub shows : MainShows new (relist graph list elements)
 
 -- the number of elements that an integer is: none where it is below 0, or over the length of the list

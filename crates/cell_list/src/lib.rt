@@ -8,7 +8,7 @@
 //! are pushed.
 #![tactic(auto)]
 
-ghost use Rattle.std.specs.Prelude.{◌≡◌, ◌≢◌, ℕ, ◌<◌, ◌≤◌, ◌↔◌, [], if◌then◌else◌, false, length, slice_get, Some};
+ghost use Rattle.std.specs.Prelude.{◌≡◌, ◌≢◌, ℕ, ◌-◌, ◌<◌, ◌≤◌, ◌↔◌, [], if◌then◌else◌, false, length, slice_get, Some};
 ghost use Rattle.std.specs.Prelude.{slice_index_or, Contains, IsTrue, IfOk, IfNone, MatchOption};
 ghost use Rattle.std.specs.Vec.{vec_capacity};
 ghost use Rattle.cell_list.specs.Listing.{IsListing, pushed};
@@ -20,6 +20,9 @@ use tagged_word::NoMemory;
 /// How many flags are written at once where an address has none: a page of them. So where addresses ascend
 /// most of them have one.
 const STRETCH: usize = 4096;
+
+/// How many flags are written in the time in which one address is taken off the list.
+const FLAGS_OF_ONE: usize = 32;
 
 /// The listed addresses of cells.
 #[derive(Drop)]
@@ -138,8 +141,25 @@ impl CellList {
         true
     }
 
+    /// Exchanges the address at a place with the last one. Those before the place stay.
+    #[inline(always)]
+    pub fn bring(&mut self, place: usize)
+        requires { place < length self.old.addresses }
+        ensures brought { slice_get self.new.addresses place ≡
+            slice_get self.old.addresses (length self.old.addresses - 1) }
+        ensures before { (other : ℕ) → other < place →
+            slice_get self.new.addresses other ≡ slice_get self.old.addresses other }
+        ensures members { (at : ℕ) → Contains self.new.addresses at ↔ Contains self.old.addresses at }
+        ensures count { length self.new.addresses ≡ length self.old.addresses }
+        ensures bound { self.new.bound ≡ self.old.bound }
+        ensures own { IsListing self.new }
+    {
+        let last = self.addresses.len() - 1;
+        self.addresses.swap(place, last);
+    }
+
     /// Takes the address off the list that was pushed last; none where the list is empty.
-    fn pop(&mut self) -> Option<u32>
+    pub fn pop(&mut self) -> Option<u32>
         ensures last { MatchOption result
             (self.old.addresses ≡ []) (λ at. self.old ≡ pushed self.new at) }
         ensures unchanged { IfNone result (self.new ≡ self.old) }
@@ -150,10 +170,16 @@ impl CellList {
         Some(at)
     }
 
-    /// No address is listed any more. The time goes by how many there were.
+    /// No address is listed any more. The time goes by how many there were, if these are few among the
+    /// flags; else the flags go at once, and later pushes write them anew, a stretch at a time.
     pub fn clear(&mut self)
         ensures { self.new ≡ record self.old { addresses = [] } }
     {
+        if self.addresses.len() > self.listed.len() / FLAGS_OF_ONE {
+            self.addresses.clear();
+            self.listed.clear();
+            return;
+        }
         while self.pop().is_some() {}
     }
 }

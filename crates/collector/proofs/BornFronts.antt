@@ -1,69 +1,30 @@
 -- After a full collection a copy takes the front of what the sweep left free.
-use Rattle.std.proofs.Common.{◌≡◌, ℕ, ◌+◌, ◌-◌, ◌*◌, ◌<◌, ◌≤◌, inl, inr, List, [], ◌∷◌, Contains}
+use Rattle.std.proofs.Common.{◌≡◌, ℕ, ◌+◌, ◌-◌, ◌*◌, ◌<◌, inl, inr, List, [], ◌∷◌, Contains}
 use Rattle.std.proofs.Common.{IsTrue, ap, sym, ◌∙◌, subst, arith}
 use Rattle.std.proofs.lemmas.Bool.{false≢true, cases_lt}
 use Rattle.std.proofs.lemmas.List.Elements.{Contains-get_or}
 use Rattle.tagged_word.specs.Cells.{is_free_kind}
-use Rattle.tagged_word.proofs.Members.{in_cases}
 use Rattle.page_space.specs.Sizes.{page_words}
 use Rattle.page_space.specs.Extents.{Space, eden_start}
-use Rattle.free_runs.specs.FreeRuns.{AscendIn, row_of}
+use Rattle.free_runs.specs.FreeRuns.{row_of}
 use Rattle.free_runs.specs.Laws.{IsOfRun}
+use Rattle.free_runs.proofs.PageRows.{page_there, run_of_page, none_behind}
 use Rattle.object_graph.specs.Graphs.{Graph}
 use Rattle.heap_model.specs.Types.{Cell, Run}
 use Rattle.heap_model.specs.Heaps.{Heap, HasCell}
 use Rattle.heap_model.specs.Wholeness.{HasRows}
 use Rattle.heap_model.proofs.CellsApart.{IsOfCell, first_of_cell, cells_apart}
 use Rattle.heap_model.proofs.RememberedSlots.{ends_in_page}
-use Rattle.heap_model.proofs.StaysCollectable.{object_not_free, owned_not_free}
 use Rattle.live_cells.specs.Fitting.{DeadIsFree}
-use Rattle.live_cells.proofs.DeadWords.{named_is_owned}
-use Rattle.live_cells.proofs.RunWords.{run_lies, page_there, run_of_page}
+use Rattle.live_cells.proofs.DeadWords.{free_is_dead}
 use Rattle.collector.specs.Born.{FreeIsRun, IsCopy, CopiesTakeFronts}
 use Rattle.collector.specs.Collected.{LeavesExact}
 use Rattle.collector.specs.SweptRuns.{IsLiveWord}
 
 -- where each dead word of a page is in a free run, each word of a free cell of a page is
 pub dead_fills : {heap : Heap} {rows : List (List Run)} → HasRows heap → DeadIsFree heap rows → FreeIsRun heap rows
-dead_fills {heap} in_rows dead cell words at has free of_page word =
-    let one : IsOfCell cell at = record { from = word.from; below = word.below } in
-    dead at (omega (arith, ends_in_page has of_page, word.below))
-    (λ other others has_other of_other.
-    let two : IsOfCell other at = record { from = of_other.from; below = of_other.below } in
-    let same : cell ≡ other = cells_apart at in_rows has has_other one two in
-    let is_free : IsTrue (is_free_kind other.layout.kind) =
-    subst (λ (c : Cell). IsTrue (is_free_kind c.layout.kind)) same free in (
-      λ object. object_not_free other.layout.kind object is_free,
-      λ named. owned_not_free other.layout.kind (named_is_owned has_other named) is_free,
-    ))
-
--- where a run of a row ends, no run of the row has the word
-none_behind : (start end : ℕ) (runs : List Run) (run other : Run) → AscendIn start end runs → Contains runs run
-    → Contains runs other → IsOfRun other (run.at + run.words) → ⊥
-none_behind start end [] run other ascend there there_too of_other = omega (arith, there.1)
-none_behind start end (first ∷ more) run other ascend there there_too of_other =
-    let behind = first.at + first.words + 1 in
-    elim (in_cases first more run there) [
-      | inl is ↦
-          let ends : first.at + first.words ≡ run.at + run.words = ap (λ (one : Run). one.at + one.words) is in
-          elim (in_cases first more other there_too) [
-            | inl is_too ↦
-                let ends_too : first.at + first.words ≡ other.at + other.words =
-                ap (λ (one : Run). one.at + one.words) is_too in
-                omega (arith, ends, ends_too, of_other.below)
-            | inr later ↦
-                let lies = run_lies behind end more other ascend.1 later in
-                omega (arith, ends, lies.from, of_other.from)
-          ]
-      | inr later ↦ elim (in_cases first more other there_too) [
-        | inl is_too ↦
-            let ends_too : first.at + first.words ≡ other.at + other.words =
-            ap (λ (one : Run). one.at + one.words) is_too in
-            let lies = run_lies behind end more run ascend.1 later in
-            omega (arith, ends_too, lies.from, of_other.below)
-        | inr later_too ↦ none_behind behind end more run other ascend.1 later later_too of_other
-      ]
-    ]
+dead_fills in_rows dead cell words at has free of_page word =
+    dead at (omega (arith, ends_in_page has of_page, word.below)) (free_is_dead at in_rows has free word)
 
 module _ {old new : Heap} {rows : List (List Run)} {graph : Graph} (leaves : LeavesExact old new rows graph) where
   -- a copy has no word that was live

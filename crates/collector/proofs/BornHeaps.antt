@@ -8,7 +8,8 @@ use Rattle.object_graph.specs.Reach.{is_marked, reach}
 use Rattle.heap_model.specs.Types.{Cell}
 use Rattle.heap_model.specs.Heaps.{Heap, HasCell}
 use Rattle.live_cells.specs.Exact.{Exact}
-use Rattle.collector.specs.Born.{StaysLost, MayStand, ExactIsBorn}
+use Rattle.graph_laws.specs.ReachAfter.{StaysLost}
+use Rattle.collector.specs.Born.{MayStand, ExactIsBorn}
 use Rattle.collector.proofs.BornFronts.{dead_fills, copies_take_fronts}
 use Rattle.collector.proofs.LiveLists.{used_is_live}
 

@@ -4,13 +4,15 @@ use Rattle.object_graph.specs.Graphs.{Graph}
 use Rattle.page_space.specs.Extents.{Space, roots_start}
 use Rattle.write_barrier.specs.MutatorState.{Mutator, MainShows}
 use Rattle.scavenger.specs.Laws.{KeepsGraphs}
-use Rattle.collector.specs.States.{HeapState, HeapShows, Rest, with_cycle}
+use Rattle.collector.specs.States.{HeapState, HeapShows, Rest, with_cycle, with_collected}
 
 -- a heap with the same parts is the same
-pub same_heap : (heap after : HeapState) → after.main ≡ heap.main → after.rest ≡ heap.rest → after ≡ heap
-same_heap heap after main rest =
-    ap (λ (m : Mutator). record { main = m; rest = after.rest }) main
-    ∙ ap (λ (s : Rest). record { main = heap.main; rest = s }) rest
+pub same_heap : (heap after : HeapState) → after.main ≡ heap.main → after.rest ≡ heap.rest
+    → after.collected ≡ heap.collected → after ≡ heap
+same_heap heap after main rest noted =
+    ap (λ (m : Mutator). record after { main = m }) main
+    ∙ ap (λ (s : Rest). record { main = heap.main; rest = s; collected = after.collected }) rest
+    ∙ ap (λ (collected : Bool). record heap { collected = collected }) noted
 
 -- where the mutator's side shows a graph, and the regions and the number of rows of free runs are the same, the heap
 -- shows it
@@ -28,6 +30,16 @@ still_shows heap after graph shown rest space rows shows = record {
 pub cycled_shows : (heap : HeapState) (cycle : Bool) (graph : Graph) → HeapShows heap graph
     → HeapShows (record heap { rest = with_cycle heap.rest cycle }) graph
 cycled_shows heap cycle graph shown = record {
+  main = shown.main;
+  rows = shown.rows;
+  listed = shown.listed;
+  marks = shown.marks;
+}
+
+-- and whether a full collection came or not
+pub noted_shows : (heap : HeapState) (collected : Bool) (graph : Graph) → HeapShows heap graph
+    → HeapShows (with_collected heap collected) graph
+noted_shows heap collected graph shown = record {
   main = shown.main;
   rows = shown.rows;
   listed = shown.listed;

@@ -16,10 +16,12 @@ pub mod BesideMaps
 pub mod TakenPairs
 pub mod ClearedHeap
 pub mod SweptObjects
+pub mod SweptMarked
 pub mod Collected
 pub mod CollectedHeaps
 mod LiveLists
 pub mod FilledHeaps
 mod BornFronts
 pub mod BornHeaps
+pub mod SweptBorn
 pub mod RowSteps

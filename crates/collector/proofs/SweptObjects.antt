@@ -1,6 +1,6 @@
--- What is left of cells and objects once a heap was cleared and swept: each live cell stands where it stood, so does
+-- What is left of cells and objects once a heap was cleared and swept: each marked cell stands where it stood, so does
 -- each object that can be reached, and none holds more.
-use Rattle.std.proofs.Common.{◌≡◌, ℕ, ◌≤◌, inr, List, Contains, Some, IsTrue, slice_get}
+use Rattle.std.proofs.Common.{◌≡◌, ℕ, ◌≤◌, inr, false, List, Contains, Some, IsTrue, slice_get}
 use Rattle.std.proofs.Common.{refl, sym, ◌∙◌, ap, subst, arith}
 use Rattle.std.proofs.lemmas.Bool.{false≢true}
 use Rattle.tagged_word.specs.Cells.{is_free_kind, is_object_kind}
@@ -8,7 +8,7 @@ use Rattle.object_graph.specs.declared.object.Object.TheVariants as graph_object
 use Rattle.object_graph.specs.Graphs.{Graph}
 use Rattle.object_graph.specs.Reach.{is_marked, reach}
 use Rattle.heap_model.specs.Types.{Object, Cell}
-use Rattle.heap_model.specs.Heaps.{Heap, words_of_cell}
+use Rattle.heap_model.specs.Heaps.{Heap, HasCell, words_of_cell}
 use Rattle.heap_model.specs.Slots.{IsPlace, IsWeakCellAt}
 use Rattle.heap_model.specs.Needs.{capacity_at, count_at}
 use Rattle.heap_model.specs.Rooms.{Room, room_at, IsNoFuller, RoomsAreNoFuller}
@@ -20,14 +20,12 @@ use Rattle.heap_moves.proofs.AllStands.{whole_for}
 use Rattle.heap_moves.proofs.MovedCells.{origin, place_before, place_moved}
 use Rattle.heap_moves.proofs.MovedRooms.{moves_keep_room}
 use Rattle.live_cells.specs.Keeping.{StayInPlace}
-use Rattle.live_cells.specs.Live.{AreLive}
-use Rattle.live_cells.proofs.LiveKept.{reached_is_live}
 use Rattle.live_cells.proofs.ReachedMarked.{shown_place}
 use Rattle.write_barrier.specs.MutatorState.{Mutator, heap_of}
-use Rattle.ephemeron_clear.specs.Clearing.{TakesUnmarked}
+use Rattle.ephemeron_clear.specs.Clearing.{MarksReached, TakesUnmarked}
 use Rattle.sweeper.specs.Swept.{place_if_marked}
 use Rattle.sweeper.proofs.KeptPlaces.{place_is_kept, place_of_marked}
-use Rattle.collector.specs.MarkSwept.{LiveCellsStay}
+use Rattle.collector.specs.MarkSwept.{MarkedCellsStay, WasMarked}
 
 -- what is marked stays in its place, and nothing else stays
 pub marked_stay : (marked : List ℕ) → StayInPlace marked (place_if_marked marked)
@@ -43,27 +41,39 @@ marked_stay marked = record {
 pub record SweptAfter (old mid : Mutator) (new : Heap) (graph : Graph) (maps marked : List ℕ) : Type 0 where
   pub shown : Shows (heap_of old) graph
   pub takes : TakesUnmarked old mid maps marked
-  pub live : AreLive (heap_of old) marked
+  pub marks : MarksReached (heap_of old) marked graph
   pub moved : IsMoved (heap_of mid) new (place_if_marked marked)
   pub shows : Shows new graph
-  pub reached : (number at : ℕ) → IsPlace new number at → IsTrue (is_marked (reach graph) number)
 
 module _ {old mid : Mutator} {new : Heap} {graph : Graph} {maps marked : List ℕ}
     (after : SweptAfter old mid new graph maps marked) where
-  -- each live cell stands where it stood
-  pub live_stays : LiveCellsStay (heap_of old) new
-  live_stays cell words has live =
+  -- each marked cell stands where it stood
+  pub marked_cells_stay : MarkedCellsStay (heap_of old) new marked
+  marked_cells_stay cell words has among =
       let stood = after.moved.stands cell (words_of_cell (heap_of mid) cell) cell.at
-      (after.takes.cells.stays cell words has) (place_of_marked marked cell.at ((after.live cell.at).1 live)) in
+      (after.takes.cells.stays cell words has) (place_of_marked marked cell.at among) in
       (stood.others, stood.has)
+
+  -- and each cell that is not free is one of them
+  pub used_were_marked : (cell : Cell) (words : List ℕ) → HasCell new cell words
+      → is_free_kind cell.layout.kind ≡ false → WasMarked (heap_of old) marked cell
+  used_were_marked cell words has used =
+      let from = origin after.moved has (λ free. false≢true (sym used ∙ free)) in
+      let kept = place_is_kept marked from.was.at cell.at from.stays in
+      let same : from.was ≡ cell = ap (λ (at : ℕ). record from.was { at = at }) kept.same ∙ from.same in
+      record {
+        words = words_of_cell (heap_of old) cell;
+        had = subst (λ (one : Cell). HasCell (heap_of old) one (words_of_cell (heap_of old) one)) same
+            (after.takes.cells.stood from.was from.words from.had);
+        among = subst (Contains marked) kept.same kept.among;
+      }
 
   -- an object that can be reached does
   reached_stays : (number at : ℕ) → IsTrue (is_marked (reach graph) number) → IsPlace (heap_of old) number at
       → IsPlace new number at
   reached_stays number at reached place =
       place_moved after.moved at ((after.takes.places number at).0 place)
-      (place_of_marked marked at
-      (reached_is_live (heap_of old) graph marked number at after.shown after.live reached place))
+      (place_of_marked marked at (after.marks number at reached place))
 
   -- what stands stood there once pairs were taken
   stood_between : (number at : ℕ) → IsPlace new number at → IsPlace (heap_of mid) number at × Contains marked at

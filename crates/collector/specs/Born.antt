@@ -1,5 +1,5 @@
 -- What a collection leaves that ends a cycle of marking.
-use Rattle.std.specs.Prelude.{◌≡◌, ℕ, ◌+◌, ◌*◌, ◌<◌, ◌≤◌, ◌⊎◌, true, false, List, length, IsTrue}
+use Rattle.std.specs.Prelude.{◌≡◌, ℕ, ◌+◌, ◌*◌, ◌<◌, ◌≤◌, ◌⊎◌, Bool, true, false, List, length, IsTrue}
 use Rattle.tagged_word.specs.Cells.{is_free_kind}
 use Rattle.page_space.specs.Sizes.{page_words}
 use Rattle.page_space.specs.Extents.{eden_start}
@@ -7,6 +7,7 @@ use Rattle.free_runs.specs.FreeRuns.{AreFree}
 use Rattle.free_runs.specs.Laws.{IsFreeWord}
 use Rattle.object_graph.specs.Graphs.{Graph}
 use Rattle.object_graph.specs.Reach.{is_marked, reach}
+use Rattle.graph_laws.specs.ReachAfter.{StaysLost}
 use Rattle.heap_model.specs.Types.{Cell, Run}
 use Rattle.heap_model.specs.Heaps.{Heap, HasCell}
 use Rattle.heap_model.specs.Collectable.{AreFreeRuns}
@@ -33,12 +34,10 @@ pub data BeginsCycle (old new : Mutator) (graph : Graph) : Type 0 where
   collects_all : (mid : Mutator) → Scavenges old mid true → KeepsGraphs old mid → 0 < mid.young.survivors
       → CollectsAll mid new graph → BeginsCycle old new graph
 
--- Since the first graph nothing was taken out, and nothing came back: what can be reached in the second graph could be
--- reached in the first, or was made since.
-pub record StaysLost (before after : Graph) : Type 0 where
-  pub grows : length before.objects ≤ length after.objects
-  pub lost : (number : ℕ) → number < length before.objects → IsTrue (is_marked (reach after) number)
-      → IsTrue (is_marked (reach before) number)
+-- whether the heap was fully collected for that
+abbrev pub begins_fully : {old new : Mutator} {graph : Graph} → BeginsCycle old new graph → Bool
+begins_fully (BeginsCycle.promotes_all scavenges keeps none) = false
+begins_fully (BeginsCycle.collects_all mid scavenges keeps some collects) = true
 
 -- The word was dead when the cycle began: it was one of a cell that was not free, and that belonged to nothing that
 -- could be reached then.

@@ -10,6 +10,7 @@ pub mod MarkSwept
 pub mod Collected
 pub mod CollectionLaws
 pub mod Born
+pub mod LastSweep
 pub mod Filled
 pub mod Counted
 pub mod Passing

@@ -1,16 +1,24 @@
 -- What marking, clearing and sweeping come to, as one call.
-use Rattle.std.specs.Prelude.{◌≡◌, ℕ, List, length}
+use Rattle.std.specs.Prelude.{◌≡◌, ◌≢◌, ◌<◌, ◌↔◌, ℕ, false, List, AllPairs, Contains, IsTrue, length}
+use Rattle.tagged_word.specs.Cells.{is_free_kind}
+use Rattle.page_space.specs.Extents.{eden_start}
+use Rattle.free_runs.specs.FreeRuns.{AreFree}
+use Rattle.free_runs.specs.Laws.{IsFreeWord}
 use Rattle.nursery.specs.Young.{no_run, with_granted}
 use Rattle.object_graph.specs.Graphs.{Graph}
 use Rattle.heap_table.specs.Seats.{RestStays, heap_words}
 use Rattle.heap_model.specs.Types.{Cell}
 use Rattle.heap_model.specs.Heaps.{Heap, HasCell}
 use Rattle.heap_model.specs.Rooms.{RoomsAreNoFuller}
-use Rattle.live_cells.specs.Exact.{KeepsNoOther}
+use Rattle.heap_model.specs.Slots.{IsWeakCellAt}
+use Rattle.live_cells.specs.Exact.{KeepsNoOther, IsWordOf}
 use Rattle.live_cells.specs.Fitting.{DeadIsFree}
-use Rattle.live_cells.specs.Live.{IsLive, IsRootTarget}
+use Rattle.live_cells.specs.Live.{IsLive, IsRootTarget, IsStart, AreNoTables, AreLiveFrom}
 use Rattle.write_barrier.specs.MutatorState.{Mutator, heap_of, MainShows}
 use Rattle.write_barrier.specs.Recording.{Touches, untouched}
+use Rattle.ephemeron_mark.specs.Marked.{Marked, IsLiveFrom}
+use Rattle.sweeper.specs.Swept.{IsOfMarked}
+use Rattle.collector.specs.Born.{FreeIsRun}
 use Rattle.collector.specs.SweptRuns.{AreSwept}
 
 -- Nothing is granted any more, and nothing was written or recorded.
@@ -40,6 +48,58 @@ pub record MarkSweeps (old new : Mutator) (graph : Graph) : Type 0 where
   pub rows : length new.free ≡ new.seat.space.sizes.pages
   -- live cells stand where they stood
   pub cells : LiveCellsStay (heap_of old) (heap_of new)
+  -- objects have the capacity that they had, and no more of it filled
+  pub rooms : RoomsAreNoFuller (heap_of old) (heap_of new) graph
+  -- regions, phase and field paths are the same
+  pub seat : RestStays old.seat new.seat
+  pub paths : new.paths ≡ old.paths
+  -- as much of eden is used, and as much has survived; but nothing is granted any more
+  pub young : new.young ≡ with_granted old.young no_run
+
+-- A marking of the heap was given these cells to start at: exactly what is live from them and from variables is marked,
+-- and exactly the weak maps among that are listed. None of the given cells is a weak table: clearing goes by maps, so a
+-- table that its map has outgrown would keep dead keys. And none of those in pages is free: it would be in no free run.
+pub record IsMarkedFrom (heap : Heap) (given : List ℕ) (marking : Marked) : Type 0 where
+  pub tables : AreNoTables heap (Contains given)
+  pub used : (cell : Cell) (words : List ℕ) → HasCell heap cell words → Contains given cell.at
+      → cell.at < eden_start heap.space → is_free_kind cell.layout.kind ≡ false
+  pub live : AreLiveFrom heap (IsStart heap given) marking.cells
+  pub maps : (at : ℕ) → Contains marking.maps at ↔ (IsLiveFrom heap given at × IsWeakCellAt heap at)
+  pub once : AllPairs (λ map other. map ≢ other) marking.maps
+
+-- Each marked cell stands where it stood. Its words may have changed.
+abbrev pub MarkedCellsStay : Heap → Heap → List ℕ → Type 0
+MarkedCellsStay old new marked =
+    (cell : Cell) (words : List ℕ) → HasCell old cell words → Contains marked cell.at
+    → (others : List ℕ) × HasCell new cell others
+
+-- the cell stood there, and was marked
+pub record WasMarked (old : Heap) (marked : List ℕ) (cell : Cell) : Type 0 where
+  pub words : List ℕ
+  pub had : HasCell old cell words
+  pub among : Contains marked cell.at
+
+-- The marked cells of a heap that shows a graph are kept where they stand, pairs of marked weak maps with keys that are
+-- not marked are taken out, and all else is free.
+pub record SweepsMarked (old new : Mutator) (marked : List ℕ) (graph : Graph) : Type 0 where
+  -- the heap shows the graph, and its parts agree
+  pub shows : MainShows new graph
+  -- marked cells stand where they stood, the live ones among them; and each cell that is not free is one of them
+  pub cells : MarkedCellsStay (heap_of old) (heap_of new) marked
+  pub live : (at : ℕ) → IsLive (heap_of old) (IsRootTarget (heap_of old)) at → Contains marked at
+  pub used : (cell : Cell) (words : List ℕ) → HasCell (heap_of new) cell words → is_free_kind cell.layout.kind ≡ false
+      → WasMarked (heap_of old) marked cell
+  -- so is a free cell that has a word of one of them
+  pub unused : (cell : Cell) (words : List ℕ) (at : ℕ) → HasCell (heap_of new) cell words
+      → IsTrue (is_free_kind cell.layout.kind) → IsWordOf cell at → IsOfMarked (heap_of old) marked at
+      → WasMarked (heap_of old) marked cell
+  -- free runs have just the words of pages that no marked cell had, in a row for each page; so they have the words of
+  -- free cells of pages
+  pub swept : (at : ℕ) → at < eden_start old.seat.space
+      → IsFreeWord new.free at ↔ (IsOfMarked (heap_of old) marked at → ⊥)
+  pub apart : AreFree new.free
+  pub filled : FreeIsRun (heap_of new) new.free
+  pub rows : length new.free ≡ new.seat.space.sizes.pages
   -- objects have the capacity that they had, and no more of it filled
   pub rooms : RoomsAreNoFuller (heap_of old) (heap_of new) graph
   -- regions, phase and field paths are the same

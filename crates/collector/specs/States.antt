@@ -15,10 +15,15 @@ pub record Rest : Type 0 where
 abbrev pub with_cycle : Rest → Bool → Rest
 with_cycle rest in_cycle = record rest { in_cycle = in_cycle }
 
--- the mutator's side, and the rest
+-- The mutator's side, the rest, and whether a full collection came since that was asked last.
 pub record HeapState : Type 0 where
   pub main : Mutator
   pub rest : Rest
+  pub collected : Bool
+
+-- the heap, where a full collection came or not
+abbrev pub with_collected : HeapState → Bool → HeapState
+with_collected heap collected = record heap { collected = collected }
 
 -- The mutator's side shows the graph, and each page has a row of free runs; the list of a scavenge has a place for each
 -- word of the young generation; and each cell can be marked.

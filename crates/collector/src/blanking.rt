@@ -1,6 +1,6 @@
 //! The words of a heap become those of an image of it, where they stand.
 ghost use Rattle.std.specs.Prelude.{◌≡◌};
-ghost use Rattle.heap_table.specs.declared.phase.Phase.TheVariants.{Quiet};
+ghost use Rattle.heap_table.specs.Phases.{Quiet};
 ghost use Rattle.heap_table.specs.Seats.{heap_words};
 ghost use Rattle.heap_model.specs.RegionRows.{StandsBetween};
 ghost use Rattle.heap_model.specs.Wholeness.{HasRows, Whole};

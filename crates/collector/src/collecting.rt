@@ -1,11 +1,11 @@
 //! Collections: a scavenge of the young generation, a full collection, and the census of what it keeps.
-ghost use Rattle.std.specs.Prelude.{◌≡◌, false};
+ghost use Rattle.std.specs.Prelude.{◌≡◌, true, false};
 ghost use Rattle.object_graph.specs.Graphs.{Graph};
 ghost use Rattle.object_graph.specs.Reach.{reached_objects, reached_entries};
 ghost use Rattle.scavenger.specs.Scavenged.{Scavenges};
 ghost use Rattle.scavenger.specs.Laws.{KeepsGraphs};
 ghost use Rattle.collector.specs.Collected.{CollectsAll};
-ghost use Rattle.collector.specs.States.{HeapShows, with_cycle};
+ghost use Rattle.collector.specs.States.{HeapShows, with_cycle, with_collected};
 
 use crate::census::{Census, count_cells};
 use crate::laws::laws_of_collections;
@@ -24,6 +24,7 @@ impl Heap {
         ensures shows { (graph : Graph) → HeapShows self.old graph → HeapShows self.new graph }
         ensures rooms { KeepsGraphs self.old.main self.new.main }
         ensures rest { self.new.rest ≡ self.old.rest }
+        ensures noted { self.new.collected ≡ self.old.collected }
     {
         let none = Vec::new(self.alloc);
         let list = mem::replace(&mut self.list, none);
@@ -38,6 +39,7 @@ impl Heap {
         ensures shows { (graph : Graph) → HeapShows self.old graph → HeapShows self.new graph }
         ensures rooms { KeepsGraphs self.old.main self.new.main }
         ensures rest { self.new.rest ≡ self.old.rest }
+        ensures noted { self.new.collected ≡ self.old.collected }
     {
         self.collect(false);
     }
@@ -51,6 +53,7 @@ impl Heap {
             CollectsAll self.old.main self.new.main graph }
         ensures shows { (graph : Graph) → HeapShows self.old graph → HeapShows self.new graph }
         ensures rest { self.new.rest ≡ self.old.rest }
+        ensures noted { self.new.collected ≡ true }
     {
         laws_of_collections();
         self.collected = true;
@@ -58,9 +61,10 @@ impl Heap {
         self.collect(true);
     }
 
-    /// Whether the heap was fully collected since this was asked last.
+    /// Whether the heap was fully collected since this was asked last. From here on it was not.
     pub fn take_collected(&mut self) -> bool
-        ensures same { self.new ≡ self.old }
+        ensures noted { result ≡ self.old.collected }
+        ensures taken { self.new ≡ with_collected self.old false }
     {
         mem::replace(&mut self.collected, false)
     }
@@ -75,6 +79,7 @@ impl Heap {
             CollectsAll self.old.main self.new.main graph }
         ensures shows { (graph : Graph) → HeapShows self.old graph → HeapShows self.new graph }
         ensures rest { self.new.rest ≡ with_cycle self.old.rest false }
+        ensures noted { self.new.collected ≡ true }
     {
         self.end_cycle();
         laws_of_counts();

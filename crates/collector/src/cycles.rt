@@ -1,8 +1,8 @@
 //! Cycles of marking: whether one is open. Marking is one pause: nothing is marked before the full collection with
 //! which a cycle ends.
-ghost use Rattle.std.specs.Prelude.{◌≡◌, true, false};
+ghost use Rattle.std.specs.Prelude.{◌≡◌, ◌||◌, true, false};
 ghost use Rattle.object_graph.specs.Graphs.{Graph};
-ghost use Rattle.collector.specs.Born.{BeginsCycle};
+ghost use Rattle.collector.specs.Born.{BeginsCycle, begins_fully};
 ghost use Rattle.collector.specs.Collected.{CollectsAll};
 ghost use Rattle.collector.specs.States.{HeapShows, with_cycle};
 
@@ -20,8 +20,9 @@ impl Heap {
     pub fn begin_cycle(&mut self)
         requires shown { (graph : Graph) × HeapShows self.old graph }
         ensures begun { self.old.rest.in_cycle ≡ false → (graph : Graph) → HeapShows self.old graph →
-            BeginsCycle self.old.main self.new.main graph }
-        ensures stays { self.old.rest.in_cycle ≡ true → self.new.main ≡ self.old.main }
+            (begins : BeginsCycle self.old.main self.new.main graph)
+            × (self.new.collected ≡ (begins_fully begins || self.old.collected)) }
+        ensures stays { self.old.rest.in_cycle ≡ true → self.new ≡ self.old }
         ensures shows { (graph : Graph) → HeapShows self.old graph → HeapShows self.new graph }
         ensures rest { self.new.rest ≡ with_cycle self.old.rest true }
     {
@@ -35,7 +36,9 @@ impl Heap {
     /// which makes more words free.
     fn promote_all(&mut self)
         requires shown { (graph : Graph) × HeapShows self.old graph }
-        ensures begun { (graph : Graph) → HeapShows self.old graph → BeginsCycle self.old.main self.new.main graph }
+        ensures begun { (graph : Graph) → HeapShows self.old graph →
+            (begins : BeginsCycle self.old.main self.new.main graph)
+            × (self.new.collected ≡ (begins_fully begins || self.old.collected)) }
         ensures shows { (graph : Graph) → HeapShows self.old graph → HeapShows self.new graph }
         ensures rest { self.new.rest ≡ self.old.rest }
     {
@@ -60,6 +63,7 @@ impl Heap {
             CollectsAll self.old.main self.new.main graph }
         ensures shows { (graph : Graph) → HeapShows self.old graph → HeapShows self.new graph }
         ensures rest { self.new.rest ≡ with_cycle self.old.rest false }
+        ensures noted { self.new.collected ≡ true }
     {
         self.collect_all();
         self.in_cycle = false;

@@ -2,6 +2,7 @@
 ghost use Rattle.collector.specs.Born.{ExactIsBorn};
 ghost use Rattle.collector.specs.CollectionLaws.{SweptAndScavengedIsCollected};
 ghost use Rattle.collector.specs.Filled.{FullIsFilled};
+ghost use Rattle.collector.specs.LastSweep.{SweptIsBorn};
 ghost use Rattle.collector.specs.ImageLaws.{ImagesShow, ImagesAreBlank, ImagesKeepStores};
 ghost use Rattle.collector.specs.ImageLaws.{ImagesHaveRooms, ImagesAreTight, ImagesKeepFree};
 ghost use Rattle.collector.specs.ImageLaws.{ImagesStayStuck, ImagesAreExact, ImagesKeepDead};
@@ -35,6 +36,12 @@ pub fn laws_of_collections()
 /// when the cycle began can be reached. So nothing is kept that was lost then.
 pub fn laws_of_cycles()
     ensures { ExactIsBorn }
+{}
+
+/// What is left after marked cells were swept, from any starts, is all that the end of a cycle has to leave, if what is
+/// marked could be reached when the cycle began or was made since, and has the words of all young cells.
+pub fn laws_of_last_sweeps()
+    ensures { SweptIsBorn }
 {}
 
 /// In a heap that keeps exactly what can be reached, and into which so many words don't fit, survivors,

@@ -1,8 +1,8 @@
 //! The collector's side of a heap: the heap that a script runs on, and images of it.
 //!
 //! Model: a `HeapState` of `specs/States.antt`: the mutator's side, which is lent to commands, the
-//! places of the list of a scavenge, the bound of what can be marked, and whether a cycle of marking
-//! is open.
+//! places of the list of a scavenge, the bound of what can be marked, whether a cycle of marking is open,
+//! and whether a full collection came since that was asked last.
 //! Invariant: none over the mutator's side, which is lent. `HeapShows` of `specs/States.antt` is
 //! what holds between two commands. `MakesRoom` of `specs/Making.antt` says how room is made, and
 //! `CollectsAll` of `specs/Collected.antt` what a full collection leaves. `BeginsCycle` and `LeavesBorn` of
@@ -23,5 +23,5 @@ mod script_heap;
 
 pub use census::Census;
 pub use imaging::image_room;
-pub use laws::{laws_of_cycles, laws_of_full_heaps, laws_of_images};
+pub use laws::{laws_of_cycles, laws_of_full_heaps, laws_of_images, laws_of_last_sweeps};
 pub use script_heap::Heap;

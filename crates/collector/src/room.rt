@@ -28,6 +28,7 @@ impl Heap {
         ensures shows { (graph : Graph) → HeapShows self.old graph → HeapShows self.new graph }
         ensures rooms { KeepsGraphs self.old.main self.new.main }
         ensures rest { self.new.rest ≡ self.old.rest }
+        ensures noted { self.new.collected ≡ self.old.collected }
     {
         self.main.can_reserve(n) || grant_run(&mut self.main, n)
     }
@@ -45,6 +46,7 @@ impl Heap {
         ensures shows { (graph : Graph) → HeapShows self.old graph → HeapShows self.new graph }
         ensures rooms { KeepsGraphs self.old.main self.new.main }
         ensures rest { self.new.rest ≡ self.old.rest }
+        ensures noted { self.new.collected ≡ self.old.collected }
     {
         self.collect(false);
         self.serve(n)

@@ -26,7 +26,7 @@ pub struct Heap {
     pub(crate) marking: Marking,
     // Whether a cycle of marking is open.
     pub(crate) in_cycle: bool,
-    // Whether a full collection came since this was asked last. No contract speaks of it.
+    // Whether a full collection came since this was asked last.
     pub(crate) collected: bool,
     // What an empty list of words is made with. It gives no memory after the heap is opened.
     pub(crate) alloc: Global,
@@ -67,6 +67,7 @@ impl Heap {
         ensures opened { IfOk result (λ heap. HeapShows heap start × IsOpened heap.main) }
         ensures regions { IfOk result (λ heap. heap.main.seat.space ≡ regions) }
         ensures closed { IfOk result (λ heap. heap.rest.in_cycle ≡ false) }
+        ensures uncollected { IfOk result (λ heap. heap.collected ≡ false) }
     {
         let main = Main::open(alloc, seat, regions)?;
         let list = Vec::with_capacity(alloc, regions.sizes().young as usize)?;

@@ -6,6 +6,8 @@
 #![tactic(auto)]
 
 #[cfg(test)]
+mod black_cells;
+#[cfg(test)]
 mod changes;
 #[cfg(test)]
 mod conditions;

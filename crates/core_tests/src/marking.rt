@@ -15,9 +15,9 @@ use tagged_word::Word;
 
 /// A list at 0 with its store of no slots at 3; a list at 5 with its store of two slots at 8 and a
 /// plain cell of none at 12; a plain cell with a raw slot at 14, one with a tagged slot at 17; a gap.
-const WORDS: &str = "6 13 0 14 0 6 33 2 14 2 49 3 34 3 74 3 5000000000 70 3 13 30 2028";
+pub(crate) const WORDS: &str = "6 13 0 14 0 6 33 2 14 2 49 3 34 3 74 3 5000000000 70 3 13 30 2028";
 
-const CELLS: &str = "0 3 5 8 12 14 17";
+pub(crate) const CELLS: &str = "0 3 5 8 12 14 17";
 
 /// The fixed layouts, shape 8 for plain cells of no slots, 17 for a tagged slot and 18 for a raw one.
 const LAYOUTS: &str = "0 2 3 4 5 6 7 8 1 0 0 0 0 0 0 0 0 273 4369";
@@ -108,7 +108,7 @@ fn events_of(alloc: Global, text: &str) -> Result<Vec<Event>, Fail> {
 }
 
 /// The world that a cycle begins with, of a page with these words and with these cells, each born.
-fn world(alloc: Global, words: &str, cells: &str) -> Result<World, Fail> {
+pub(crate) fn world(alloc: Global, words: &str, cells: &str) -> Result<World, Fail> {
     Ok(World {
         old: 2048,
         words: Items::from_vec(padded(alloc, words, 2048)?),
@@ -250,7 +250,7 @@ fn hold(
 }
 
 /// Each row of the tables ends as it says.
-fn hold_all(
+pub(crate) fn hold_all(
     rt: &impl Abort,
     alloc: Global,
     start: &World,

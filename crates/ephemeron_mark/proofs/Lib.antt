@@ -1,4 +1,5 @@
 pub mod LiveStands
+pub mod LiveAgain
 mod GrownLists
 mod CellSlots
 mod SlotEnds
@@ -11,4 +12,6 @@ mod WaitingKeys
 mod ReadPairs
 mod VisitedCells
 mod NotedMaps
+mod SeenCells
+mod Brought
 mod EndMarks

@@ -1,6 +1,7 @@
--- Each live cell stands in the heap, before the roots; and what is read at an address is what the word there refers to.
-use Rattle.std.proofs.Common.{◌≡◌, ℕ, suc, ◌+◌, ◌*◌, ◌<◌, ◌^◌, Some, None, slice_get, drop}
-use Rattle.std.proofs.Common.{refl, sym, ◌∙◌, ap, arith}
+-- Each cell that is live from cells of the heap stands there, before the roots; and what is read at an address is
+-- what the word there refers to.
+use Rattle.std.proofs.Common.{◌≡◌, ℕ, suc, ◌+◌, ◌*◌, ◌<◌, ◌^◌, ◌⊎◌, inl, inr, List, Some, None, Contains, drop}
+use Rattle.std.proofs.Common.{slice_get, refl, sym, ◌∙◌, ap, arith}
 use Rattle.std.proofs.lemmas.Option.{same_Some, none-some}
 use Rattle.tagged_word.specs.declared.layout.Kind.TheVariants as kind
 use Rattle.tagged_word.specs.Readings.{reference_in}
@@ -17,10 +18,10 @@ use Rattle.heap_model.proofs.CellsApart.{first_of_cell, used_few}
 use Rattle.heap_model.proofs.CellWords.{words_by_kind, behind_head, behind_head_few}
 use Rattle.heap_model.proofs.ObjectSlots.{pair_words}
 use Rattle.heap_model.proofs.WordsAlike.{cell_below_roots}
-use Rattle.live_cells.specs.Live.{HasSlotTo, HasEntry, IsLive, IsRootTarget}
+use Rattle.live_cells.specs.Live.{HasSlotTo, HasEntry, IsLive, IsRootTarget, IsStart}
 use Rattle.live_cells.proofs.Slots.{marking_slots}
 use Rattle.heap_walk.proofs.SlotTargets.{IsUsedAt, kind_to_cell, held_target}
-use Rattle.ephemeron_mark.specs.Marked.{IsLiveAt}
+use Rattle.ephemeron_mark.specs.Marked.{IsLiveFrom, StandsInHeap}
 use Rattle.ephemeron_mark.specs.Progress.{HoldsReference}
 
 -- a word that reads as a reference refers to its address
@@ -48,6 +49,10 @@ refers_to_one heap slot at other refers too =
 -- what stands before the roots stands before the marks
 pub before_marks : (space : Space) (at : ℕ) → at < roots_start space → at < marks_start space
 before_marks space at below = omega (arith, below, (kinds_by_number space).layouts, (kinds_by_number space).marks)
+
+-- a used cell stands in the heap
+of_used : {heap : Heap} {at : ℕ} → IsUsedAt heap at → StandsInHeap heap at
+of_used used = record { cell = used.cell; words = used.words; has = used.has; stands = used.stands }
 
 module _ {heap : Heap} (whole : Whole heap) where
   -- what a root word refers to stands there
@@ -90,14 +95,13 @@ module _ {heap : Heap} (whole : Whole heap) where
       let there = pair_words (drop store_head entry.words) entry.place place entry.pair refl entry.among in
       pair_word_stands entry (suc place) value (there.1 ∙ ap (λ (one : ℕ). Some one) entry.value_is)
 
-  -- so each live cell stands in the heap
-  pub live_stands : (at : ℕ) → IsLiveAt heap at → IsUsedAt heap at
-  live_stands at (IsLive.start at' target) = root_stands at target
-  live_stands at (IsLive.slot from at' live slot) = slot_stands from at slot
-  live_stands at (IsLive.entry table key at' live_table live_key entry) = value_stands table key at entry
+  -- a start was given, or is used
+  start_is_used : {given : List ℕ} (at : ℕ) → IsStart heap given at → Contains given at ⊎ IsUsedAt heap at
+  start_is_used at (IsStart.root target) = inr (root_stands at target)
+  start_is_used at (IsStart.among there) = inl there
 
   -- what stands in the heap stands before the roots
-  stands_below : (at : ℕ) → IsUsedAt heap at → at < roots_start heap.space
+  pub stands_below : (at : ℕ) → StandsInHeap heap at → at < roots_start heap.space
   stands_below at there =
       omega (
         arith,
@@ -106,13 +110,28 @@ module _ {heap : Heap} (whole : Whole heap) where
         cell_below_roots (used_few whole.rows) there.has,
       )
 
-  -- so does each live cell
-  pub live_below : (at : ℕ) → IsLiveAt heap at → at < roots_start heap.space
-  live_below at live = stands_below at (live_stands at live)
-
-  -- and each key and each value of an entry
+  -- so do each key and each value of an entry
   pub key_below : (table key value : ℕ) → HasEntry heap table key value → key < roots_start heap.space
-  key_below table key value entry = stands_below key (key_stands table key value entry)
+  key_below table key value entry = stands_below key (of_used (key_stands table key value entry))
 
   pub value_below : (table key value : ℕ) → HasEntry heap table key value → value < roots_start heap.space
-  value_below table key value entry = stands_below value (value_stands table key value entry)
+  value_below table key value entry = stands_below value (of_used (value_stands table key value entry))
+
+  -- so a live cell was given, or is used
+  pub live_is_used : {given : List ℕ} (at : ℕ) → IsLiveFrom heap given at → Contains given at ⊎ IsUsedAt heap at
+  live_is_used at (IsLive.start at' start) = start_is_used at start
+  live_is_used at (IsLive.slot from at' live slot) = inr (slot_stands from at slot)
+  live_is_used at (IsLive.entry table key at' live_table live_key entry) = inr (value_stands table key at entry)
+
+  -- it stands in the heap, where those that are given do
+  pub live_stands : {given : List ℕ} → ((at : ℕ) → Contains given at → StandsInHeap heap at) → (at : ℕ)
+      → IsLiveFrom heap given at → StandsInHeap heap at
+  live_stands stand at live = elim (live_is_used at live) [
+    | inl there ↦ stand at there
+    | inr used ↦ of_used used
+  ]
+
+  -- before the roots
+  pub live_below : {given : List ℕ} → ((at : ℕ) → Contains given at → StandsInHeap heap at) → (at : ℕ)
+      → IsLiveFrom heap given at → at < roots_start heap.space
+  live_below stand at live = stands_below at (live_stands stand at live)

@@ -10,12 +10,21 @@ use Rattle.tagged_word.specs.declared.layout.Kind.TheVariants as kind
 use Rattle.tagged_word.proofs.Members.{first_in}
 use Rattle.heap_model.specs.Types.{Kind, Cell}
 use Rattle.heap_model.specs.Heaps.{Heap}
+use Rattle.heap_model.proofs.BoundHeaps.{none_in}
 use Rattle.heap_model.proofs.CellsApart.{one_at}
 use Rattle.heap_model.specs.Slots.{IsWeakCellAt}
 use Rattle.cell_list.specs.Listing.{Listing}
 use Rattle.write_barrier.specs.MutatorState.{Mutator, heap_of}
 use Rattle.ephemeron_mark.specs.Progress.{HasGrown, IsCellOf, IsAmong, AreMapsAmong, noted}
 use Rattle.ephemeron_mark.proofs.VisitedCells.{WhichAmong, which_among, among_before, among_after}
+
+-- among no cells there are none
+pub none_noted : {heap : Heap} (cells : Listing) → AreMapsAmong heap cells [] 0
+none_noted cells = record {
+  are = λ at. (λ there. absurd (none_in at there), λ both. absurd (omega (arith, both.0.below)));
+  once = λ i j d less within. absurd (omega (arith, within));
+  few = omega arith;
+}
 
 -- they are the same while more cells are marked
 pub maps_stay : {main : Mutator} {old new : Listing} (maps : List ℕ) (count : ℕ) → HasGrown main old new

@@ -4,7 +4,7 @@ use Rattle.tagged_word.specs.Readings.{reference_in}
 use Rattle.page_space.specs.Extents.{roots_start, marks_start}
 use Rattle.cell_list.specs.Listing.{Listing}
 use Rattle.write_barrier.specs.MutatorState.{Mutator, heap_of}
-use Rattle.ephemeron_mark.specs.Marked.{IsLiveAt}
+use Rattle.ephemeron_mark.specs.Marked.{IsLiveFrom}
 use Rattle.ephemeron_mark.specs.Progress.{HoldsReference, IsMarking, IsMarkedPair}
 use Rattle.ephemeron_mark.proofs.LiveStands.{refers_as_read, refers_to_none, key_below, value_below, before_marks}
 use Rattle.ephemeron_mark.proofs.WaitingKeys.{value_is_live}
@@ -15,7 +15,7 @@ pub record IsReadPair (main : Mutator) (cells : Listing) (of_key key value : ℕ
   pub value_refers : HoldsReference (heap_of main) (of_key + 1) value
   pub key_below : key < roots_start main.seat.space
   pub value_below : value < roots_start main.seat.space
-  pub live : Contains cells.addresses key → IsLiveAt (heap_of main) value
+  pub live : Contains cells.addresses key → IsLiveFrom (heap_of main) cells.addresses value
 
 module _ {main : Mutator} {cells : Listing} {of_key : ℕ} (marking : IsMarking main cells)
     (pair : IsMarkedPair (heap_of main) cells of_key (of_key + 1)) where
@@ -29,7 +29,7 @@ module _ {main : Mutator} {cells : Listing} {of_key : ℕ} (marking : IsMarking 
         value_refers = value_refers;
         key_below = key_below marking.whole pair.table key value entry;
         value_below = value_below marking.whole pair.table key value entry;
-        live = value_is_live of_key (of_key + 1) key value marking pair refers value_refers;
+        live = value_is_live of_key (of_key + 1) key value pair refers value_refers;
       }
 
   -- so it is where both were read as references

@@ -1,5 +1,5 @@
 -- The cells that were visited stay closed while more are marked, and the next one is read where it stands.
-use Rattle.std.proofs.Common.{◌≡◌, ℕ, ◌+◌, ◌<◌, ◌≤◌, inl, inr, Some, Contains, slice_get, length, get_or}
+use Rattle.std.proofs.Common.{◌≡◌, ℕ, zero, suc, ◌+◌, ◌<◌, ◌≤◌, inl, inr, Some, Contains, slice_get, length, get_or}
 use Rattle.std.proofs.Common.{sym, ◌∙◌, subst, arith}
 use Rattle.std.proofs.lemmas.Bool.{cases_lt}
 use Rattle.std.proofs.lemmas.Option.{same_Some, slice_get-get_or, slice_get_within}
@@ -14,7 +14,6 @@ use Rattle.heap_table.specs.Seats.{heap_words}
 use Rattle.write_barrier.specs.MutatorState.{Mutator, heap_of}
 use Rattle.ephemeron_mark.specs.Pairs.{Waits}
 use Rattle.ephemeron_mark.specs.Progress.{IsMarking, HasGrown, IsCellOf, WaitsMore, IsVisited, IsAmong, AreVisited}
-use Rattle.ephemeron_mark.proofs.LiveStands.{live_stands}
 use Rattle.ephemeron_mark.proofs.GrownLists.{stays_marked}
 use Rattle.ephemeron_mark.proofs.WaitingKeys.{marked_or_waits_stays}
 
@@ -67,6 +66,10 @@ module _ {main : Mutator} {old new : Listing} (grown : HasGrown main old new) wh
       let at : ℕ = get_or old.addresses count 0 in
       slice_get_within new.addresses count at (grown.kept count at (slice_get-get_or old.addresses count 0 below))
 
+  pub as_many_still : (count : ℕ) → count ≤ length old.addresses → count ≤ length new.addresses
+  as_many_still zero few = omega arith
+  as_many_still (suc count) few = omega (arith, no_fewer count (omega (arith, few)))
+
   -- a marked cell that was visited is closed still, where more pairs wait for keys that were not marked
   visited_stays : {before after : Waits} (at : ℕ) → WaitsMore old before after → Contains old.addresses at
       → IsVisited (heap_of main) old before at → IsVisited (heap_of main) new after at
@@ -98,7 +101,7 @@ module _ {main : Mutator} {cells : Listing} (marking : IsMarking main cells) whe
   pub stands_to_read : (at : ℕ) → Contains cells.addresses at
       → (cell : Cell) × StandsAt main.seat.space (heap_words main.seat) at cell
   stands_to_read at there =
-      let stands = live_stands marking.whole at (marking.live at there) in
+      let stands = marking.stand at there in
       (stands.cell, record { is_cell = has_is_cell stands.has; stands = stands.stands })
 
   -- and what is read is a cell of the heap
@@ -106,7 +109,7 @@ module _ {main : Mutator} {cells : Listing} (marking : IsMarking main cells) whe
       → ((cell : Cell) → StandsAt main.seat.space (heap_words main.seat) at cell → read ≡ cell)
       → IsCellOf (heap_of main) read
   read_is_cell at read there one =
-      let stands = live_stands marking.whole at (marking.live at there) in
+      let stands = marking.stand at there in
       let same : read ≡ stands.cell =
       one stands.cell (record { is_cell = has_is_cell stands.has; stands = stands.stands }) in
       (stands.words, subst (λ (cell : Cell). HasCell (heap_of main) cell stands.words) (sym same) stands.has)

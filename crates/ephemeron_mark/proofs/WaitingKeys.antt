@@ -8,12 +8,13 @@ use Rattle.heap_model.specs.Heaps.{Heap}
 use Rattle.live_cells.specs.Live.{IsLive}
 use Rattle.cell_list.specs.Listing.{Listing}
 use Rattle.write_barrier.specs.MutatorState.{Mutator, heap_of}
-use Rattle.ephemeron_mark.specs.Marked.{IsLiveAt}
+use Rattle.ephemeron_mark.specs.Marked.{IsLiveFrom}
 use Rattle.ephemeron_mark.specs.Pairs.{Waits, WaitsFor, IsLastOf}
-use Rattle.ephemeron_mark.specs.Progress.{HoldsReference, IsMarking, HasGrown, IsMarkedPair, AreWaiting, WaitsMore}
+use Rattle.ephemeron_mark.specs.Progress.{HoldsReference, HasGrown, IsMarkedPair, AreWaiting, WaitsMore}
 use Rattle.ephemeron_mark.specs.Progress.{IsMarkedOrWaits}
 use Rattle.ephemeron_mark.proofs.LiveStands.{refers_to_one}
 use Rattle.ephemeron_mark.proofs.GrownLists.{stays_marked}
+use Rattle.ephemeron_mark.proofs.LiveAgain.{live_at_once}
 use Rattle.ephemeron_mark.proofs.PairSlots.{IsPairAt}
 
 module _ {main : Mutator} {old new : Listing} (grown : HasGrown main old new) where
@@ -86,11 +87,11 @@ waits_for_one {heap} of_key key other waiting refers waits_for =
     refers_to_one heap of_key other key (subst (λ (at : ℕ). HoldsReference heap at other) same one.refers) refers
 
 -- the value of a pair of a marked table is live where its key is marked
-pub value_is_live : {main : Mutator} {cells : Listing} (of_key of_value key value : ℕ) → IsMarking main cells
-    → IsMarkedPair (heap_of main) cells of_key of_value → HoldsReference (heap_of main) of_key key
-    → HoldsReference (heap_of main) of_value value → Contains cells.addresses key → IsLiveAt (heap_of main) value
-value_is_live of_key of_value key value marking pair refers value_refers marked =
-    IsLive.entry pair.table key value (marking.live pair.table pair.marked) (marking.live key marked)
+pub value_is_live : {heap : Heap} {cells : Listing} (of_key of_value key value : ℕ)
+    → IsMarkedPair heap cells of_key of_value → HoldsReference heap of_key key
+    → HoldsReference heap of_value value → Contains cells.addresses key → IsLiveFrom heap cells.addresses value
+value_is_live of_key of_value key value pair refers value_refers marked =
+    IsLive.entry pair.table key value (live_at_once pair.table pair.marked) (live_at_once key marked)
     (pair.entry key value refers value_refers)
 
 -- the pairs that wait for the key, from a place on, have their values marked

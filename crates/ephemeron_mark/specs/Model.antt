@@ -1,5 +1,6 @@
 -- What a marking keeps in its fields, and how it finds the pairs that wait for a key.
-use Rattle.std.specs.Prelude.{◌≡◌, ℕ, ◌≤◌, ◌<◌, ◌^◌, List, map, length, Some, slice_get, slice_index, vec_capacity}
+use Rattle.std.specs.Prelude.{◌≡◌, ℕ, ◌≤◌, ◌<◌, ◌^◌, List, map, take, length, Some, slice_get}
+use Rattle.std.specs.Prelude.{slice_index, vec_capacity}
 use Rattle.ephemeron_mark.specs.declared.waiting.WaitingPair.{WaitingPair}
 use Rattle.ephemeron_mark.specs.declared.waiting.Waiting.TheInside as waiting
 use Rattle.ephemeron_mark.specs.declared.marking.Marking.TheInside as marking
@@ -34,11 +35,19 @@ pub record IsWaiting (inside : waiting.Inside) : Type 0 where
   pub room_for_last : inside.slots.bound ≤ vec_capacity inside.last
   pub told : AreTold inside.last.items inside.pairs.items
 
--- the cells that were found, and the weak maps
+-- the marked cells, the weak maps, and the first so many cells, which were given as seen
 abbrev pub marked_of : marking.Inside → Marked
-marked_of inside = record { bound = inside.cells.bound; cells = inside.cells.addresses; maps = inside.maps.items }
+marked_of inside = record {
+  bound = inside.cells.bound;
+  cells = inside.cells.addresses;
+  maps = inside.maps.items;
+  seen = take inside.seen inside.cells.addresses;
+}
 
--- all parts are of one bound, and there is room for a weak map at each address
+-- All parts are of one bound, which has 32 bits, there is room for a weak map at each address, and no more cells were
+-- given as seen than are marked.
 pub record IsOfOneBound (inside : marking.Inside) : Type 0 where
+  pub fits : inside.cells.bound < 2 ^ 32
   pub waiting : inside.waiting.bound ≡ inside.cells.bound
   pub maps : inside.cells.bound ≤ vec_capacity inside.maps
+  pub seen : inside.seen ≤ length inside.cells.addresses

@@ -11,23 +11,30 @@ use Rattle.heap_model.specs.Wholeness.{Whole}
 use Rattle.live_cells.specs.Live.{HasSlotTo, HasEntry}
 use Rattle.cell_list.specs.Listing.{Listing}
 use Rattle.write_barrier.specs.MutatorState.{Mutator, heap_of}
-use Rattle.ephemeron_mark.specs.Marked.{IsLiveAt}
+use Rattle.ephemeron_mark.specs.Marked.{IsLiveFrom, StandsInHeap}
 use Rattle.ephemeron_mark.specs.Pairs.{Waits, WaitsFor}
 
 -- the word at an address is a reference to the other one
 abbrev pub HoldsReference : Heap → ℕ → ℕ → Type 0
 HoldsReference heap slot at = slice_get heap.words slot ≡ Some (reference_word at)
 
--- The heap is whole, and only live cells are marked so far.
+-- The heap is whole, and only cells of it are marked.
 pub record IsMarking (main : Mutator) (cells : Listing) : Type 0 where
   pub whole : Whole (heap_of main)
   pub bound : cells.bound ≡ roots_start main.seat.space
-  pub live : (at : ℕ) → Contains cells.addresses at → IsLiveAt (heap_of main) at
+  pub stand : (at : ℕ) → Contains cells.addresses at → StandsInHeap (heap_of main) at
 
--- more cells are marked, behind those that were
+-- more cells are marked, behind those that were: such as are live from those, and from what root words refer to
 pub record HasGrown (main : Mutator) (old new : Listing) : Type 0 where
   pub marking : IsMarking main new
   pub kept : (place at : ℕ) → slice_get old.addresses place ≡ Some at → slice_get new.addresses place ≡ Some at
+  pub live : (at : ℕ) → Contains new.addresses at → IsLiveFrom (heap_of main) old.addresses at
+
+-- more such cells are marked, in any order
+pub record HasMore (main : Mutator) (old new : Listing) : Type 0 where
+  pub marking : IsMarking main new
+  pub kept : (at : ℕ) → Contains old.addresses at → Contains new.addresses at
+  pub live : (at : ℕ) → Contains new.addresses at → IsLiveFrom (heap_of main) old.addresses at
 
 -- the cell is the heap's
 abbrev pub IsCellOf : Heap → Cell → Type 0
@@ -80,6 +87,13 @@ pub record IsAmong (cells : Listing) (count at : ℕ) : Type 0 where
   pub place : ℕ
   pub below : place < count
   pub there : slice_get cells.addresses place ≡ Some at
+
+-- What the slots of the first so many cells refer to is marked, of those that marking visits, but for those of weak
+-- maps.
+abbrev pub LeadOn : Heap → Listing → ℕ → Type 0
+LeadOn heap cells count =
+    (from to : ℕ) → IsAmong cells count from → (IsWeakCellAt heap from → ⊥) → HasSlotTo heap from to
+    → Contains cells.addresses to
 
 -- the first so many cells are visited
 abbrev pub AreVisited : Heap → Listing → Waits → ℕ → Type 0

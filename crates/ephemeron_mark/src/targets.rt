@@ -5,7 +5,7 @@ ghost use Rattle.page_space.specs.Extents.{marks_start};
 ghost use Rattle.live_cells.specs.Live.{HasSlotTo};
 ghost use Rattle.live_cells.specs.Marked.{HasRootTargets};
 ghost use Rattle.write_barrier.specs.MutatorState.{heap_of};
-ghost use Rattle.ephemeron_mark.specs.Marked.{IsLiveAt};
+ghost use Rattle.ephemeron_mark.specs.Marked.{IsLiveFrom};
 ghost use Rattle.ephemeron_mark.specs.Progress.{HoldsReference, IsMarking, HasGrown, IsCellOf};
 
 use cell_layout::Cell;
@@ -18,7 +18,8 @@ use write_barrier::Main;
 pub(crate) fn mark_target(main: &Main, cells: &mut CellList, slot: u32)
     requires marking { IsMarking main.now cells.old }
     requires within { slot < marks_start main.now.seat.space }
-    requires live { (at : ℕ) → HoldsReference (heap_of main.now) slot at → IsLiveAt (heap_of main.now) at }
+    requires live { (at : ℕ) → HoldsReference (heap_of main.now) slot at →
+        IsLiveFrom (heap_of main.now) cells.old.addresses at }
     ensures grown { HasGrown main.now cells.old cells.new }
     ensures marked { (at : ℕ) → HoldsReference (heap_of main.now) slot at → Contains cells.new.addresses at }
 {
@@ -41,12 +42,12 @@ pub(crate) fn mark_roots(main: &Main, cells: &mut CellList)
     }
 }
 
-/// Marks what the slots of a live cell refer to, of those that marking visits. They stand before an
+/// Marks what the slots of a marked cell refer to, of those that marking visits. They stand before an
 /// offset, up to which each offset is tried.
 #[inline(always)]
 fn mark_before(main: &Main, cells: &mut CellList, cell: &Cell, slots_end: u32)
     requires marking { IsMarking main.now cells.old }
-    requires live { IsLiveAt (heap_of main.now) cell.now.at }
+    requires marked { Contains cells.old.addresses cell.now.at }
     requires stands { IsCellOf (heap_of main.now) cell.now }
     requires ends { All (λ offset. offset < slots_end) (tagged_offsets cell.now.layout cell.now.length) }
     ensures grown { HasGrown main.now cells.old cells.new }
@@ -61,10 +62,10 @@ fn mark_before(main: &Main, cells: &mut CellList, cell: &Cell, slots_end: u32)
     }
 }
 
-/// Marks what the slots of a live cell refer to, of those that marking visits.
+/// Marks what the slots of a marked cell refer to, of those that marking visits.
 pub(crate) fn mark_slots(main: &Main, cells: &mut CellList, cell: &Cell)
     requires marking { IsMarking main.now cells.old }
-    requires live { IsLiveAt (heap_of main.now) cell.now.at }
+    requires marked { Contains cells.old.addresses cell.now.at }
     requires stands { IsCellOf (heap_of main.now) cell.now }
     ensures grown { HasGrown main.now cells.old cells.new }
     ensures slots { (at : ℕ) → HasSlotTo (heap_of main.now) cell.now.at at → Contains cells.new.addresses at }

@@ -21,6 +21,7 @@ use Rattle.heap_model.specs.Wholeness.{NamesFrom, IsOwnedKind}
 use Rattle.heap_model.proofs.WordsStay.{PlacesStay, refers_to_place_stays}
 use Rattle.write_barrier.specs.MutatorState.{Mutator, heap_of, with_word}
 use Rattle.object_cells.specs.declared.content.SlotContent.TheVariants as content
+use Rattle.object_cells.specs.Contents.{next_at}
 use Rattle.object_cells.specs.Made.{store_content}
 use Rattle.object_cells.specs.OwnSlots.{IsNoBoxOf}
 use Rattle.object_cells.proofs.ContentValues.{box_shows}
@@ -28,7 +29,7 @@ use Rattle.object_cells.proofs.FieldWords.{value_word}
 use Rattle.object_cells.proofs.FilledSlots.{set_there}
 use Rattle.object_cells.proofs.HeldContents.{HoldsValue}
 use Rattle.object_cells.proofs.IntegerTouches.{integer_remembers}
-use Rattle.object_cells.proofs.MadeBoxes.{boxed_integer}
+use Rattle.object_cells.proofs.MadeBoxes.{boxed_integer, row_of_none}
 use Rattle.object_cells.proofs.NothingUsed.{room_for_none}
 use Rattle.object_cells.proofs.OwnIntegers as integer
 use Rattle.object_cells.proofs.OwnIntegers.{PutsInteger}
@@ -182,6 +183,7 @@ module _ {old new : Mutator} {graph : Graph} {map key : ℕ} {weak : WeakObject}
     };
     takes = takes_none (integer.rest_stays put_it) (room_for_none old (known has).tied (known has).whole)
         (integer.same_young put_it);
+    row = row_of_none (heap_of new) (next_at old);
     remembers = integer_remembers put_it;
     now = has.told.pair;
     before_is = refl;

@@ -16,7 +16,9 @@ use Rattle.heap_model.specs.Kinds.{Pair}
 use Rattle.heap_model.specs.Needs.{capacity_at}
 use Rattle.heap_model.specs.Rooms.{room_without}
 use Rattle.write_barrier.specs.MutatorState.{Mutator, heap_of, MainShows}
-use Rattle.object_cells.specs.Capacities.{ChangesObject}
+use Rattle.object_cells.specs.Capacities.{ChangesObjectUsing}
+use Rattle.object_cells.specs.Contents.{next_at}
+use Rattle.object_cells.proofs.MadeBoxes.{row_of_none}
 use Rattle.object_cells.proofs.NothingUsed.{room_for_none, uses_none, nothing_changes}
 use Rattle.object_cells.proofs.TakenRuns.{bumped_none, takes_none}
 use Rattle.ephemeron_table.proofs.KeptTables.{tables_stay}
@@ -126,8 +128,8 @@ module _ {old new : Mutator} {graph : Graph} {map key : ℕ} {weak : WeakObject}
       record {
         none = λ no_entry. absurd (none-some its.told.value (sym no_entry ∙ its.told.is_entry));
         uses = uses_none removes.rest removes.young removes.touches.free;
-        changes = subst (λ at. ChangesObject (heap_of old) (heap_of new) at (capacity_at (heap_of old) at))
-            (shown its).stands (tables_stay refills
+        changes = subst (λ at. ChangesObjectUsing old new 0 at (capacity_at (heap_of old) at))
+            (shown its).stands (tables_stay refills (row_of_none (heap_of new) (next_at old))
             (slot_stays is_known (some its) removes one (entry_filled its)));
         counts = ap (λ found. unwrap_or found 0) removes.counted
             ∙ ap (λ found. (room_without (map_room old map weak) found).entries) (sym its.told.is_entry);

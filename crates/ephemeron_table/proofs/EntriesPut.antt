@@ -15,7 +15,7 @@ use Rattle.heap_model.specs.Rooms.{Room, room_put, wput_need}
 use Rattle.heap_model.specs.Showing.{ShowsWeak}
 use Rattle.heap_model.proofs.CellsApart.{one_at}
 use Rattle.write_barrier.specs.MutatorState.{Mutator, heap_of}
-use Rattle.object_cells.specs.Capacities.{ChangesObject}
+use Rattle.object_cells.specs.Capacities.{ChangesObjectUsing}
 use Rattle.object_cells.specs.Uses.{UsesMore}
 use Rattle.ephemeron_table.specs.EntryChanges.{map_room, HasPutEntry}
 use Rattle.ephemeron_table.specs.PairLaws.{WrittenEntriesShow, IsNewValue}
@@ -34,12 +34,12 @@ counts_put {after = after} room same (CountsPut.fresh is counted) =
     more ∙ ap (λ found. (room_put room found).entries) (sym is)
 
 -- so the map has it
-pub entry_put : {old new : Mutator} {graph : Graph} {map key : ℕ} {weak : WeakObject} {number need : ℕ} {value : Held}
+pub entry_put : {old new : Mutator} {graph : Graph} {map key : ℕ} {weak : WeakObject} {number : ℕ} {value : Held}
     {what : Value} (puts : PutsShown old new graph map key weak number value what) → WrittenEntriesShow
-    → IsValue (length graph.objects) what → need ≡ wput_need (map_room old map weak) weak what number
+    → IsValue (length graph.objects) what → puts.need ≡ wput_need (map_room old map weak) weak what number
     → puts.capacity ≡ (room_put (map_room old map weak) (entry_value weak.entries number)).capacity
-    → HasRoom old.young need → RestStays old.seat new.seat
-    → new.young ≡ bumped old.young need
+    → HasRoom old.young puts.need → RestStays old.seat new.seat
+    → new.young ≡ bumped old.young puts.need
     → HasPutEntry old new graph map key weak number what
 entry_put {old} {new} {graph} {map} {key} {weak} {number} {what = what} puts entries_show fits need_is capacity_is room
     beside young =
@@ -51,7 +51,9 @@ entry_put {old} {new} {graph} {map} {key} {weak} {number} {what = what} puts ent
       room = subst (HasRoom old.young) need_is room;
       uses = subst (UsesMore old new) need_is
           (record { beside = beside; young = young; free = puts.remembers.touches.free });
-      changes = subst (ChangesObject (heap_of old) (heap_of new) map) capacity_is puts.changes;
+      changes = subst (λ n. ChangesObjectUsing old new n map
+          (room_put (map_room old map weak) (entry_value weak.entries number)).capacity) need_is
+          (subst (ChangesObjectUsing old new puts.need map) capacity_is puts.changes);
       counts = count_after puts ∙ counts_put (map_room old map weak) refl puts.counted;
       shows = entries_show old new graph weak puts.cell puts.others puts.made number (Some what) puts.shows
           puts.is.object puts.is.reached puts.is_key.reached

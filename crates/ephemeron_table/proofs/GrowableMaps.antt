@@ -5,7 +5,7 @@ use Rattle.tagged_word.specs.Cells.{store_head}
 use Rattle.tagged_word.proofs.Readings.{reference_to}
 use Rattle.page_space.specs.Extents.{marks_start}
 use Rattle.heap_model.specs.Types.{Cell}
-use Rattle.heap_table.specs.declared.phase.Phase.TheVariants.{Quiet}
+use Rattle.heap_table.specs.Phases.{Quiet}
 use Rattle.heap_model.specs.Heaps.{HasCell}
 use Rattle.heap_model.specs.Slots.{IsPlace}
 use Rattle.heap_model.proofs.CellOutcomes.{object_is_no_filler}

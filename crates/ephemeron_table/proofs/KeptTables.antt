@@ -1,7 +1,8 @@
 -- How many pairs the tables of weak maps have once words of one map's own cells were written.
-use Rattle.std.proofs.Common.{◌≡◌, ◌+◌, ◌<◌, ◌^◌, List, Contains, Some, slice_get}
+use Rattle.std.proofs.Common.{◌≡◌, ℕ, ◌+◌, ◌<◌, ◌^◌, List, Contains, Some, slice_get}
 use Rattle.tagged_word.specs.declared.layout.Kind.TheVariants as kind
 use Rattle.tagged_word.specs.Cells.{store_slot}
+use Rattle.cell_layout.specs.Cells.{IsRow}
 use Rattle.heap_model.specs.Types.{Cell}
 use Rattle.heap_model.specs.Heaps.{Heap}
 use Rattle.heap_model.specs.Slots.{reference_word}
@@ -22,14 +23,15 @@ of_pairs refills = record {
   kinds = refills.pairs.refills.kinds;
 }
 
-module _ {old new : Heap} {cell : Cell} {others made : List Cell} (refills : RefillsWeak old new cell others made) where
+module _ {old new : Heap} {cell : Cell} {others made : List Cell} {from to : ℕ}
+    (refills : RefillsWeak old new cell others made) (row : IsRow new.space new.words from to made) where
   -- so the map keeps its table's pairs where the word for the table stays
   pub tables_stay : slice_get new.words (cell.at + store_slot) ≡ slice_get old.words (cell.at + store_slot)
-      → ChangesObject old new cell.at (capacity_at old cell.at)
-  tables_stay stays = object_keeps (of_pairs refills) stays
+      → ChangesObject old new from to cell.at (capacity_at old cell.at)
+  tables_stay stays = object_keeps (of_pairs refills) row stays
 
   -- and has as many as a table that was made, where it refers to this
   pub tables_grow : (table : Cell) → Contains made table → table.layout.kind ≡ kind.Table → table.at < 2 ^ 32
       → slice_get new.words (cell.at + store_slot) ≡ Some (reference_word table.at)
-      → ChangesObject old new cell.at table.length
-  tables_grow table among of_kind fits there = object_grows (of_pairs refills) table among of_kind fits there
+      → ChangesObject old new from to cell.at table.length
+  tables_grow table among of_kind fits there = object_grows (of_pairs refills) row table among of_kind fits there

@@ -19,7 +19,7 @@ use Rattle.object_graph.specs.Objects.{entry_value}
 use Rattle.heap_model.specs.Rooms.{Room, IsMapFull, is_wide, room_put, wput_need, wput_need_by}
 use Rattle.write_barrier.specs.declared.room.NoRoom.{NoRoom}
 use Rattle.write_barrier.specs.MutatorState.{Mutator, heap_of, MainShows}
-use Rattle.object_cells.specs.Capacities.{ChangesObject}
+use Rattle.object_cells.specs.Capacities.{ChangesObjectUsing}
 use Rattle.object_cells.specs.HeldValues.{IsValueHeld}
 use Rattle.object_cells.specs.Made.{store_content, content_need, RefusesRoom}
 use Rattle.object_cells.proofs.HeldNeeds.{new_value_held, content_need_is, wide_is}
@@ -43,7 +43,8 @@ use Rattle.ephemeron_table.proofs.MapTouches.{put_remembers}
 use Rattle.ephemeron_table.proofs.NewKeys.{LacksKey, shown, known, no_pair_refers}
 use Rattle.ephemeron_table.proofs.NewKeys.{not_full_for, is_full_for, lacks_where_free}
 use Rattle.ephemeron_table.proofs.PairsByKey.{lacks_pair, pairs_shown}
-use Rattle.ephemeron_table.proofs.PutMaps.{ComesToPlace, makes_box, puts_one, refills_weak, slot_stays, takes_run}
+use Rattle.ephemeron_table.proofs.PutMaps.{ComesToPlace, boxes_row, makes_box, puts_one, refills_weak}
+use Rattle.ephemeron_table.proofs.PutMaps.{slot_stays, takes_run}
 use Rattle.ephemeron_table.proofs.PutPairs.{put_words, pair, pairs_are_now, some}
 use Rattle.ephemeron_table.proofs.PutPlaces.{puts_to_table}
 use Rattle.ephemeron_table.proofs.PutShown.{CountsPut, PutsShown}
@@ -189,11 +190,11 @@ module _ {old : Mutator} {graph : Graph} {map key : ℕ} {weak : WeakObject} {nu
         omega (arith, ap count_filled (pairs_are_now map_known (below ends) (put_words puts)), counted, free.counted)
 
     -- only words of the map have changed, and its table stays
-    changes : ChangesObject (heap_of old) (heap_of new) map (capacity_at (heap_of old) map)
+    changes : ChangesObjectUsing old new (content_need (store_content value)) map (capacity_at (heap_of old) map)
     changes =
-        let heap = heap_of old in
-        subst (λ at. ChangesObject heap (heap_of new) at (capacity_at heap at)) (shown ends.lacks).stands
-        (tables_stay (refills_weak comes_there) (slot_stays comes_there))
+        subst (λ at. ChangesObjectUsing old new (content_need (store_content value)) at (capacity_at (heap_of old) at))
+        (shown ends.lacks).stands
+        (tables_stay (refills_weak comes_there) (boxes_row comes_there) (slot_stays comes_there))
 
     -- the pair is put
     pub free_key_pair : PutsShown old new graph map key weak number value what
@@ -216,6 +217,7 @@ module _ {old : Mutator} {graph : Graph} {map key : ℕ} {weak : WeakObject} {nu
       remembers = put_remembers map_known (some map_known (below ends) (put_words puts)) (below ends) puts
           (makes_box comes_there);
       one = one;
+      need = content_need (store_content value);
       capacity = _;
       changes = changes;
       counted = CountsPut.fresh ends.lacks.fresh filled_more;

@@ -13,7 +13,7 @@ use Rattle.object_graph.specs.Objects.{entry_value}
 use Rattle.write_barrier.specs.MutatorState.{Mutator, heap_of}
 use Rattle.write_barrier.specs.declared.room.NoRoom.{NoRoom}
 use Rattle.object_cells.specs.HeldValues.{IsValueHeld}
-use Rattle.object_cells.specs.Capacities.{ChangesObject}
+use Rattle.object_cells.specs.Capacities.{ChangesObjectUsing}
 use Rattle.object_cells.specs.Made.{RefusesRoom}
 use Rattle.object_cells.proofs.HeldNeeds.{held_is_value, new_value_held}
 use Rattle.object_cells.proofs.FilledRuns.{filled_named, own_row}
@@ -124,11 +124,12 @@ module _ {old : Mutator} {graph : Graph} {map key : ℕ} {weak : WeakObject} {nu
     }
 
     -- the map has as many pairs as the table that was made
-    changes : ChangesObject (heap_of old) (heap_of new) map (grown_table table.capacity)
+    changes : ChangesObjectUsing old new (need grows) map (grown_table table.capacity)
     changes =
-        subst (λ at. ChangesObject (heap_of old) (heap_of new) at (grown_table table.capacity))
+        subst (λ at. ChangesObjectUsing old new (need grows) at (grown_table table.capacity))
         (known growing.lacks).there.stands
-        (tables_grow (refills_weak entry) (table_made entry) (first_in (table_made entry) (boxes_made entry)) refl
+        (tables_grow (refills_weak entry) (own_row (filled grows)).row (table_made entry)
+        (first_in (table_made entry) (boxes_made entry)) refl
         (omega (arith, (run grows).within, marks_fit old.seat.space growing.lacks.sizes, marks_start_is old.seat.space))
         (filled_named (filled grows)))
 
@@ -161,6 +162,7 @@ module _ {old : Mutator} {graph : Graph} {map key : ℕ} {weak : WeakObject} {nu
       takes = takes_run (need grows) (filled grows).beside puts.room (filled grows).young (own_row (filled grows)).row;
       remembers = grown_remembers grows;
       one = puts_one entry (no_pair_refers growing.lacks);
+      need = need grows;
       capacity = grown_table table.capacity;
       changes = changes;
       counted = CountsPut.fresh growing.lacks.fresh (omega (arith, one_more grows, count_is (known growing.lacks)));

@@ -130,6 +130,7 @@ puts_value_pair {old} {new} {table = table} value what has fits held fills =
       takes = replaces.takes;
       remembers = replaces.remembers;
       one = puts_one has replaces;
+      need = by.0;
       capacity = _;
       changes = changes has replaces;
       counted = CountsPut.there has.told.value has.told.is_entry (filled_as_many has replaces);

@@ -18,7 +18,7 @@ use Rattle.write_barrier.specs.MutatorState.{Mutator, heap_of, MainShows}
 use Rattle.write_barrier.specs.Recording.{Remembers}
 use Rattle.write_barrier.specs.Values.{held_of_class}
 use Rattle.write_barrier.specs.ValueLaws.{ShownValuesAreHeld}
-use Rattle.object_cells.specs.Capacities.{ChangesObject}
+use Rattle.object_cells.specs.Capacities.{ChangesObjectUsing}
 use Rattle.object_cells.specs.HeldValues.{IsReachedValue, IsValueHeld}
 use Rattle.object_cells.specs.Uses.{TakesRun}
 use Rattle.object_cells.proofs.CellsRead.{word_stands}
@@ -67,8 +67,8 @@ pub data CountsPut (heap : Heap) (map : ℕ) (entries : List Entry) (number : �
   fresh : entry_value entries number ≡ None → count_filled after ≡ count_at heap map + 1
       → CountsPut heap map entries number after
 
--- The entry of a key was put: the pairs of all other keys are kept, only words of the map changed, and what was
--- recorded follows. What was made stands where the next cell is made.
+-- The entry of a key was put: the pairs of all other keys are kept, only words of the map changed and so many that were
+-- taken, and what was recorded follows. What was made stands where the next cell is made.
 pub record PutsShown (old new : Mutator) (graph : Graph) (map key : ℕ) (weak : WeakObject) (number : ℕ) (value : Held)
     (what : Value) : Type 0 where
   pub shows : MainShows old graph
@@ -88,8 +88,9 @@ pub record PutsShown (old new : Mutator) (graph : Graph) (map key : ℕ) (weak :
   pub takes : TakesRun old new made
   pub remembers : Remembers old new (cell ∷ others) (cell ∷ others) made
   pub one : PutsOne (heap_of old) (heap_of new) refills.pairs number (Some what)
+  pub need : ℕ
   pub capacity : ℕ
-  pub changes : ChangesObject (heap_of old) (heap_of new) map capacity
+  pub changes : ChangesObjectUsing old new need map capacity
   pub counted : CountsPut (heap_of old) map weak.entries number refills.pairs.now
 
 module _ {old new : Mutator} {graph : Graph} {map key : ℕ} {weak : WeakObject} {number : ℕ} {value : Held}

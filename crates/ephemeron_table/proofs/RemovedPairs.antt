@@ -6,7 +6,7 @@ use Rattle.std.proofs.lemmas.Option.{slice_get_within}
 use Rattle.page_space.specs.Sizes.{AreWithin}
 use Rattle.nursery.specs.Young.{Young}
 use Rattle.heap_table.specs.Seats.{heap_words}
-use Rattle.heap_table.specs.declared.phase.Phase.TheVariants.{Quiet}
+use Rattle.heap_table.specs.Phases.{Quiet}
 use Rattle.heap_model.specs.Types.{Cell}
 use Rattle.heap_model.specs.Heaps.{Heap, words_of_cell}
 use Rattle.heap_model.specs.Changes.{CellsChange, IsOwnChange}
@@ -17,7 +17,9 @@ use Rattle.heap_model.specs.Needs.{capacity_at, count_at, word_at}
 use Rattle.write_barrier.specs.MutatorState.{Mutator, heap_of, IsTied}
 use Rattle.write_barrier.proofs.Recording.{remembers_heap}
 use Rattle.object_cells.specs.CellsAt.{IsQuietWhole}
-use Rattle.object_cells.specs.Capacities.{ChangesObject}
+use Rattle.object_cells.specs.Capacities.{ChangesObjectUsing}
+use Rattle.object_cells.specs.Contents.{next_at}
+use Rattle.object_cells.proofs.MadeBoxes.{row_of_none}
 use Rattle.object_cells.specs.Uses.{TakesRun}
 use Rattle.object_cells.proofs.GrantedRests.{left_are_granted}
 use Rattle.object_cells.proofs.NothingUsed.{room_for_none, uses_none}
@@ -139,8 +141,8 @@ removes_pair {old} {new} {map} {place} {table} {pairs} {pair} known before has t
           (removes.young ∙ sym (bumped_none old.young))) law.1 law.2;
       uses = uses_none removes.rest removes.young removes.touches.free;
       paths = removes.paths;
-      changes = subst (λ a. ChangesObject (heap_of old) (heap_of new) a (capacity_at (heap_of old) a)) stands
-          (tables_stay refills (slot_stays known some removes pair is));
+      changes = subst (λ a. ChangesObjectUsing old new 0 a (capacity_at (heap_of old) a)) stands
+          (tables_stay refills (row_of_none (heap_of new) (next_at old)) (slot_stays known some removes pair is));
       stay = λ word not_count no_pair. removes.beside word
           (beside_pairs known has some word (no_pair table.at (refers_there known has some))) not_count;
       cells = same_cells maps;

@@ -9,6 +9,7 @@ use Rattle.nursery.specs.Young.{HasRoom, bumped}
 use Rattle.heap_model.specs.Types.{Value, Cell}
 use Rattle.object_graph.specs.Graphs.{Graph, WeakObject}
 use Rattle.object_graph.proofs.Lists.{slice_get-set_same}
+use Rattle.cell_layout.specs.Cells.{IsRow}
 use Rattle.heap_table.specs.Seats.{heap_words, RestStays}
 use Rattle.heap_model.specs.Slots.{reference_word, RefersToPlace}
 use Rattle.heap_model.specs.Kinds.{Pair}
@@ -17,7 +18,8 @@ use Rattle.heap_model.specs.Needs.{capacity_at, count_at}
 use Rattle.heap_model.proofs.WordsStay.{PlacesStay}
 use Rattle.write_barrier.specs.MutatorState.{Mutator, heap_of}
 use Rattle.write_barrier.specs.Recording.{Remembers}
-use Rattle.object_cells.specs.Capacities.{ChangesObject}
+use Rattle.object_cells.specs.Capacities.{ChangesObjectUsing}
+use Rattle.object_cells.specs.Contents.{next_at}
 use Rattle.object_cells.specs.Uses.{TakesRun}
 use Rattle.ephemeron_table.proofs.KeptTables.{tables_stay}
 use Rattle.weak_pairs.specs.Pairs.{IsFilledAt}
@@ -38,6 +40,7 @@ pub record ReplacesValue (old new : Mutator) {map : ℕ} {table : Table} (known 
   pub made : List Cell
   pub refills : RefillsWeak (heap_of old) (heap_of new) (cell known) others made
   pub takes : TakesRun old new made
+  pub row : IsRow new.seat.space (heap_words new.seat) (next_at old) (next_at old + need) made
   pub remembers : Remembers old new (cell known ∷ others) (cell known ∷ others) made
   pub now : Pair
   pub before_is : refills.pairs.before ≡ pairs_of (heap_words old.seat) table
@@ -110,8 +113,7 @@ module _ {old new : Mutator} {graph : Graph} {map key : ℕ} {weak : WeakObject}
       ∙ sym (count_is (known has))
 
   -- only words of the map have changed, and its table stays
-  pub changes : ChangesObject (heap_of old) (heap_of new) map (capacity_at (heap_of old) map)
+  pub changes : ChangesObjectUsing old new need map (capacity_at (heap_of old) map)
   changes =
-      let heap = heap_of old in
-      subst (λ at. ChangesObject heap (heap_of new) at (capacity_at heap at)) (known has).there.stands
-      (tables_stay replaces.refills replaces.slot_stays)
+      subst (λ at. ChangesObjectUsing old new need at (capacity_at (heap_of old) at)) (known has).there.stands
+      (tables_stay replaces.refills replaces.row replaces.slot_stays)

@@ -38,7 +38,7 @@ use Rattle.ephemeron_table.proofs.KnownTables.{cell_has, sound, pairs_same, of_m
 use Rattle.ephemeron_table.proofs.KnownTables.{other_long, map_beside, map_no_filler, table_no_filler}
 use Rattle.ephemeron_table.proofs.MapTouches.{value_remembers}
 use Rattle.ephemeron_table.proofs.PutMaps.{ComesToPlace, boxes_made, refills_weak, refers_back, slot_stays, takes}
-use Rattle.ephemeron_table.proofs.PutMaps.{makes_box, takes_run}
+use Rattle.ephemeron_table.proofs.PutMaps.{boxes_row, makes_box, takes_run}
 use Rattle.object_cells.proofs.TakenValues as taken
 use Rattle.ephemeron_table.proofs.PutPairs.{PutsPairWords, pair, pairs_are_now, some as in_table}
 use Rattle.ephemeron_table.proofs.ReplacedValues.{ReplacesValue}
@@ -157,6 +157,7 @@ module _ {old new : Mutator} {graph : Graph} {map key : ℕ} {weak : WeakObject}
     made = boxes_made comes;
     refills = refills_weak comes;
     takes = takes_run comes;
+    row = boxes_row comes;
     remembers = value_remembers (known has) (in_table (known has) has.below puts) place (store_content value) has.below
         (λ w. no_raw w holds) touches (makes_box comes);
     now = now;

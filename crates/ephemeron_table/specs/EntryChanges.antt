@@ -12,7 +12,7 @@ use Rattle.heap_model.specs.Needs.{capacity_at, count_at}
 use Rattle.heap_model.specs.Rooms.{Room, room_at, room_put, room_without, wput_need, IsMapFull}
 use Rattle.write_barrier.specs.MutatorState.{Mutator, heap_of, MainShows}
 use Rattle.object_cells.specs.Uses.{UsesMore}
-use Rattle.object_cells.specs.Capacities.{ChangesObject}
+use Rattle.object_cells.specs.Capacities.{ChangesObjectUsing}
 use Rattle.ephemeron_table.specs.declared.stop.TableStop.{TableStop}
 use Rattle.ephemeron_table.specs.declared.stop.TableStop.TheVariants as stop
 
@@ -30,7 +30,7 @@ pub record HasPutEntry (old new : Mutator) (graph : Graph) (map key : ℕ) (weak
   pub few : IsMapFull (map_room old map weak) weak number → ⊥
   pub room : HasRoom old.young (wput_need (map_room old map weak) weak value number)
   pub uses : UsesMore old new (wput_need (map_room old map weak) weak value number)
-  pub changes : ChangesObject (heap_of old) (heap_of new) map
+  pub changes : ChangesObjectUsing old new (wput_need (map_room old map weak) weak value number) map
       (room_put (map_room old map weak) (entry_value weak.entries number)).capacity
   pub counts : count_at (heap_of new) map ≡ (room_put (map_room old map weak) (entry_value weak.entries number)).entries
   pub shows : MainShows new (reweave graph weak (with_entry weak.entries number value))
@@ -57,7 +57,7 @@ TellsEntry main weak number held =
 pub record DeletesEntry (old new : Mutator) (graph : Graph) (map : ℕ) (weak : WeakObject) (number : ℕ) : Type 0 where
   pub none : entry_value weak.entries number ≡ None → new ≡ old
   pub uses : UsesMore old new 0
-  pub changes : ChangesObject (heap_of old) (heap_of new) map (capacity_at (heap_of old) map)
+  pub changes : ChangesObjectUsing old new 0 map (capacity_at (heap_of old) map)
   pub counts : count_at (heap_of new) map
       ≡ (room_without (map_room old map weak) (entry_value weak.entries number)).entries
   pub shows : MainShows new (reweave graph weak (without_entry weak.entries number))

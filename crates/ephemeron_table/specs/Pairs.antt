@@ -15,7 +15,7 @@ use Rattle.heap_table.specs.Seats.{heap_words}
 use Rattle.write_barrier.specs.MutatorState.{Mutator, heap_of, IsTied}
 use Rattle.object_cells.specs.CellsAt.{IsQuietWhole}
 use Rattle.object_cells.specs.Uses.{UsesMore}
-use Rattle.object_cells.specs.Capacities.{ChangesObject}
+use Rattle.object_cells.specs.Capacities.{ChangesObjectUsing}
 use Rattle.weak_pairs.specs.Pairs.{AreWithout, HasPairsAt, IsFilledAt}
 
 -- The word is not one of the pairs of the table that the weak map at the address refers to.
@@ -52,7 +52,7 @@ pub record RemovesPair (old new : Mutator) (map place : ℕ) (before : List Pair
   pub tied : IsTied new
   pub paths : new.paths ≡ old.paths
   pub uses : UsesMore old new 0
-  pub changes : ChangesObject (heap_of old) (heap_of new) map (capacity_at (heap_of old) map)
+  pub changes : ChangesObjectUsing old new 0 map (capacity_at (heap_of old) map)
   pub stay : (word : ℕ) → word ≢ map + count_offset → IsNoPairWord (heap_of old) map word
       → slice_get (heap_words new.seat) word ≡ slice_get (heap_words old.seat) word
   pub cells : HasSameCells (heap_of old) (heap_of new)

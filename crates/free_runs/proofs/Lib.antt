@@ -4,3 +4,4 @@ pub mod Cuts
 pub mod Pages
 pub mod Takes
 pub mod TakenWords
+pub mod PageRows

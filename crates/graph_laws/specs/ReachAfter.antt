@@ -1,5 +1,5 @@
 -- Laws of reach after a command, and after a run: nothing comes back, and what is new is what a command made.
-use Rattle.std.specs.Prelude.{◌≡◌, ◌⊎◌, ℕ, ◌<◌, List, length, All, Contains, Option, Some, None, is_some}
+use Rattle.std.specs.Prelude.{◌≡◌, ◌⊎◌, ℕ, ◌<◌, ◌≤◌, List, length, All, Contains, Option, Some, None, is_some}
 use Rattle.std.specs.Prelude.{IsTrue, slice_get}
 use Rattle.std.specs.FinMap.{get}
 use Rattle.heap_command.specs.Executed.{Executed}
@@ -67,10 +67,16 @@ MadeIsUnshared =
     → IsGraph graph → meaning limits names graph command ≡ done after text → made_for command ≡ Some x
     → IsOnlyBoundTo after x (length graph.objects)
 
--- what is lost stays lost: an object that is there, and can be reached after more lines, could be reached before them
+-- Since the first graph nothing was taken out, and nothing came back: what can be reached in the second graph could be
+-- reached in the first, or was made since.
+pub record StaysLost (before after : Graph) : Type 0 where
+  pub grows : length before.objects ≤ length after.objects
+  pub lost : (number : ℕ) → number < length before.objects → IsTrue (is_marked (reach after) number)
+      → IsTrue (is_marked (reach before) number)
+
+-- what is lost stays lost, whatever lines come
 abbrev pub LostStaysLost : Type 0
 LostStaysLost =
-    (limits : Limits) (names : List (List ℕ)) (lines : List Executed) (before after : Told) (number : ℕ)
+    (limits : Limits) (names : List (List ℕ)) (lines : List Executed) (before after : Told)
     → HasFieldLimit limits → All (λ line. FitsLine line.command) lines → IsGraph before.graph
-    → run_from limits names before lines ≡ Some after → number < length before.graph.objects
-    → IsTrue (is_marked (reach after.graph) number) → IsTrue (is_marked (reach before.graph) number)
+    → run_from limits names before lines ≡ Some after → StaysLost before.graph after.graph

@@ -1,6 +1,6 @@
 -- What follows of a run from what it comes to and what the sink took.
 use Rattle.std.proofs.Common.{arith, ◌≡◌, ◌≢◌, ℕ, Bool, List, [], ◌∷◌, Option, Some}
-use Rattle.std.proofs.Common.{None, Err, refl, sym, ◌∙◌, subst, false, true, lit<, ◌⊎◌, inl, inr}
+use Rattle.std.proofs.Common.{None, Ok, Err, refl, sym, ◌∙◌, subst, false, true, lit<, ◌⊎◌, inl, inr}
 use Rattle.std.specs.Prelude.{Contains}
 use Rattle.object_graph.specs.Run.{Told}
 use Rattle.script_text.specs.Scripts.{ScriptText}
@@ -271,13 +271,33 @@ pub Comes-memory : (checks : Bool) (sizes : Sizes) (bytes : List ℕ) (words : L
 Comes-memory checks sizes bytes words input asks reads =
     Comes.no_memory (begins words checks sizes asks) (inr (checks, sizes, bytes, asks, reads))
 
--- a source that is no script
-pub Comes-refused : (checks : Bool) (sizes : Sizes) (bytes : List ℕ) (stop : BadScript) (line : LastLine)
-    → reading bytes ≡ Err stop
-    → refusal_of stop ≡ Some line → (words : List (List ℕ)) (input : Input) → AsksToRun words checks sizes
-    → ReadsAll input bytes → Comes words input (unopened line)
-Comes-refused checks sizes bytes stop line is refusal words input asks reads =
-    Comes.no_script checks sizes bytes stop line asks reads is refusal
+-- the reading of a source stopped: memory was refused, or it is no script
+pub Comes-stopped : (checks : Bool) (sizes : Sizes) (bytes : List ℕ) (stop : BadScript) (line : LastLine)
+    → (stop ≢ bad.NoMemory → reading bytes ≡ Err stop) → (stop ≢ bad.NoMemory → refusal_of stop ≡ Some line)
+    → (stop ≡ bad.NoMemory → line ≡ last.NoMemory) → (words : List (List ℕ)) (input : Input)
+    → AsksToRun words checks sizes → ReadsAll input bytes → Comes words input (unopened line)
+Comes-stopped checks sizes bytes (bad.BadLine at why) line read refusal memory words input asks reads =
+    let apart : bad.BadLine at why ≢ bad.NoMemory = λ e. cc in
+    Comes.no_script checks sizes bytes (bad.BadLine at why) line asks reads (read apart) (refusal apart)
+Comes-stopped checks sizes bytes (bad.TooManyNames at) line read refusal memory words input asks reads =
+    let apart : bad.TooManyNames at ≢ bad.NoMemory = λ e. cc in
+    Comes.no_script checks sizes bytes (bad.TooManyNames at) line asks reads (read apart) (refusal apart)
+Comes-stopped checks sizes bytes bad.NoMemory line read refusal memory words input asks reads =
+    subst (λ one. Comes words input (unopened one)) (sym (memory refl))
+    (Comes-memory checks sizes bytes words input asks reads)
+
+-- of a source that is a script only want of memory stops the reading
+pub stops_for_memory : (bytes : List ℕ) (script : ScriptText) (stop : BadScript) → reading bytes ≡ Ok script
+    → (stop ≢ bad.NoMemory → reading bytes ≡ Err stop) → stop ≡ bad.NoMemory
+stops_for_memory bytes script (bad.BadLine at why) is read =
+    let apart : bad.BadLine at why ≢ bad.NoMemory = λ e. cc in
+    let not : Ok script ≡ Err (bad.BadLine at why) = sym is ∙ read apart in
+    cc
+stops_for_memory bytes script (bad.TooManyNames at) is read =
+    let apart : bad.TooManyNames at ≢ bad.NoMemory = λ e. cc in
+    let not : Ok script ≡ Err (bad.TooManyNames at) = sym is ∙ read apart in
+    cc
+stops_for_memory bytes script bad.NoMemory is read = refl
 
 -- a run whose source was read, under the words that ask for it
 pub Answers-runs : (words : List (List ℕ)) (input : Input) (bytes : List ℕ) (checks : Bool) (sizes : Sizes)

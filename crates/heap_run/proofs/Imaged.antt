@@ -21,10 +21,9 @@ use Rattle.collector.specs.Born.{Opening}
 use Rattle.collector.specs.Images.{IsImageOf}
 use Rattle.collector.proofs.ImagesShow.{images_show}
 use Rattle.collector.proofs.ImageStores.{images_have_rooms}
-use Rattle.collector.proofs.ImagesTight.{images_are_tight}
 use Rattle.collector.proofs.ImagesStuck.{images_stay_stuck}
 use Rattle.collector.proofs.ImagesExact.{images_are_exact, images_keep_dead}
-use Rattle.collector.specs.ImageLaws.{ImagesShow, ImagesHaveRooms, ImagesAreTight, ImagesStayStuck}
+use Rattle.collector.specs.ImageLaws.{ImagesShow, ImagesHaveRooms, ImagesStayStuck}
 use Rattle.collector.specs.ImageLaws.{ImagesAreExact, ImagesKeepDead}
 use Rattle.heap_script.specs.declared.finished.How.{How}
 use Rattle.heap_script.specs.declared.finished.How.TheVariants as how
@@ -33,12 +32,12 @@ use Rattle.heap_script.specs.Stages.{Stage, Collections, fully_collected}
 use Rattle.heap_script.specs.Reached.{left_after, RanTo}
 use Rattle.heap_script.specs.Spending.{Spends}
 use Rattle.heap_script.specs.Runs.{IsFull, LacksRoomFor, IsFullAt, EndsRun, FailedAt, Writes, Finishes}
+use Rattle.heap_run.proofs.FullHeaps.{HasRuns, lacks_them, runs_lack_them, behind_full}
 
 -- the laws of images, and that words fit nowhere which no run has
 pub record Laws : Type 0 where
   pub show : ImagesShow
   pub rooms : ImagesHaveRooms
-  pub tight : ImagesAreTight
   pub stuck : ImagesStayStuck
   pub exact : ImagesAreExact
   pub dead : ImagesKeepDead
@@ -49,7 +48,6 @@ pub laws_hold : Laws
 laws_hold = record {
   show = images_show;
   rooms = images_have_rooms;
-  tight = images_are_tight;
   stuck = images_stay_stuck;
   exact = images_are_exact;
   dead = images_keep_dead;
@@ -85,16 +83,6 @@ pub record FinishesImaged (checks : Bool) (script : ScriptText) (image : Heap) (
   pub writes : Writes checks script image led.last.rows led.collections finished reached.so_far old new faults_old
       faults_new finished.how
 
--- behind a full collection free runs neither overlap nor touch
-rows_apart : {script : ScriptText} {stage : Stage} {n : ℕ} {collections : Collections} {opened : Option Opening}
-    → Spends script stage n collections opened → collections ≡ fully_collected → AreFree stage.rows
-rows_apart (Spends.none stage unused none rows free reached) is = absurd (cc)
-rows_apart (Spends.one_more old new n before opened line spends next reached after does) is = absurd (cc)
-rows_apart (Spends.once old new n opened spends reached wants after collected) is = absurd (cc)
-rows_apart (Spends.twice old new n opened spends reached lacks after collected) is = collected.apart
-rows_apart (Spends.cleared old new n opened spends reached wants after collected) is = collected.apart
-rows_apart (Spends.finally old new n opened spends reached ends after collected) is = absurd (cc)
-
 -- where no word more is wanted, a whole heap does not lack it
 none_lacks : {heap : Heap} → Whole heap → IsTrue (lacks_room heap 0) → ⊥
 none_lacks {heap} whole lacks =
@@ -110,31 +98,30 @@ nowhere {heap} {rows} (suc n) law whole apart dead runs lacks fits =
 
 -- an image is as full as the heap
 as_full : {heap image : Heap} {rows : List (List Run)} {graph : Graph} (need : ℕ) → Laws → Shows heap graph
-    → AreFree rows → IsImageOf heap image → IsFull heap rows graph need → IsFull image rows graph need
-as_full {heap} {image} {rows} {graph} need laws shows apart is full =
+    → HasRuns heap rows → IsImageOf heap image → IsFull heap rows graph need → IsFull image rows graph need
+as_full {heap} {image} {rows} {graph} need laws shows runs is full =
     let whole = shows.whole in
+    let lacked = lacks_them {heap = heap} need full.full in
+    let shorter = runs_lack_them {heap = heap} {rows = rows} need whole.rows runs full.full in
     let space : heap.space ≡ image.space = sym is.space in
     let survivors : heap.survivors ≡ image.survivors = sym is.survivors in
     let used : heap.used ≡ image.used = sym is.used in
     let lacks : IsTrue (lacks_room image need) =
     subst (λ (s : Space). IsTrue (nat_lt s.sizes.young (image.survivors + image.used + need))) space
     (subst (λ (n : ℕ). IsTrue (nat_lt heap.space.sizes.young (n + image.used + need))) survivors
-    (subst (λ (n : ℕ). IsTrue (nat_lt heap.space.sizes.young (heap.survivors + n + need))) used full.lacks)) in
+    (subst (λ (n : ℕ). IsTrue (nat_lt heap.space.sizes.young (heap.survivors + n + need))) used lacked)) in
     let dead = laws.dead heap image rows whole full.dead is in
     record {
       exact = laws.exact heap image graph full.exact is;
-      full = nowhere need laws.nowhere (laws.show heap image graph shows is).whole apart dead full.runs lacks;
+      full = nowhere need laws.nowhere (laws.show heap image graph shows is).whole runs.apart dead shorter lacks;
       empty = is.used ∙ full.empty;
-      tight = laws.tight heap image whole full.tight is;
-      lacks = lacks;
       dead = dead;
-      runs = full.runs;
       stuck = laws.stuck heap image rows whole full.stuck is;
     }
 
 -- it is full for the command of a line, if the heap is
 full_for : {heap image : Heap} (rows : List (List Run)) (graph : Graph) (need : ℕ) (command : Option Command) → Laws
-    → Shows heap graph → AreFree rows → IsImageOf heap image → LacksRoomFor heap rows graph need command
+    → Shows heap graph → HasRuns heap rows → IsImageOf heap image → LacksRoomFor heap rows graph need command
     → LacksRoomFor image rows graph need command
 full_for rows graph need None laws shows apart is full = full
 full_for {heap = heap} {image = image} rows graph need (Some command) laws shows apart is (needs, full) = (
@@ -144,7 +131,7 @@ full_for {heap = heap} {image = image} rows graph need (Some command) laws shows
 
 -- so at the first of the lines that are left
 full_at : {heap image : Heap} (rows : List (List Run)) (graph : Graph) (line need : ℕ) (lines : List Executed) → Laws
-    → Shows heap graph → AreFree rows → IsImageOf heap image → IsFullAt heap rows graph line need lines
+    → Shows heap graph → HasRuns heap rows → IsImageOf heap image → IsFullAt heap rows graph line need lines
     → IsFullAt image rows graph line need lines
 full_at rows graph line need [] laws shows apart is full = full
 full_at {heap = heap} {image = image} rows graph line need (next ∷ more) laws shows apart is (number-is, full) =
@@ -153,7 +140,7 @@ full_at {heap = heap} {image = image} rows graph line need (next ∷ more) laws 
 -- a run comes to the same on the image
 comes_imaged : (checks : Bool) {script : ScriptText} {heap image : Heap} {n : ℕ} (rows : List (List Run))
     (collections : Collections)
-    (came : How) (line : ℕ) → Laws → IsImageOf heap image → (collections ≡ fully_collected → AreFree rows)
+    (came : How) (line : ℕ) → Laws → IsImageOf heap image → (collections ≡ fully_collected → HasRuns heap rows)
     → (r : RanTo script heap n) → EndsRun checks script heap rows collections n r.so_far came line
     → EndsRun checks script image rows collections n r.so_far came line
 comes_imaged checks rows collections how.End line laws is apart r comes = comes
@@ -176,7 +163,7 @@ comes_imaged checks rows collections (how.Flawed flaw) line laws is apart r come
 failed_imaged : (checks : Bool) {script : ScriptText} {heap image : Heap} {n : ℕ} (rows : List (List Run))
     (collections : Collections)
     (line need : ℕ)
-    → Laws → IsImageOf heap image → (collections ≡ fully_collected → AreFree rows) → (r : RanTo script heap n)
+    → Laws → IsImageOf heap image → (collections ≡ fully_collected → HasRuns heap rows) → (r : RanTo script heap n)
     → FailedAt checks script heap rows collections n r.so_far line need
     → FailedAt checks script image rows collections n r.so_far line need
 failed_imaged checks rows collections line need laws is apart r (inl between) = inl between
@@ -188,7 +175,7 @@ writes_imaged : (checks : Bool) {script : ScriptText} {heap image : Heap} (rows 
     (collections : Collections)
     (came : How) (finished : Finished) (old new : List ℕ → Type 0) (faults_old faults_new : ℕ) → Laws
     → IsImageOf heap image
-    → (collections ≡ fully_collected → AreFree rows) → (r : RanTo script heap finished.executed)
+    → (collections ≡ fully_collected → HasRuns heap rows) → (r : RanTo script heap finished.executed)
     → Writes checks script heap rows collections finished r.so_far old new faults_old faults_new came
     → Writes checks script image rows collections finished r.so_far old new faults_old faults_new came
 writes_imaged checks rows collections how.End finished old new fo fn laws is apart r (comes, appends, steady) =
@@ -226,5 +213,5 @@ finishes_imaged checks {stage = stage} finished old new fo fn laws is f = record
     is = is;
   };
   writes = writes_imaged checks stage.rows f.collections finished.how finished old new fo fn laws is
-      (rows_apart f.spends) f.reached f.writes;
+      (λ full. record { apart = (behind_full f.spends full).apart; free = f.free }) f.reached f.writes;
 }

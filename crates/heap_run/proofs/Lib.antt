@@ -2,5 +2,8 @@ mod Excess
 mod Answering
 mod Concluding
 mod Generating
+mod FullHeaps
+mod FullKept
 mod Imaged
+mod Inspections
 mod SoakLines

@@ -1,7 +1,13 @@
--- What follows from what a run comes to: of which script a heap is kept, what is read then, and at which status.
-use Rattle.std.specs.Prelude.{◌≡◌, ◌⊎◌, ℕ, Bool, List, [], ◌∷◌, Option, Some, None, IfSome, MatchOption, Contains}
+-- What follows from what a run comes to: of which script a heap is kept, what is read then, at which status, and what
+-- a full heap lacks.
+use Rattle.std.specs.Prelude.{◌≡◌, ◌⊎◌, ℕ, Bool, List, [], ◌∷◌, Option, Some, None, IfSome, MatchOption, Contains, IsTrue}
 use Rattle.std.specs.Prelude.{Result, Ok, Err}
-use Rattle.heap_model.specs.Types.{Sizes}
+use Rattle.heap_model.specs.Types.{Sizes, Run}
+use Rattle.heap_model.specs.Heaps.{Heap}
+use Rattle.heap_model.specs.Images.{image_heap}
+use Rattle.heap_model.specs.Needs.{lacks_room}
+use Rattle.heap_model.specs.Reaching.{IsTight}
+use Rattle.free_runs.specs.FreeRuns.{FitsNowhere}
 use Rattle.command_line.specs.declared.invocation.Invocation.{Invocation}
 use Rattle.command_line.specs.declared.invocation.Invocation.TheVariants.{Gen}
 use Rattle.command_line.specs.Invocations.{invocation_of}
@@ -10,6 +16,8 @@ use Rattle.script_text.specs.Scripts.{ScriptText}
 use Rattle.script_text.specs.Grammar.{reading}
 use Rattle.script_gen.specs.Generated.{generated as script_of_seed}
 use Rattle.byte_ends.specs.Source.{IsInput}
+use Rattle.heap_script.specs.declared.finished.How.TheVariants.{HeapFull}
+use Rattle.heap_script.specs.Runs.{EndsRun}
 use Rattle.heap_run.specs.declared.ended.Kept.{Kept}
 use Rattle.heap_run.specs.declared.last_line.LastLine.{LastLine}
 use Rattle.heap_run.specs.Texts.{status_of, sink_fault_status}
@@ -56,6 +64,22 @@ KeptWasRead =
     (words : List (List ℕ)) (input : Input) (answer : Answer) → Comes words input answer → (checks : Bool)
     (sizes : Sizes) → AsksToRun words checks sizes
     → IfSome answer.kept (λ _. IfSome input.before (λ _. input.after ≡ Some []))
+
+-- The heap has no room for so many words in any part: survivors, used words and these are more than the words of the
+-- young generation, each young cell is reached from a variable or a slot of a page, and no free run has so many words.
+pub record HasNoRoom (heap : Heap) (rows : List (List Run)) (need : ℕ) : Type 0 where
+  pub lacks : IsTrue (lacks_room heap need)
+  pub tight : IsTight heap
+  pub runs : FitsNowhere rows need
+
+-- So it is with a heap that is kept of a run that came to a full heap.
+abbrev pub FullHasNoRoom : Type 0
+FullHasNoRoom =
+    (counted : Bool) (sizes : Sizes) (script : ScriptText) (kept : Kept) (line need : ℕ)
+    (keeps : IsKeptHeapOf sizes script kept)
+    → EndsRun counted script (image_heap kept.image) keeps.last.rows keeps.collections kept.executed keeps.reached.so_far
+    (HeapFull need) line
+    → HasNoRoom (image_heap kept.image) keeps.last.rows need
 
 -- the status of an answer: that of its last line, or that of a sink that failed
 abbrev pub IsStatusOf : Answer → ℕ → Type 0

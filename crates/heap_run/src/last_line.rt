@@ -1,10 +1,10 @@
 //! The last line of a run and its status. It is written without taking memory.
-ghost use Rattle.std.specs.Prelude.{◌≡◌, ◌≢◌, ◌+◌, ◌++◌, ◌≤◌, List, length, ℕ};
+ghost use Rattle.std.specs.Prelude.{◌≡◌, ◌≢◌, ◌+◌, ◌++◌, ◌≤◌, List, Some, length, ℕ};
 ghost use Rattle.byte_ends.specs.Faults.{Rose};
 ghost use Rattle.byte_ends.specs.Sink.{Appends, AppendsSome};
 ghost use Rattle.heap_run.specs.Texts.{reason_line, numbered, numbered_line};
 ghost use Rattle.heap_run.specs.Texts.{last_bytes, status_of, sink_fault_status};
-ghost use Rattle.heap_run.specs.Answers.{last_line_of, soak_line_of};
+ghost use Rattle.heap_run.specs.Answers.{refusal_of, last_line_of, soak_line_of};
 ghost use Rattle.byte_ends.specs.Sure.{HasSums};
 
 use arrayvec::ArrayString;
@@ -13,7 +13,7 @@ use heap_check::{Counts, Flaw};
 use heap_command::FaultWord;
 use heap_script::{Finished, How};
 use itoa::Buffer;
-use script_text::Why;
+use script_text::{BadScript, Why};
 
 /// The most bytes of a last line: that of a soak has five numbers, of up to 20 digits each, and 37 bytes besides.
 const LAST_LINE_BYTES: usize = 137;
@@ -81,6 +81,18 @@ impl LastLine {
             How::HeapFull { .. } => LastLine::HeapFull { line },
             How::LineLimit => LastLine::LineLimit { line },
             How::Flawed(flaw) => LastLine::Flawed(flaw),
+        }
+    }
+
+    /// The last line of a source whose reading as a script stopped so.
+    pub(crate) fn of_source(stop: BadScript) -> LastLine
+        ensures refused { stop ≢ BadScript.NoMemory → refusal_of stop ≡ Some result }
+        ensures no_memory { stop ≡ BadScript.NoMemory → result ≡ LastLine.NoMemory }
+    {
+        match stop {
+            BadScript::BadLine { line, why } => LastLine::BadScript { line, why },
+            BadScript::TooManyNames { line } => LastLine::TooManyNames { line },
+            BadScript::NoMemory => LastLine::NoMemory,
         }
     }
 

@@ -10,6 +10,7 @@ mod ended;
 mod generated;
 mod last_line;
 mod laws;
+mod opened;
 mod program;
 mod soaking;
 mod source_bytes;

@@ -1,35 +1,30 @@
 //! The program as one call. Its last line stands in `last_line`, the run of a script in `heap_script`.
-ghost use Rattle.std.specs.Prelude.{◌≡◌, ◌≢◌, ℕ, List, [], map, length, string_bytes};
-ghost use Rattle.std.specs.Prelude.{Bool, None, Ok, IfOk, false};
-ghost use Rattle.object_graph.specs.Graphs.{start};
+ghost use Rattle.std.specs.Prelude.{◌≡◌, ◌≢◌, ℕ, List, map, length, string_bytes};
+ghost use Rattle.std.specs.Prelude.{None, Ok};
 ghost use Rattle.script_text.specs.Grammar.{reading};
 ghost use Rattle.page_space.specs.Sizes.{AreWithin};
-ghost use Rattle.write_barrier.specs.MutatorState.{IsOpened};
-ghost use Rattle.collector.specs.States.{HeapState, HeapShows};
 ghost use Rattle.byte_ends.specs.Faults.{Rose};
 ghost use Rattle.byte_ends.specs.Sink.{Appends, AppendsSome};
-ghost use Rattle.heap_script.specs.Inspecting.{counts_at_end, IsFor};
 ghost use Rattle.heap_script.specs.Runs.{IsCut};
 ghost use Rattle.heap_run.specs.Texts.{last_bytes, status_of, sink_fault_status};
+ghost use Rattle.heap_run.specs.Opening.{is_counted, IsReady};
 ghost use Rattle.heap_run.specs.Answers.{Answers, Runs, AsksToRun, Taken};
 ghost use Rattle.heap_run.specs.Answers.{input_of, last_line_of, unopened};
 
 use crate::ended::{Ended, keep};
 use crate::generated::write_generated;
 use crate::last_line::{LastLine, SINK_FAULT};
+use crate::opened::{Inspects, Opened, Ran};
 use crate::soaking::soak;
 use crate::source_bytes::{ReadStop, read_source};
 use byte_ends::{Sink, Source};
-use collector::Heap;
 use command_line::{Invocation, WordsStop, read_words};
 use crew::Gate;
-use heap_script::{Finished, How, Inspection, Inspector, Output, run_script};
-use heap_table::HeapTable;
-use page_space::{Regions, Sizes};
-use script_text::{BadScript, Script, parse};
+use heap_script::{Finished, How};
+use page_space::Sizes;
+use script_text::{Script, parse};
 use std::alloc::Global;
 use std::thread::Threads;
-use tagged_word::NoMemory;
 
 /// Runs the program. `words` are the words of the command line without the program's name, `source`
 /// is the script, and `sink` takes what it writes and the last line. The heap has the sizes that the
@@ -52,7 +47,20 @@ pub fn run<S: Source, K: Sink, G: Gate, R: Threads + Sync>(
         (input_of (S.left source.old) (S.left source.new) (S.faults source.old) (S.faults source.new))
         (K.HasTaken sink.old) (K.HasTaken sink.new) (K.faults sink.old) (K.faults sink.new) result }
 {
-    run_words(rt, alloc, words, source, sink, gate)
+    match read_words(alloc, words) {
+        Ok(Invocation::Run(sizes)) => {
+            run_read(rt, alloc, Inspects::Nothing, sizes, source, sink, gate)
+        }
+        Ok(Invocation::Check(sizes)) => {
+            run_read(rt, alloc, Inspects::Checks, sizes, source, sink, gate)
+        }
+        Ok(Invocation::Gen { seed, forms }) => write_generated(alloc, seed, forms, sink),
+        Ok(Invocation::Soak { sizes, seed, forms }) => soak(
+            rt, alloc, sizes, seed, forms, sink, gate,
+        ),
+        Err(WordsStop::BadWords) => give_up(sink, LastLine::BadWords),
+        Err(WordsStop::NoMemory) => give_up(sink, LastLine::NoMemory),
+    }
 }
 
 /// What a run ends with where memory was refused before there were words to give it.
@@ -64,48 +72,23 @@ pub fn run_without_words<K: Sink>(sink: &mut K) -> Ended
     give_up(sink, LastLine::NoMemory)
 }
 
-/// Reads the words, and does what they ask for.
-fn run_words<S: Source, K: Sink, G: Gate, R: Threads + Sync>(
-    rt: &R,
-    alloc: Global,
-    words: &[String],
-    source: &mut S,
-    sink: &mut K,
-    gate: &G,
-) -> Ended
-    ensures { Answers (map string_bytes words.now)
-        (input_of (S.left source.old) (S.left source.new) (S.faults source.old) (S.faults source.new))
-        (K.HasTaken sink.old) (K.HasTaken sink.new) (K.faults sink.old) (K.faults sink.new) result }
-{
-    match read_words(alloc, words) {
-        Ok(Invocation::Run(sizes)) => run_read(rt, alloc, false, sizes, source, sink, gate),
-        Ok(Invocation::Check(sizes)) => run_read(rt, alloc, true, sizes, source, sink, gate),
-        Ok(Invocation::Gen { seed, forms }) => write_generated(alloc, seed, forms, sink),
-        Ok(Invocation::Soak { sizes, seed, forms }) => soak(
-            rt, alloc, sizes, seed, forms, sink, gate,
-        ),
-        Err(WordsStop::BadWords) => give_up(sink, LastLine::BadWords),
-        Err(WordsStop::NoMemory) => give_up(sink, LastLine::NoMemory),
-    }
-}
-
-/// Reads a source, and runs it as a script, which is checked or not.
+/// Reads a source, and runs it as a script on a heap that is inspected so.
 fn run_read<S: Source, K: Sink, G: Gate, R: Threads + Sync>(
     rt: &R,
     alloc: Global,
-    checks: bool,
+    inspects: Inspects,
     sizes: Sizes,
     source: &mut S,
     sink: &mut K,
     gate: &G,
 ) -> Ended
     requires { AreWithin sizes 0 }
-    ensures { (words : List (List ℕ)) → AsksToRun words checks sizes → Answers words
+    ensures { (words : List (List ℕ)) → AsksToRun words (is_counted inspects) sizes → Answers words
         (input_of (S.left source.old) (S.left source.new) (S.faults source.old) (S.faults source.new))
         (K.HasTaken sink.old) (K.HasTaken sink.new) (K.faults sink.old) (K.faults sink.new) result }
 {
     match read_source(alloc, source) {
-        Ok(bytes) => run_source(rt, alloc, checks, sizes, &bytes, sink, gate),
+        Ok(bytes) => run_source(rt, alloc, inspects, sizes, &bytes, sink, gate),
         Err(ReadStop::Fault) => give_up(sink, LastLine::ReadFault),
         Err(ReadStop::TooLong) => give_up(sink, LastLine::SourceTooLong),
         Err(ReadStop::NoMemory) => give_up(sink, LastLine::NoMemory),
@@ -126,83 +109,41 @@ pub(crate) fn give_up<K: Sink>(sink: &mut K, last: LastLine) -> Ended
 fn run_source<K: Sink, G: Gate, R: Threads + Sync>(
     rt: &R,
     alloc: Global,
-    checks: bool,
+    inspects: Inspects,
     sizes: Sizes,
     source: &[u8],
     sink: &mut K,
     gate: &G,
 ) -> Ended
     requires { AreWithin sizes 0 }
-    ensures { Runs checks sizes source.now (K.HasTaken sink.old) (K.HasTaken sink.new)
+    ensures { Runs (is_counted inspects) sizes source.now (K.HasTaken sink.old) (K.HasTaken sink.new)
         (K.faults sink.old) (K.faults sink.new) result }
 {
     let script = match parse(alloc, source) {
         Ok(script) => script,
-        Err(BadScript::BadLine { line, why }) => {
-            return give_up(sink, LastLine::BadScript { line, why });
-        }
-        Err(BadScript::TooManyNames { line }) => {
-            return give_up(sink, LastLine::TooManyNames { line });
-        }
-        Err(BadScript::NoMemory) => return give_up(sink, LastLine::NoMemory),
+        Err(stop) => return give_up(sink, LastLine::of_source(stop)),
     };
-    let regions = Regions::new(sizes, script.variables());
-    let Ok(heap) = open_heap(alloc, regions) else {
-        return give_up(sink, LastLine::NoMemory);
-    };
-    let Ok(inspection) = open_inspection(alloc, checks, regions) else {
-        return give_up(sink, LastLine::NoMemory);
-    };
-    let Ok(out) = Output::new(alloc) else {
-        return give_up(sink, LastLine::NoMemory);
-    };
-    run_on_heap(rt, heap, inspection, out, &script, sink, gate)
-}
-
-/// A heap over these regions, in which there is no object and no variable is bound.
-pub(crate) fn open_heap(alloc: Global, regions: Regions) -> Result<Heap, NoMemory>
-    ensures opened { IfOk result (λ heap. HeapShows heap start × IsOpened heap.main) }
-    ensures regions { IfOk result (λ heap. heap.main.seat.space ≡ regions) }
-    ensures closed { IfOk result (λ heap. heap.rest.in_cycle ≡ false) }
-{
-    let seat = HeapTable::open(alloc, regions)?;
-    Heap::open_new(alloc, seat, regions)
-}
-
-/// The inspection of a run on a heap over these regions: by a checker, where the run is to be checked.
-fn open_inspection(alloc: Global, checks: bool, regions: Regions) -> Result<Inspection, NoMemory>
-    ensures { IfOk result (λ inspection. (counts_at_end inspection ≡ checks)
-        × ((heap : HeapState) → heap.main.seat.space ≡ regions → IsFor heap inspection)) }
-{
-    if !checks {
-        return Ok(Inspection::Nothing);
+    match Opened::new(alloc, inspects, sizes, script.variables()) {
+        Ok(opened) => run_opened(rt, opened, &script, sink, gate),
+        Err(_) => give_up(sink, LastLine::NoMemory),
     }
-    Ok(Inspection::Checks(Inspector::new(alloc, regions)?))
 }
 
-/// Runs a script on a heap that was just opened, which is inspected so, and keeps an image of the heap.
-fn run_on_heap<K: Sink, G: Gate, R: Threads + Sync>(
+/// Runs a script for which all is opened, and keeps the heap as it is then.
+fn run_opened<K: Sink, G: Gate, R: Threads + Sync>(
     rt: &R,
-    mut heap: Heap,
-    mut inspection: Inspection,
-    mut out: Output,
+    opened: Opened,
     script: &Script<'_>,
     sink: &mut K,
     gate: &G,
 ) -> Ended
-    requires shown { HeapShows heap start }
-    requires opened { IsOpened heap.main }
-    requires closed { heap.rest.in_cycle ≡ false }
-    requires variables { heap.main.seat.space.variables ≡ length script.now.variables }
-    requires for_heap { IsFor heap inspection }
-    requires empty { out ≡ [] }
-    ensures { (bytes : List ℕ) → reading bytes ≡ Ok script.now →
-        Runs (counts_at_end inspection) heap.main.seat.space.sizes bytes (K.HasTaken sink.old) (K.HasTaken sink.new)
+    requires { (inspects : Inspects) × (sizes : Sizes) × IsReady inspects sizes (length script.now.variables) opened }
+    ensures { (inspects : Inspects) (sizes : Sizes) (bytes : List ℕ) → reading bytes ≡ Ok script.now
+        → IsReady inspects sizes (length script.now.variables) opened
+        → Runs (is_counted inspects) sizes bytes (K.HasTaken sink.old) (K.HasTaken sink.new)
         (K.faults sink.old) (K.faults sink.new) result }
 {
-    // Tells that the lines name what the script has.
-    let _lines = script.lines();
-    let finished = run_script(rt, &mut heap, script, &mut out, sink, &mut inspection, gate);
+    let Ran { finished, heap } = opened.run(rt, script, sink, gate);
     let status = conclude(&finished, sink);
     Ended {
         status,

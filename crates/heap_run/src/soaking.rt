@@ -1,24 +1,22 @@
 //! Soaking: a generated script is run for its sums. Nothing is read.
-ghost use Rattle.std.specs.Prelude.{◌≡◌, ◌≤◌, ℕ, Ok, [], length, false};
-ghost use Rattle.object_graph.specs.Graphs.{start};
+ghost use Rattle.std.specs.Prelude.{◌≡◌, ◌≤◌, ℕ, Ok, length};
 ghost use Rattle.script_text.specs.Grammar.{reading};
 ghost use Rattle.script_gen.specs.Generated.{generated};
 ghost use Rattle.page_space.specs.Sizes.{AreWithin};
-ghost use Rattle.write_barrier.specs.MutatorState.{IsOpened};
-ghost use Rattle.collector.specs.States.{HeapShows};
+ghost use Rattle.heap_run.specs.declared.opened.Inspects.TheVariants.{Counts};
+ghost use Rattle.heap_run.specs.Opening.{IsReady};
 ghost use Rattle.heap_run.specs.Answers.{Soaks};
 
 use crate::ended::{Ended, keep};
 use crate::last_line::LastLine;
-use crate::program::{give_up, open_heap};
+use crate::opened::{Inspects, Opened, Ran};
+use crate::program::give_up;
 use byte_ends::{Sink, Tally};
-use collector::Heap;
 use crew::Gate;
-use heap_script::{Inspection, Output, run_script};
-use page_space::{Regions, Sizes};
+use page_space::Sizes;
 use script_gen::{FORMS_MOST, generate};
 use script_laws::generated_scripts_are_read;
-use script_text::{BadScript, Script, parse};
+use script_text::{Script, parse};
 use std::alloc::Global;
 use std::thread::Threads;
 
@@ -45,48 +43,30 @@ pub(crate) fn soak<K: Sink, G: Gate, R: Threads + Sync>(
     generated_scripts_are_read();
     let script = match parse(alloc, &source) {
         Ok(script) => script,
-        Err(BadScript::NoMemory) => return give_up(sink, LastLine::NoMemory),
-        Err(_) => unreachable!(),
+        Err(stop) => return give_up(sink, LastLine::of_source(stop)),
     };
-    let regions = Regions::new(sizes, script.variables());
-    let Ok(heap) = open_heap(alloc, regions) else {
-        return give_up(sink, LastLine::NoMemory);
-    };
-    let Ok(out) = Output::new(alloc) else {
-        return give_up(sink, LastLine::NoMemory);
-    };
-    soak_on_heap(rt, heap, out, &script, sink, gate)
+    match Opened::new(alloc, Inspects::Counts, sizes, script.variables()) {
+        Ok(opened) => soak_opened(rt, opened, &script, sink, gate),
+        Err(_) => give_up(sink, LastLine::NoMemory),
+    }
 }
 
-/// Runs a script on a heap that was just opened, writes the last line of that as a soak, and keeps an image of the heap.
-fn soak_on_heap<K: Sink, G: Gate, R: Threads + Sync>(
+/// Runs a script for which all is opened, writes the last line of that as a soak, and keeps the heap as it is then.
+fn soak_opened<K: Sink, G: Gate, R: Threads + Sync>(
     rt: &R,
-    mut heap: Heap,
-    mut out: Output,
+    opened: Opened,
     script: &Script<'_>,
     sink: &mut K,
     gate: &G,
 ) -> Ended
-    requires shown { HeapShows heap start }
-    requires opened { IsOpened heap.main }
-    requires closed { heap.rest.in_cycle ≡ false }
-    requires variables { heap.main.seat.space.variables ≡ length script.now.variables }
-    requires empty { out ≡ [] }
-    ensures { (seed : ℕ) (forms : ℕ) → reading (generated seed forms) ≡ Ok script.now →
-        Soaks heap.main.seat.space.sizes seed forms (K.HasTaken sink.old) (K.HasTaken sink.new)
+    requires { (sizes : Sizes) × IsReady Counts sizes (length script.now.variables) opened }
+    ensures { (sizes : Sizes) (seed : ℕ) (forms : ℕ) → reading (generated seed forms) ≡ Ok script.now
+        → IsReady Counts sizes (length script.now.variables) opened
+        → Soaks sizes seed forms (K.HasTaken sink.old) (K.HasTaken sink.new)
         (K.faults sink.old) (K.faults sink.new) result }
 {
     let mut tally = Tally::new();
-    let mut inspection = Inspection::Counts;
-    let finished = run_script(
-        rt,
-        &mut heap,
-        script,
-        &mut out,
-        &mut tally,
-        &mut inspection,
-        gate,
-    );
+    let Ran { finished, heap } = opened.run(rt, script, &mut tally, gate);
     let status = LastLine::of_soak(&finished, &tally).conclude(sink);
     Ended {
         status,

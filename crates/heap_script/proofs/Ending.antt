@@ -1,5 +1,5 @@
 -- How a run that goes no further has ended.
-use Rattle.std.proofs.Common.{◌≡◌, ℕ, ◌<◌, List, [], ◌∷◌, Option, inl, inr}
+use Rattle.std.proofs.Common.{◌≡◌, ℕ, ◌<◌, Bool, List, [], ◌∷◌, Option, inl, inr}
 use Rattle.std.proofs.Common.{Some, None, Err, false, refl, sym, ap, subst, ◌∙◌}
 use Rattle.std.specs.Prelude.{slice_get}
 use Rattle.heap_model.specs.Types.{Command, FaultWord}
@@ -18,7 +18,7 @@ use Rattle.object_graph.specs.Limits.{ideal_limits}
 use Rattle.heap_model.specs.Heaps.{Heap}
 use Rattle.write_barrier.specs.MutatorState.{Mutator, heap_of}
 use Rattle.collector.specs.Collected.{CollectsAll}
-use Rattle.collector.specs.States.{HeapState, with_cycle}
+use Rattle.collector.specs.States.{HeapState, with_cycle, with_collected}
 use Rattle.collector.proofs.Keeping.{same_heap}
 use Rattle.heap_script.specs.declared.finished.How.{How}
 use Rattle.heap_script.specs.declared.finished.How.TheVariants as how
@@ -29,11 +29,11 @@ use Rattle.heap_script.specs.Reached.{left_after, RanTo, EndsAs}
 use Rattle.heap_script.specs.Runs.{EndsRun, FaultsBehind, IsFull, IsFullAt}
 use Rattle.heap_script.specs.Progress.{how_of, CarriesLine, Pauses}
 use Rattle.heap_script.proofs.Asking.{rest_stays}
-use Rattle.heap_script.proofs.Lacking.{full_for}
 use Rattle.heap_script.proofs.Retrying.{fully_collects}
 use Rattle.heap_script.specs.Between.{Running}
 use Rattle.heap_script.proofs.GoingOn.{ending-within, ending-below, goes-on}
 use Rattle.heap_script.proofs.Collected.{wants, heap_with, Running-fully}
+use Rattle.heap_script.proofs.Running.{Running-noted}
 
 -- at the limit, it ends at whatever line is next
 ending-limit : (names : List (List ℕ)) (graph : Graph) (next : Executed) (more : List Executed)
@@ -96,10 +96,7 @@ EndsRun-full script old main at' n number ts' command need r collects below goes
       exact = leaves.exact;
       full = place.nowhere;
       empty = leaves.emptied;
-      tight = leaves.tight;
-      lacks = full_for main need collects.shows.tied collects.ungranted place.out.lacks;
       dead = leaves.dead;
-      runs = place.out.runs;
       stuck = leaves.stuck;
     } in
     record {
@@ -115,6 +112,17 @@ pub record Stopped (script : ScriptText) (heap : HeapState) (objects : ℕ) (wai
   pub collections : Collections
   pub running : Running script heap objects waiting old new at ts n collections
   pub comes : EndsRun false script (heap_of heap.main) heap.main.free collections n running.reached.so_far came line
+
+-- so it does, whether a full collection is noted or not
+Stopped-noted : {script : ScriptText} {heap : HeapState} {objects : ℕ} {waiting : List ℕ}
+    {old new : List ℕ → Type 0} {at : ℕ} {ts : List ℕ} {n : ℕ} {came : How} {line : ℕ} (collected : Bool)
+    → Stopped script heap objects waiting old new at ts n came line
+    → Stopped script (with_collected heap collected) objects waiting old new at ts n came line
+Stopped-noted collected s = record {
+  collections = s.collections;
+  running = Running-noted collected s.running;
+  comes = s.comes;
+}
 
 -- it halts there
 pub Pauses-stopped : {script : ScriptText} {heap : HeapState} {objects : ℕ} {waiting : List ℕ}
@@ -219,6 +227,7 @@ Stopped-line script heap after objects waiting old new at at' ts ts' n number (S
     absurd (cc)
 Stopped-line script heap after objects waiting old new at at' ts ts' n number (Some command) text stop r below goes
     rest (CarriesCommand.apart apart stops) =
+    let kept = with_collected (heap_with heap after.main) after.collected in
     subst (λ one. Stopped script one objects waiting old new at ts n (how_of stop) number)
-    (same_heap after (heap_with heap after.main) refl (sym (rest ∙ rest_stays heap.rest command apart)))
-    (Stopped-command number command after.main r below goes stop stops)
+    (same_heap after kept refl (sym (rest ∙ rest_stays heap.rest command apart)) refl)
+    (Stopped-noted after.collected (Stopped-command number command after.main r below goes stop stops))

@@ -1,5 +1,5 @@
 -- A command that was executed, on what a heap lends of itself: what it did, by what is told of it.
-use Rattle.std.proofs.Common.{◌≡◌, ◌∙◌, ℕ, ◌+◌, Bool, true, false, List, [], length, Option, Some, None, Result, Ok, Err}
+use Rattle.std.proofs.Common.{◌≡◌, ◌∙◌, ℕ, Bool, true, false, List, [], length, Option, Some, None, Result, Ok, Err}
 use Rattle.std.proofs.Common.{is_ok, unwrap_or, refl, sym, subst, arith}
 use Rattle.std.specs.Prelude.{IfSome, IsNone}
 use Rattle.heap_model.specs.Types.{Command}
@@ -17,7 +17,7 @@ use Rattle.heap_script.proofs.Trying.{putting, shows_lent, tried, tried_put}
 
 -- a heap with another mutator's side
 abbrev pub with_main : Mutator → HeapState → HeapState
-with_main main heap = record { main = main; rest = heap.rest }
+with_main main heap = record heap { main = main }
 
 -- a command that makes no object leaves their number as it was
 none_made : (objects : ℕ) (command : Command) (came : Result (Unit {0}) Stop) → objects_made command ≡ 0
@@ -42,6 +42,7 @@ module _ {heap : HeapState} {lent new : Mutator} {objects : ℕ} {command : Comm
     tries = λ names graph shown made.
         let shows = shows_lent is shown in tried_put is apart (carries graph names shows) (asks graph shows);
     rest = refl;
+    noted = refl;
     counted = none_made objects command came none;
   }
 
@@ -55,6 +56,7 @@ module _ {heap : HeapState} {lent new : Mutator} {objects : ℕ} {command : Comm
       tries = λ names graph shown made.
           tried {heap = heap} is apart other shown (carries graph names (shows_lent is shown));
       rest = refl;
+      noted = refl;
       counted = none_made objects command came none;
     }
 
@@ -67,6 +69,7 @@ module _ {heap : HeapState} {lent new : Mutator} {objects : ℕ} {command : Comm
       tries = λ names graph shown made.
           tried {heap = heap} is apart other shown (carries graph names (shows_lent is shown) made);
       rest = refl;
+      noted = refl;
       counted = counted ∙ one_made objects command came one;
     }
 
@@ -98,7 +101,7 @@ pub executed_ill : (old new : HeapState) (before after : ℕ) (command : Command
 executed_ill old new before after command (Some said) (Ok done, is, e) untouched uncounted ill shown = absurd (cc)
 executed_ill old new before after command (Some said) (Err stop, is, e) untouched uncounted ill (graph, shown, made) = (
   same_heap old new (same_stopped [] old.main new.main graph command [] stop (e.tries [] graph shown made).carries)
-      e.rest,
+      e.rest e.noted,
   e.counted,
 )
 executed_ill old new before after command None e untouched uncounted ill shown = (untouched refl, uncounted refl)

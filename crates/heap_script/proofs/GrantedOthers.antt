@@ -1,30 +1,30 @@
--- A command that finds words of a free run granted changes no other words than it would else, but for words of free
--- runs.
-use Rattle.std.proofs.Common.{◌≡◌, ℕ, ◌+◌, ◌<◌, ◌≤◌, ◌⊎◌, inl, inr, List, IsTrue, slice_get, refl, sym, ◌∙◌}
-use Rattle.std.proofs.Common.{ap, subst, arith}
+-- A command that finds words of a free run granted changes no other words than it would else, but for the head of the
+-- free cell that is left of the run.
+use Rattle.std.proofs.Common.{◌≡◌, ℕ, ◌+◌, ◌<◌, inl, inr, Bool, false, List, IsTrue, slice_get, ◌==◌, sym, ◌∙◌}
+use Rattle.std.proofs.Common.{refl, ap, subst, arith, if◌then◌else◌}
 use Rattle.std.proofs.lemmas.Bool.{cases_lt}
-use Rattle.tagged_word.specs.Cells.{is_free_kind, is_object_kind}
+use Rattle.std.proofs.lemmas.Bool.Decides.{nat_tests}
+use Rattle.tagged_word.specs.Cells.{is_free_kind, is_object_kind, length_offset}
 use Rattle.page_space.specs.Extents.{Space, eden_start, roots_start}
-use Rattle.cell_layout.proofs.Rows.{cell_within}
 use Rattle.heap_model.specs.Types.{Cell, Command, Run}
 use Rattle.object_graph.specs.Graphs.{Graph}
-use Rattle.nursery.specs.Young.{Young}
-use Rattle.free_runs.specs.Laws.{IsFreeWord}
+use Rattle.nursery.specs.Young.{Young, next_of}
 use Rattle.heap_model.specs.Heaps.{Heap, HasCell, words_of_cell}
 use Rattle.heap_model.specs.Slots.{IsPlace}
 use Rattle.heap_model.specs.Wholeness.{HasSlotAt, NamesFrom}
-use Rattle.heap_model.specs.Changes.{IsFillerAt, IsNewlyUsed}
-use Rattle.heap_model.proofs.CellsApart.{one_at, first_of_cell}
+use Rattle.heap_model.proofs.CellsApart.{one_at}
 use Rattle.heap_model.proofs.StaysCollectable.{object_not_free, owned_not_free}
 use Rattle.write_barrier.specs.MutatorState.{Mutator, heap_of, MainShows}
+use Rattle.object_cells.specs.Contents.{next_at}
 use Rattle.object_cells.specs.OwnWords.{IsOwnWord}
 use Rattle.object_cells.proofs.TouchedOffsets.{free_has_no_slots}
 use Rattle.scavenger.specs.Granting.{Grants}
-use Rattle.scavenger.proofs.PagesRuns.{whole, whole_is, word_of_run}
-use Rattle.scavenger.proofs.GrantedWords.{Granting, now, beside_stays, after, after_row}
-use Rattle.scavenger.proofs.GrantedCells.{granted, cell_from}
+use Rattle.scavenger.proofs.PagesRuns.{whole, taken_at, taken_words}
+use Rattle.scavenger.proofs.GrantedWords.{Granting, now, beside_stays, rest_stays}
+use Rattle.scavenger.proofs.GrantedCells.{granted}
 use Rattle.scavenger.proofs.Granted.{may_grant, grants_keep_stores}
 use Rattle.mutator.specs.Changing.{IsChangedWord, KeepsOtherWords}
+use Rattle.heap_script.specs.Stages.{IsCutWord}
 
 module _ {old found : Mutator} {graph : Graph} {n : ℕ} (shows : MainShows old graph) (grants : Grants old found n) where
   -- the run of which words are granted
@@ -45,57 +45,34 @@ module _ {old found : Mutator} {graph : Graph} {n : ℕ} (shows : MainShows old 
     words = grants.words i;
   }
 
-  -- the words of the run are free before
-  run_word : (at : ℕ) → one.at ≤ at → at < one.at + one.words → IsFreeWord old.free at
-  run_word at from below =
-      word_of_run old.free one at grants.own (whole_is grants.takes) (record { from = from; below = below })
-
-  -- so a word that is not free is beside the run
-  beside_run : (at : ℕ) → (IsFreeWord old.free at → ⊥) → (at < one.at) ⊎ (one.at + one.words ≤ at)
-  beside_run at not_free = elim (cases_lt at one.at) [
-    | inl before ↦ inl before
+  -- a word that is not cut stays
+  uncut_stays : (at : ℕ) → (IsCutWord one n at → ⊥)
+      → slice_get (now granting) at ≡ slice_get (heap_of old).words at
+  uncut_stays at not_cut = elim (cases_lt at one.at) [
+    | inl before ↦ beside_stays granting at (inl before)
     | inr from ↦ elim (cases_lt at (one.at + one.words)) [
-      | inl below ↦ absurd (not_free (run_word at from below))
-      | inr behind ↦ inr behind
+      | inl below ↦ elim (cases_lt (one.at + n + length_offset) at) [
+        | inl behind ↦ rest_stays granting at behind
+        | inr head ↦ absurd (not_cut (record { of_run = record { from = from; below = below }; head = head }))
+      ]
+      | inr past ↦ beside_stays granting at (inr past)
     ]
   ]
 
-  -- and stays
-  word_stays : (at : ℕ) → (IsFreeWord old.free at → ⊥)
+  word_stays : (at : ℕ) → (IsCutWord one n at → ⊥)
       → slice_get (heap_of found).words at ≡ slice_get (heap_of old).words at
-  word_stays at not_free =
-      ap (λ (heap : Heap). slice_get heap.words at) is_granted ∙ beside_stays granting at (beside_run at not_free)
+  word_stays at not_cut =
+      ap (λ (heap : Heap). slice_get heap.words at) is_granted ∙ uncut_stays at not_cut
 
-  -- a filler at a word that is not free stood there
-  filler_stood : (at : ℕ) → IsFillerAt (heap_of found) at → (IsFreeWord old.free at → ⊥) → IsFillerAt (heap_of old) at
-  filler_stood at filler not_free =
-      let has = subst (λ heap. HasCell heap filler.cell filler.words) is_granted filler.has in
-      elim (cell_from granting has) [
-        | inl stood ↦ record {
-          cell = filler.cell;
-          words = filler.words;
-          has = stood.0;
-          stands = filler.stands;
-          filler = filler.filler;
-        }
-        | inr came ↦
-            let within = cell_within (heap_of old).space (now granting) one.at (one.at + one.words) (after granting)
-            filler.cell (after_row granting) came in
-            let some = first_of_cell has in
-            absurd (not_free (run_word at (omega (arith, within.0, filler.stands))
-            (omega (arith, within.1, filler.stands, some.below))))
-      ]
-
-  -- a word that is newly used then, and is not free before, is newly used
-  newly_used : {new : Heap} (at : ℕ) → IsNewlyUsed (heap_of found) new at → (IsFreeWord old.free at → ⊥)
-      → IsNewlyUsed (heap_of old) new at
-  newly_used at (IsNewlyUsed.of_eden above below) not_free =
-      let eden = ap (λ (space : Space). eden_start space) grants.beside.space in
-      let used = ap (λ (young : Young). young.used) grants.young in
-      IsNewlyUsed.of_eden (omega (arith, above, eden, used)) (omega (arith, below, eden))
-  newly_used at (IsNewlyUsed.of_page filler below) not_free =
-      let eden = ap (λ (space : Space). eden_start space) grants.beside.space in
-      IsNewlyUsed.of_page (filler_stood at filler not_free) (omega (arith, below, eden))
+  -- the next cell is made where the run begins
+  next_is : next_at found ≡ one.at
+  next_is =
+      let run : Run = grants.run in
+      let words : run.words ≡ n = taken_words grants.takes in
+      let some : (run.words == 0) ≡ false = grind (arith, nat_tests, words, grants.some) in
+      ap next_of grants.young
+      ∙ ap (λ (b : Bool). if b then eden_start old.young.space + old.young.used else run.at) some
+      ∙ taken_at grants.takes
 
   -- a cell that is not free stood
   cell_stood : {cell : Cell} {words : List ℕ} → HasCell (heap_of found) cell words
@@ -191,12 +168,19 @@ module _ {old found : Mutator} {graph : Graph} {n : ℕ} (shows : MainShows old 
   }
 
   -- so the grant and the command together change no other words
-  pub granted_keeps : {new : Heap} {command : Command} → KeepsOtherWords (heap_of found) new graph command
+  pub granted_keeps : {command : Command} (new : Heap) (many : ℕ) → n ≡ many
+      → KeepsOtherWords (heap_of found) new (next_at found) (next_at found + many) graph command
       → (word : ℕ) → word < roots_start (heap_of old).space
-      → (IsChangedWord (heap_of old) graph command word → ⊥) → (IsNewlyUsed (heap_of old) new word → ⊥)
-      → (IsFreeWord old.free word → ⊥) → slice_get new.words word ≡ slice_get (heap_of old).words word
-  granted_keeps keeps word before not_changed not_new not_free =
+      → (IsChangedWord (heap_of old) graph command word → ⊥) → (IsCutWord one many word → ⊥)
+      → slice_get new.words word ≡ slice_get (heap_of old).words word
+  granted_keeps new many same keeps word before not_changed not_cut =
       let roots = ap (λ (space : Space). roots_start space) grants.beside.space in
       keeps word (omega (arith, before, roots)) (λ changed. not_changed (changed_before changed))
-      (λ newly. not_new (newly_used word newly not_free))
-      ∙ word_stays word not_free
+      (λ from below. not_cut (record {
+        of_run = record {
+          from = omega (arith, from, next_is);
+          below = omega (arith, below, next_is, same, grants.takes.takes.enough);
+        };
+        head = omega (arith, below, next_is);
+      }))
+      ∙ word_stays word (λ cut. not_cut (subst (λ count. IsCutWord one count word) same cut))

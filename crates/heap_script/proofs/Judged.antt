@@ -1,5 +1,7 @@
 -- What a check of a whole heap answers: no flaw, and the counts of what can be reached, if the heap keeps nothing else.
-use Rattle.std.proofs.Common.{◌∙◌, Result, Ok, Err, OnErr, IfOk}
+-- So a run that an inspector judges comes to no flaw.
+use Rattle.std.proofs.Common.{◌≡◌, ◌∙◌, ℕ, Bool, true, false, List, Option, Some, None, Result, Ok, Err, OnErr, IfOk}
+use Rattle.std.proofs.Common.{refl, sym, subst}
 use Rattle.object_graph.specs.Graphs.{Graph}
 use Rattle.object_graph.specs.Invariants.{IsGraph}
 use Rattle.page_space.specs.Sizes.{AreWithin}
@@ -11,7 +13,17 @@ use Rattle.heap_check.specs.declared.counts.Counts.{Counts}
 use Rattle.heap_check.specs.declared.flaw.Flaw.{Flaw}
 use Rattle.heap_check.specs.FirstFlaws.{WholeHasNoFlaw}
 use Rattle.heap_check.specs.Judging.{Judges}
-use Rattle.heap_script.specs.Runs.{HasCounts}
+use Rattle.script_text.specs.Scripts.{ScriptText}
+use Rattle.page_space.specs.Extents.{Space}
+use Rattle.collector.specs.States.{HeapState}
+use Rattle.heap_script.specs.declared.inspecting.Inspection.{Inspection}
+use Rattle.heap_script.specs.declared.inspecting.Inspection.TheVariants.{Nothing, Counts as ByCensus, Checks}
+use Rattle.heap_script.specs.declared.finished.Finished.{Finished}
+use Rattle.heap_script.specs.Found.{FinishesFound}
+use Rattle.heap_script.specs.Inspecting.{HasInspected, counts_at_end, plan_of}
+use Rattle.heap_script.specs.Inspectors.{same_space, ChecksImage}
+use Rattle.heap_script.specs.Stages.{Stage}
+use Rattle.heap_script.specs.Runs.{HasCounts, Finishes}
 
 -- no flaw is found
 pub judged_sound : {heap : Heap} (result : Result Counts Flaw) → WholeHasNoFlaw
@@ -29,3 +41,25 @@ judged_counts {heap} {graph} (Ok counts) law is exact judges =
     let census = law heap graph rows is exact.keeps whole.rows.are in
     (counted.objects ∙ census.objects, counted.entries ∙ census.entries)
 judged_counts (Err flaw) law is exact judges = tt
+
+-- an inspection by an inspector is its own plan
+pub same_plan : (inspection : Inspection Space) → plan_of same_space inspection ≡ inspection
+same_plan Nothing = refl
+same_plan ByCensus = refl
+same_plan (Checks space) = refl
+
+-- an inspector finds no flaw
+no_flaw : {before later : Inspection Space} {flaw : Flaw} → HasInspected ChecksImage before later (Some flaw) → ⊥
+no_flaw (HasInspected.one_more mid new main found begun (Ok counts, judged, is)) = cc
+no_flaw (HasInspected.one_more mid new main found begun (Err flaw, judged, is)) = judged.no_flaw
+
+-- so the run finishes as it would with none
+pub finishes_unflawed : (found : Option Flaw) (before later : Inspection Space) {script : ScriptText} {stage : Stage}
+    {finished : Finished} {old new : List ℕ → Type 0} {fo fn : ℕ} → HasInspected ChecksImage before later found
+    → FinishesFound (counts_at_end (plan_of same_space before)) script stage finished old new fo fn found
+    → Finishes (counts_at_end before) script stage finished old new fo fn
+finishes_unflawed None before later {script} {stage} {finished} {old} {new} {fo} {fn} inspected
+    (FinishesFound.unflawed finishes) =
+    subst (λ (one : Inspection Space). Finishes (counts_at_end one) script stage finished old new fo fn)
+    (same_plan before) finishes
+finishes_unflawed (Some flaw) before later inspected finishes = absurd (no_flaw inspected)

@@ -16,29 +16,29 @@ use Rattle.heap_script.specs.Reached.{RanTo}
 use Rattle.heap_script.specs.Spending.{Spends}
 use Rattle.heap_script.specs.declared.inspecting.Inspection.{Inspection}
 use Rattle.heap_script.specs.declared.inspecting.Inspection.TheVariants.{Nothing, Counts as ByCensus, Checks}
-use Rattle.heap_script.specs.Inspecting.{IsFor, EndsCounted, InspectsEnd}
+use Rattle.heap_script.specs.Inspecting.{IsFor, EndsCounted}
 use Rattle.heap_script.specs.Progress.{Halts, Pauses}
 use Rattle.heap_script.specs.Between.{Running}
 use Rattle.heap_script.proofs.Finishing.{finished_by}
 
 -- an inspection that is for a heap is for one over the same regions
-pub is_for : (heap after : HeapState) {inspection later : Inspection} → later ≡ inspection
+pub is_for : (heap after : HeapState) {inspection later : Inspection Space} → later ≡ inspection
     → after.main.seat.space ≡ heap.main.seat.space → IsFor heap inspection → IsFor after later
 is_for heap after {inspection = Nothing} same space fits = rw same tt
 is_for heap after {inspection = ByCensus} same space fits = rw same tt
 is_for heap after {inspection = Checks regions} same space fits = rw same (fits ∙ sym space)
 
--- the same mutator's side beside another image
-abbrev beside : HeapState → Rest → HeapState
-beside heap rest = record { main = heap.main; rest = rest }
+-- the same mutator's side beside another rest
+abbrev beside : HeapState → Rest → Bool → HeapState
+beside heap rest collected = record { main = heap.main; rest = rest; collected = collected }
 
--- a run stands between two lines, whatever image was made
+-- a run stands between two lines, whatever is beside
 Running-beside : {script : ScriptText} {heap : HeapState} {objects : ℕ} {waiting : List ℕ} {old new : List ℕ → Type 0}
-    {at : ℕ} {ts : List ℕ} {n : ℕ} {collections : Collections} (rest : Rest)
+    {at : ℕ} {ts : List ℕ} {n : ℕ} {collections : Collections} (rest : Rest) (noted : Bool)
     → (r : Running script heap objects waiting old new at ts n collections)
-    → rest.in_cycle ≡ heap.rest.in_cycle → HeapShows (beside heap rest) r.reached.so_far.graph
-    → Running script (beside heap rest) objects waiting old new at ts n collections
-Running-beside rest r cycle shown = record {
+    → rest.in_cycle ≡ heap.rest.in_cycle → HeapShows (beside heap rest noted) r.reached.so_far.graph
+    → Running script (beside heap rest noted) objects waiting old new at ts n collections
+Running-beside rest noted r cycle shown = record {
   reached = r.reached;
   opened = r.opened;
   spends = r.spends;
@@ -52,7 +52,7 @@ Running-beside rest r cycle shown = record {
   since = r.since;
 }
 
--- so it does once an image of it was judged
+-- so it does once the heap was judged
 pub Running-judged : {script : ScriptText} {heap after : HeapState} {objects : ℕ} {waiting : List ℕ}
     {old new : List ℕ → Type 0} {at : ℕ} {ts : List ℕ} {n : ℕ} {collections : Collections}
     → (r : Running script heap objects waiting old new at ts n collections) → after.main ≡ heap.main
@@ -60,18 +60,19 @@ pub Running-judged : {script : ScriptText} {heap after : HeapState} {objects : �
     → Running script after objects waiting old new at ts n collections
 Running-judged {script} {heap} {after} {objects} {waiting} {old} {new} {at} {ts} {n} {collections} r main cycle
     shows =
-    let same : after ≡ beside heap after.rest = same_heap (beside heap after.rest) after main refl in
+    let there = beside heap after.rest after.collected in
+    let same : after ≡ there = same_heap there after main refl refl in
     let graph = r.reached.so_far.graph in
     subst (λ one. Running script one objects waiting old new at ts n collections) (sym same)
-    (Running-beside after.rest r cycle (subst (λ one. HeapShows one graph) same (shows graph r.shown)))
+    (Running-beside after.rest after.collected r cycle (subst (λ one. HeapShows one graph) same (shows graph r.shown)))
 
--- a run halts alike, whatever image was made
+-- a run halts alike, whatever is beside
 Pauses-beside : {counted : Bool} {script : ScriptText} {heap : HeapState} {waiting : List ℕ} {finished : Finished}
-    {old new : List ℕ → Type 0} {faults_old faults_new : ℕ} (rest : Rest)
+    {old new : List ℕ → Type 0} {faults_old faults_new : ℕ} (rest : Rest) (noted : Bool)
     → (p : Pauses counted script heap waiting finished old new faults_old faults_new)
-    → HeapShows (beside heap rest) p.reached.so_far.graph
-    → Pauses counted script (beside heap rest) waiting finished old new faults_old faults_new
-Pauses-beside rest p shown = record {
+    → HeapShows (beside heap rest noted) p.reached.so_far.graph
+    → Pauses counted script (beside heap rest noted) waiting finished old new faults_old faults_new
+Pauses-beside rest noted p shown = record {
   reached = p.reached;
   collections = p.collections;
   opened = p.opened;
@@ -80,7 +81,7 @@ Pauses-beside rest p shown = record {
   halts = p.halts;
 }
 
--- so it does once an image of it was judged
+-- so it does once the heap was judged
 pub Pauses-judged : {counted : Bool} {script : ScriptText} {heap after : HeapState} {waiting : List ℕ}
     {finished : Finished} {old new : List ℕ → Type 0} {faults_old faults_new : ℕ}
     → (p : Pauses counted script heap waiting finished old new faults_old faults_new) → after.main ≡ heap.main
@@ -88,10 +89,11 @@ pub Pauses-judged : {counted : Bool} {script : ScriptText} {heap after : HeapSta
     → Pauses counted script after waiting finished old new faults_old faults_new
 Pauses-judged {counted} {script} {heap} {after} {waiting} {finished} {old} {new} {faults_old} {faults_new} p main
     shows =
-    let same : after ≡ beside heap after.rest = same_heap (beside heap after.rest) after main refl in
+    let there = beside heap after.rest after.collected in
+    let same : after ≡ there = same_heap there after main refl refl in
     let graph = p.reached.so_far.graph in
     subst (λ one. Pauses counted script one waiting finished old new faults_old faults_new) (sym same)
-    (Pauses-beside after.rest p (subst (λ one. HeapShows one graph) same (shows graph p.shown)))
+    (Pauses-beside after.rest after.collected p (subst (λ one. HeapShows one graph) same (shows graph p.shown)))
 
 -- where a run is to count its heap, one that halted anywhere but at the end of its script halts alike
 halts_alike : (counted : Bool) (script : ScriptText) (stage : Stage) (collections : Collections) (waiting : List ℕ)
@@ -114,7 +116,7 @@ halts_alike counted script stage collections waiting finished so_far old new fo 
 module _ {script : ScriptText} {heap after : HeapState} {waiting : List ℕ} {line n : ℕ} {old new : List ℕ → Type 0}
     {fo fn : ℕ} where
   -- it pauses as it did
-  pauses_alike : (counted : Bool) (how came : How) → how ≢ ways.End
+  pub pauses_alike : (counted : Bool) (how came : How) → how ≢ ways.End
       → Pauses false script heap waiting (finished_by how line n) old new fo fn → (came ≡ how) × (after ≡ heap)
       → Pauses counted script after waiting (finished_by came line n) old new fo fn
   pauses_alike counted how came other p (is, same) =
@@ -130,8 +132,8 @@ module _ {script : ScriptText} {heap after : HeapState} {waiting : List ℕ} {li
       subst (λ one. Pauses counted script one waiting (finished_by came line n) old new fo fn) (sym same)
       (subst (λ one. Pauses counted script heap waiting (finished_by one line n) old new fo fn) (sym is) here)
 
-  -- at the end of a script that is checked the heap was fully collected, judged and counted
-  pauses_counted : (came : How) → (p : Pauses false script heap waiting (finished_by ways.End line n) old new fo fn)
+  -- at the end of a script that is counted the heap was fully collected and counted
+  pub pauses_counted : (came : How) → (p : Pauses false script heap waiting (finished_by ways.End line n) old new fo fn)
       → EndsCounted heap after p.reached.so_far.graph came
       → Pauses true script after waiting (finished_by came line n) old new fo fn
   pauses_counted came p e =
@@ -154,37 +156,3 @@ module _ {script : ScriptText} {heap after : HeapState} {waiting : List ℕ} {li
         shown = e.shows;
         halts = ((refl, zero, refl, ends, e.counted), handed, steady);
       })
-
-  -- so a run that paused anywhere pauses, once its end is judged where the script is checked
-  pub Pauses-inspected : (counted : Bool) (how came : How)
-      → (p : Pauses false script heap waiting (finished_by how line n) old new fo fn)
-      → InspectsEnd counted heap after p.reached.so_far.graph how came
-      → Pauses counted script after waiting (finished_by came line n) old new fo fn
-  Pauses-inspected false how came p (is, same) =
-      subst (λ one. Pauses false script one waiting (finished_by came line n) old new fo fn) (sym same)
-      (subst (λ one. Pauses false script heap waiting (finished_by one line n) old new fo fn) (sym is) p)
-  Pauses-inspected true ways.End came p e = pauses_counted came p e
-  Pauses-inspected true (ways.Counted counts) came p e = pauses_alike true (ways.Counted counts) came (λ e. cc) p e
-  Pauses-inspected true (ways.Fault word) came p e = pauses_alike true (ways.Fault word) came (λ e. cc) p e
-  Pauses-inspected true (ways.HeapFull need) came p e = pauses_alike true (ways.HeapFull need) came (λ e. cc) p e
-  Pauses-inspected true (ways.SinkFault need) came p e = pauses_alike true (ways.SinkFault need) came (λ e. cc) p e
-  Pauses-inspected true ways.LineLimit came p e = pauses_alike true ways.LineLimit came (λ e. cc) p e
-  Pauses-inspected true (ways.Flawed flaw) came p e = pauses_alike true (ways.Flawed flaw) came (λ e. cc) p e
-
--- the regions stay
-pub inspected_space : (counted : Bool) (heap after : HeapState) (graph : Graph) (how came : How)
-    → InspectsEnd counted heap after graph how came → after.main.seat.space ≡ heap.main.seat.space
-inspected_space false heap after graph how came (is, same) = ap (λ (one : HeapState). one.main.seat.space) same
-inspected_space true heap after graph ways.End came e = e.collects.seat.space
-inspected_space true heap after graph (ways.Counted counts) came (is, same) =
-    ap (λ (one : HeapState). one.main.seat.space) same
-inspected_space true heap after graph (ways.Fault word) came (is, same) =
-    ap (λ (one : HeapState). one.main.seat.space) same
-inspected_space true heap after graph (ways.HeapFull need) came (is, same) =
-    ap (λ (one : HeapState). one.main.seat.space) same
-inspected_space true heap after graph (ways.SinkFault need) came (is, same) =
-    ap (λ (one : HeapState). one.main.seat.space) same
-inspected_space true heap after graph ways.LineLimit came (is, same) =
-    ap (λ (one : HeapState). one.main.seat.space) same
-inspected_space true heap after graph (ways.Flawed flaw) came (is, same) =
-    ap (λ (one : HeapState). one.main.seat.space) same

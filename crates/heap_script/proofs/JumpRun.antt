@@ -1,5 +1,5 @@
 -- A `repeat` or an `end` that is executed.
-use Rattle.std.proofs.Common.{◌≡◌, ◌∙◌, ℕ, ◌+◌, ◌-◌, ◌≤◌, List, [], length, drop, Option, Ok, refl, sym, ap, subst}
+use Rattle.std.proofs.Common.{◌≡◌, ◌∙◌, ℕ, suc, ◌+◌, ◌-◌, ◌≤◌, List, [], length, drop, Option, Ok, refl, sym, ap, subst}
 use Rattle.std.proofs.Common.{add-zero, arith}
 use Rattle.std.proofs.lemmas.List.{length-drop}
 use Rattle.heap_model.specs.Types.{Command}
@@ -35,24 +35,25 @@ module _ {script : ScriptText} {heap : HeapState} {objects : ℕ} {out taken ts 
       subst (λ (all : List Line). (behind all rest ts what).at ≤ length all) (sym same)
       (stays_within r what begins.first)
 
-  module _ (enough : length lines ≤ spare) {place : ℕ} (goes : place ≡ (behind lines rest ts what).at)
-      {next : List Line} (from : next ≡ drop place lines) where
+  module _ (enough : length lines ≤ spare) {after : ℕ} (goes : suc after ≡ (behind lines rest ts what).at)
+      {next : List Line} (from : next ≡ drop (after + 1) lines) where
     -- so many more may be executed than are left
     abbrev pub spared : ℕ
-    spared = spare + place - place_of lines rest - 1
+    spared = spare + after - place_of lines rest
 
     -- it is one of those that may be executed
     pub count_jump : spared + length next + 1 ≡ spare + length rest
     count_jump =
-        let within : place ≤ length lines = subst (λ (n : ℕ). n ≤ length lines) (sym goes) within_jump in
-        let long : length next ≡ length lines - place = ap length from ∙ length-drop place lines in
+        let within : suc after ≤ length lines = subst (λ (n : ℕ). n ≤ length lines) (sym goes) within_jump in
+        let long : length next ≡ length lines - (after + 1) = ap length from ∙ length-drop (after + 1) lines in
         ap (λ (n : ℕ). spared + n + 1) long
-        ∙ one_spent spare (length lines) (length rest) place enough within some_jump.0 some_jump.1
+        ∙ one_spent spare (length lines) (length rest) after enough within some_jump.0 some_jump.1
 
     -- the next lines are those where the run goes on
     on_jump : next ≡ drop (behind script.lines rest ts what).at script.lines
     on_jump =
-        from ∙ ap (λ (n : ℕ). drop n lines) goes
+        let next_line : after + 1 ≡ suc after = omega arith in
+        from ∙ ap (λ (n : ℕ). drop n lines) (next_line ∙ goes)
         ∙ ap (λ (all : List Line). drop (behind all rest ts what).at all) same
 
     -- it leaves the heap as it was

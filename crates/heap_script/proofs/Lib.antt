@@ -25,4 +25,5 @@ mod JumpRun
 mod Ending
 mod Finishing
 mod Judging
-mod Judged
+pub mod Judged
+mod Inspected

@@ -13,7 +13,7 @@ use Rattle.heap_model.specs.Heaps.{Heap}
 use Rattle.nursery.specs.Young.{Young, in_eden}
 use Rattle.write_barrier.specs.MutatorState.{Mutator, heap_of}
 use Rattle.collector.specs.Making.{Serves, MakesRoom}
-use Rattle.collector.specs.States.{HeapState, with_cycle}
+use Rattle.collector.specs.States.{HeapState, with_cycle, with_collected}
 use Rattle.collector.proofs.BornHeaps.{exact_is_born}
 use Rattle.collector.proofs.Keeping.{same_heap}
 use Rattle.mutator.specs.CarriesOut.{Carries, FindsMapNotFull}
@@ -23,14 +23,14 @@ use Rattle.heap_script.specs.Collecting.{CarriesCommand}
 use Rattle.heap_script.specs.Stages.{Collections, uncollected, scavenged, fully_collected, stage_of}
 use Rattle.heap_script.specs.Reached.{left_after, RanTo}
 use Rattle.heap_script.specs.Spending.{LineAllocates}
-use Rattle.heap_script.specs.Runs.{TellsAt}
+use Rattle.heap_script.specs.Runs.{TellsAt, OutputHolds, waiting_of}
 use Rattle.heap_script.specs.Progress.{objects_made, made_by, CarriesLine}
 use Rattle.heap_script.proofs.Carrying.{unfull_behind}
 use Rattle.heap_script.proofs.Asking.{rest_stays}
 use Rattle.heap_script.proofs.Retrying.{fully_collects}
 use Rattle.heap_script.proofs.Serving.{Served, served, allocated}
 use Rattle.heap_script.specs.Between.{Running}
-use Rattle.heap_script.proofs.Running.{Running-passed, Running-carried, next-drop, said-next}
+use Rattle.heap_script.proofs.Running.{Running-passed, Running-carried, Running-noted, next-drop, said-next}
 use Rattle.heap_script.proofs.StayingLost.{none_began, one_began}
 use Rattle.heap_script.proofs.Collected.{collected_by, begun_by, begun_between, Wants, wants, ungranted_by, heap_with}
 use Rattle.heap_script.proofs.Collected.{Running-once, Running-fully}
@@ -46,7 +46,7 @@ Running-served : (script : ScriptText) (heap after : HeapState) (found : Mutator
     → Running script after (objects + objects_made command) (waiting ++ text) old new at' ts' (n + 1) uncollected
 Running-served script heap after found objects waiting old new at at' ts ts' n number command text r below goes rest
     apart served_so unfull carried =
-    let done = allocated command r.shown.main r.ungranted served_so unfull carried.takes carried.words in
+    let done = allocated command r.shown.main r.ungranted served_so unfull carried.takes in
     Running-carried script heap after objects waiting old new at at' ts ts' n number command text carried.after r below
     goes (rest ∙ sym (rest_stays heap.rest command apart)) done.allocates.space carried.means carried.shows
     (LineAllocates.allocates command apart done.allocates) done.ungranted
@@ -203,8 +203,12 @@ pub Running-line : (script : ScriptText) (heap after : HeapState) (objects : ℕ
     → Running script after (objects + made_by command) (waiting ++ text) old new at' ts' (n + 1) uncollected
 Running-line script heap after objects waiting old new at at' ts ts' n number None text r below goes rest
     (same, nothing, is) =
-    let passed = Running-passed script heap objects waiting old new at at' ts ts' n number r below goes in
-    rw (same_heap heap after same rest, nothing, append-nil, add-zero) passed
+    let kept = with_collected heap after.collected in
+    let passed = Running-passed script kept objects waiting old new at at' ts ts' n number
+    (Running-noted after.collected r) below goes in
+    rw (nothing, append-nil, add-zero)
+    (subst (λ one. Running script one objects waiting old new at' ts' (n + 1) uncollected)
+    (sym (same_heap kept after same rest refl)) passed)
 Running-line script heap after objects waiting old new at at' ts ts' n number (Some command) text r below goes rest
     carries =
     Running-by script heap after objects waiting old new at at' ts ts' n number command text r below goes rest carries
@@ -253,3 +257,14 @@ TellsAt-line script heap old new at' ts' n number (Some command) text in_cycle r
       said_after = said-next script n r.so_far later line goes.rest next r.said (ap (told_with r.so_far) does-is);
       adds = refl;
     }
+
+-- so the output holds that behind what waited
+pub OutputHolds-line : (script : ScriptText) (heap : Heap) (old new : Mutator) (at' : ℕ) (ts' : List ℕ) (n number : ℕ)
+    (command : Option Command) (text : List ℕ) (in_cycle : Bool) {held waiting : List ℕ} → (r : RanTo script heap n)
+    → Goes script.lines at' ts' (left_after script n) (executed number command)
+    → CarriesLine script.fields in_cycle old new r.so_far.graph command text (Ok tt) → waiting ≡ waiting_of held
+    → OutputHolds script n held → OutputHolds script (n + 1) (waiting ++ text)
+OutputHolds-line script heap old new at' ts' n number command text in_cycle {held} r goes carries waits holds =
+    let tells = TellsAt-line script heap old new at' ts' n number command text in_cycle r goes carries in
+    subst (λ (waiting : List ℕ). OutputHolds script (n + 1) (waiting ++ text)) (sym waits)
+    (OutputHolds.one_more n held text holds tells)

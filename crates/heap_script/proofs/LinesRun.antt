@@ -87,9 +87,9 @@ one_less spare rest next some others =
     omega (arith, less, some)
 
 -- as many more as before may be executed but one, wherever the run goes on
-pub one_spent : (spare all rest next : ℕ) → all ≤ spare → next ≤ all → 1 ≤ rest → rest ≤ all
-    → spare + next - (all - rest) - 1 + (all - next) + 1 ≡ spare + rest
-one_spent spare all rest next enough within some last = omega arith
+pub one_spent : (spare all rest after : ℕ) → all ≤ spare → suc after ≤ all → 1 ≤ rest → rest ≤ all
+    → spare + after - (all - rest) + (all - (after + 1)) + 1 ≡ spare + rest
+one_spent spare all rest after enough within some last = omega arith
 
 -- none is executed at first
 pub none_spent : (n rest last : ℕ) → n ≤ last → rest ≤ last - n → last - (last - n - rest + rest) ≡ n

@@ -18,8 +18,8 @@ use Rattle.object_graph.specs.Limits.{ideal_limits}
 use Rattle.page_space.specs.Extents.{Space}
 use Rattle.nursery.specs.Young.{Young, in_eden}
 use Rattle.write_barrier.specs.MutatorState.{heap_of, MainShows, IsOpened}
-use Rattle.collector.specs.States.{HeapState, HeapShows, Rest, with_cycle}
-use Rattle.collector.proofs.Keeping.{still_shows, cycled_shows}
+use Rattle.collector.specs.States.{HeapState, HeapShows, Rest, with_cycle, with_collected}
+use Rattle.collector.proofs.Keeping.{still_shows, cycled_shows, noted_shows}
 use Rattle.heap_script.specs.Cycles.{cycle_after_command, opened_after_command}
 use Rattle.heap_script.specs.Stages.{Collections, uncollected, stage_of}
 use Rattle.heap_script.specs.Reached.{left_after, RanTo}
@@ -217,3 +217,22 @@ Running-carried script heap after objects waiting old new at at' ts ts' n number
       since = since_behind script.fields r.opened command (heap_of after.main) so_far.graph graph text
           r.shown.main.is_graph does-is r.since;
     }
+
+-- a run stands between two lines, whether a full collection is noted or not
+abbrev pub Running-noted : {script : ScriptText} {heap : HeapState} {objects : ℕ} {waiting : List ℕ}
+    {old new : List ℕ → Type 0} {at : ℕ} {ts : List ℕ} {n : ℕ} {collections : Collections} (collected : Bool)
+    → Running script heap objects waiting old new at ts n collections
+    → Running script (with_collected heap collected) objects waiting old new at ts n collections
+Running-noted {heap = heap} collected r = record {
+  reached = r.reached;
+  opened = r.opened;
+  spends = r.spends;
+  ungranted = r.ungranted;
+  shown = noted_shows heap collected r.reached.so_far.graph r.shown;
+  left = r.left;
+  handed = r.handed;
+  made = r.made;
+  few = r.few;
+  cycle = r.cycle;
+  since = r.since;
+}

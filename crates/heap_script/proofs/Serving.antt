@@ -11,18 +11,20 @@ use Rattle.heap_model.specs.Rooms.{Room, HasRooms, need_of}
 use Rattle.heap_model.proofs.ShownRooms.{shown_objects_have_rooms}
 use Rattle.nursery.specs.Young.{Young, HasRoom, in_eden, bumped, with_granted, rest_of}
 use Rattle.free_runs.specs.FreeRuns.{TakesFront}
-use Rattle.write_barrier.specs.MutatorState.{Mutator, heap_of, MainShows}
+use Rattle.page_space.specs.Extents.{Space, eden_start}
+use Rattle.write_barrier.specs.MutatorState.{Mutator, heap_of, IsTied, MainShows}
+use Rattle.object_cells.specs.Contents.{next_at}
 use Rattle.scavenger.specs.Granting.{Grants}
 use Rattle.scavenger.specs.Laws.{KeepsGraphs}
 use Rattle.scavenger.proofs.Granted.{grants_keep_stores}
+use Rattle.scavenger.proofs.PagesRuns.{whole, whole_is, taken_at, taken_words, one_run_at}
 use Rattle.collector.specs.Making.{Serves}
 use Rattle.collector.proofs.MadeRoom.{served_rows}
 use Rattle.mutator.specs.Capacities.{KeepsStores}
 use Rattle.mutator.specs.CarriesOut.{TakesRoom, FindsMapNotFull}
-use Rattle.mutator.specs.Changing.{KeepsOtherWords}
 use Rattle.heap_script.specs.Collecting.{LacksWords}
 use Rattle.heap_script.specs.Spending.{UsesNeed, Allocates}
-use Rattle.heap_script.specs.Stages.{Collections, uncollected, SpendsWords, stage_of}
+use Rattle.heap_script.specs.Stages.{Collections, uncollected, SpendsWords, IsCutWord, stage_of}
 use Rattle.heap_script.proofs.GrantedOthers.{granted_keeps}
 use Rattle.heap_script.proofs.Lacking.{not_lacking, full_for}
 
@@ -56,6 +58,13 @@ abbrev pub Takes : Mutator → Mutator → Graph → Graph → Command → Type 
 Takes old new graph after command =
     (rooms : ℕ → Room) → HasRooms (heap_of old) graph rooms → TakesRoom old new graph after command rooms
 
+-- where cells are made in eden, the next one is made behind its used words
+next_in_eden : (main : Mutator) → IsTied main → in_eden main.young ≡ true
+    → next_at main ≡ eden_start main.seat.space + main.young.used
+next_in_eden main tied ungranted =
+    ap (λ (b : Bool). if b then eden_start main.young.space + main.young.used else main.young.granted.at) ungranted
+    ∙ ap (λ (space : Space). eden_start space + main.young.used) tied.space
+
 -- where cells are made in eden, it is eden whose words are used
 used_of_eden : (old : Young) {new : Young} (n : ℕ) → in_eden old ≡ true → new ≡ bumped old n → new.used ≡ old.used + n
 used_of_eden old n ungranted is =
@@ -71,11 +80,11 @@ still_ungranted old n ungranted is =
 -- a command that finds the heap itself spends words of eden
 allocated_in_eden : {old new : Mutator} {graph after : Graph} {collections : Collections} (command : Command)
     → MainShows old graph → in_eden old.young ≡ true → FindsMapNotFull old graph command
-    → Takes old new graph after command → KeepsOtherWords (heap_of old) (heap_of new) graph command
-    → HasAllocated old new graph after collections command
-allocated_in_eden {old} {new} {graph} command shows ungranted unfull takes keeps_words =
+    → Takes old new graph after command → HasAllocated old new graph after collections command
+allocated_in_eden {old} {new} {graph} command shows ungranted unfull takes =
     let (some, had) = shown_objects_have_rooms (heap_of old) graph shows.shows in
     let one = takes some had in
+    let next = next_in_eden old shows.tied ungranted in
     record {
       allocates = record {
         space = one.uses.beside.space;
@@ -87,9 +96,10 @@ allocated_in_eden {old} {new} {graph} command shows ungranted unfull takes keeps
             record {
               spends = SpendsWords.of_eden (not_lacking old need shows.tied ungranted taken.room)
                   (used_of_eden old.young need ungranted taken.uses.young) taken.uses.free;
+              words = λ word before not_changed not_spent. taken.words word before not_changed
+                  (λ from below. not_spent (omega (arith, from, next), omega (arith, below, next)));
               stores = taken.stores;
             };
-        words = λ word before not_changed not_new not_free. keeps_words word before not_changed not_new;
       };
       ungranted = still_ungranted old.young (need_of graph some command) ungranted one.uses.young;
       rows = ap length one.uses.free;
@@ -121,10 +131,6 @@ ungranted_again old mid run n has words is =
     ap in_eden is ∙ ap (λ (young : Young). in_eden (bumped young n)) has
     ∙ none_left run n (run.words == 0) words refl
 
--- the words of a front that is taken are so many
-pub taken_words : {old new : List (List Run)} {n : ℕ} {run : Run} → TakesFront old new n run → run.words ≡ n
-taken_words takes = ap (λ (run : Run). run.words) takes.takes.front
-
 -- where objects stand as they stood, a command keeps the stores of those before
 stores_before : {old found new : Heap} {graph after : Graph} {command : Command} {rooms : ℕ → Room}
     → ((number at : ℕ) → (IsPlace old number at ↔ IsPlace found number at)
@@ -141,34 +147,44 @@ stores_before stands stores = record {
 module _ {old found new : Mutator} {graph after : Graph} {collections : Collections} (command : Command) {need : ℕ}
     (shows : MainShows old graph) (ungranted : in_eden old.young ≡ true) (some : collections ≢ uncollected)
     (lacks : LacksWords old graph command need) (empty : old.young.used ≡ 0) (grants : Grants old found need)
-    (keeps : KeepsGraphs old found) (takes : Takes found new graph after command)
-    (keeps_words : KeepsOtherWords (heap_of found) (heap_of new) graph command) where
+    (keeps : KeepsGraphs old found) (takes : Takes found new graph after command) where
   -- a command that finds granted words takes them, by the rooms that objects had before
   takes_by : (rooms : ℕ → Room) → HasRooms (heap_of old) graph rooms → TakesRoom found new graph after command rooms
   takes_by rooms has = takes rooms ((keeps.rooms graph rooms shows).0 has)
 
-  -- it spends those words
-  spends_of_run : (rooms : ℕ → Room) → HasRooms (heap_of old) graph rooms
-      → SpendsWords (stage_of old) (stage_of new) collections (need_of graph rooms command)
-  spends_of_run rooms has =
+  -- the front of the run was taken
+  front_taken : (rooms : ℕ → Room) → HasRooms (heap_of old) graph rooms
+      → TakesFront old.free new.free (need_of graph rooms command) grants.run
+  front_taken rooms has =
+      subst (λ (rows : List (List Run)). TakesFront old.free rows (need_of graph rooms command) grants.run)
+      (sym (takes_by rooms has).uses.free)
+      (subst (λ (count : ℕ). TakesFront old.free found.free count grants.run) (lacks.needs rooms has) grants.takes)
+
+  -- of the run of which words were granted
+  same_run : {n : ℕ} (taken : TakesFront old.free new.free n grants.run) → whole grants.takes ≡ whole taken
+  same_run taken =
+      one_run_at old.free (whole grants.takes) (whole taken) grants.own (whole_is grants.takes) (whole_is taken)
+      (sym (taken_at grants.takes) ∙ taken_at taken)
+
+  -- it spends those words, and objects stand where they stood
+  uses_run : (rooms : ℕ → Room) → HasRooms (heap_of old) graph rooms
+      → UsesNeed (stage_of old) (stage_of new) graph after collections command rooms
+  uses_run rooms has =
       let taken = takes_by rooms has in
       let n = need_of graph rooms command in
       let same : need ≡ n = lacks.needs rooms has in
-      let takes_run : TakesFront old.free found.free n grants.run =
-      subst (λ (count : ℕ). TakesFront old.free found.free count grants.run) same grants.takes in
-      SpendsWords.of_page grants.run some
-      (full_for old n shows.tied ungranted (λ room. lacks.lacks (subst (HasRoom old.young) (sym same) room)))
-      empty
-      (used_of_run old.young found.young grants.run n grants.young (taken_words takes_run) empty taken.uses.young)
-      (subst (λ (rows : List (List Run)). TakesFront old.free rows n grants.run) (sym taken.uses.free) takes_run)
-
-  -- where objects stand as they stood
-  uses_run : (rooms : ℕ → Room) → HasRooms (heap_of old) graph rooms
-      → UsesNeed (stage_of old) (stage_of new) graph after collections command rooms
-  uses_run rooms has = record {
-    spends = spends_of_run rooms has;
-    stores = stores_before (grants_keep_stores old found graph need shows grants) (takes_by rooms has).stores;
-  }
+      let front = front_taken rooms has in
+      record {
+        spends = SpendsWords.of_page grants.run some
+            (full_for old n shows.tied ungranted (λ room. lacks.lacks (subst (HasRoom old.young) (sym same) room)))
+            empty
+            (used_of_run old.young found.young grants.run n grants.young (taken_words front) empty taken.uses.young)
+            front;
+        words = λ word before not_changed not_spent.
+            granted_keeps shows grants (heap_of new) n same taken.words word before not_changed
+            (λ cut. not_spent (subst (λ (run : Run). IsCutWord run n word) (same_run front) cut));
+        stores = stores_before (grants_keep_stores old found graph need shows grants) taken.stores;
+      }
 
   -- so the grant and the command together allocate on the heap
   allocated_in_page : HasAllocated old new graph after collections command
@@ -184,7 +200,6 @@ module _ {old found new : Mutator} {graph after : Graph} {collections : Collecti
               ∙ ap (λ (young : Young). young.survivors) grants.young;
           unfull = λ (entries, finds). lacks.unfull entries finds;
           uses = uses_run;
-          words = granted_keeps shows grants keeps_words;
         };
         ungranted = ungranted_again old.young found.young grants.run n grants.young words taken.uses.young;
         rows = ap length taken.uses.free ∙ served_rows (Serves.granted lacks.lacks grants keeps);
@@ -194,12 +209,10 @@ module _ {old found new : Mutator} {graph after : Graph} {collections : Collecti
 pub allocated : {old found new : Mutator} {graph after : Graph} {collections : Collections} (command : Command)
     → MainShows old graph → in_eden old.young ≡ true → Served old found graph collections command
     → FindsMapNotFull found graph command → Takes found new graph after command
-    → KeepsOtherWords (heap_of found) (heap_of new) graph command
     → HasAllocated old new graph after collections command
-allocated {old} {found} {new} {graph} {after} command shows ungranted (Served.as_it_is is) unfull takes keeps_words =
+allocated {old} {found} {new} {graph} {after} command shows ungranted (Served.as_it_is is) unfull takes =
     allocated_in_eden command shows ungranted
     (subst (λ (main : Mutator). FindsMapNotFull main graph command) is unfull)
     (subst (λ (main : Mutator). Takes main new graph after command) is takes)
-    (subst (λ (main : Mutator). KeepsOtherWords (heap_of main) (heap_of new) graph command) is keeps_words)
-allocated command shows ungranted (Served.by_grant need some lacks empty grants keeps) unfull takes keeps_words =
-    allocated_in_page command shows ungranted some lacks empty grants keeps takes keeps_words
+allocated command shows ungranted (Served.by_grant need some lacks empty grants keeps) unfull takes =
+    allocated_in_page command shows ungranted some lacks empty grants keeps takes

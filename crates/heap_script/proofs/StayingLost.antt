@@ -8,11 +8,11 @@ use Rattle.object_graph.specs.Graphs.{Graph}
 use Rattle.object_graph.specs.Invariants.{IsGraph}
 use Rattle.object_graph.specs.Limits.{ideal_limits}
 use Rattle.object_graph.specs.Meaning.{done, meaning}
-use Rattle.graph_laws.proofs.NothingNew.{only_made_is_new}
-use Rattle.collector.specs.Born.{Opening, StaysLost}
+use Rattle.graph_laws.specs.ReachAfter.{StaysLost}
+use Rattle.graph_laws.proofs.LostObjects.{stays_itself, stays_twice, command_stays}
+use Rattle.collector.specs.Born.{Opening}
 use Rattle.heap_script.specs.Between.{StaysLostSince}
 use Rattle.heap_script.specs.Cycles.{cycle_after_command, opened_after_command}
-use Rattle.heap_script.proofs.Counts.{length-meaning}
 
 -- behind a command a cycle is open where the heap holds one open
 pub cycle_opened : (opened : Option Opening) (one : Command) (heap : Heap) (graph : Graph)
@@ -34,35 +34,11 @@ pub one_began : (opened : Option Opening) (graph : Graph) → is_some opened ≡
 one_began None graph is since = absurd (false≢true is)
 one_began (Some opening) graph is since = (opening, refl, since)
 
--- where nothing happens, what is lost stays lost
-stays_itself : (graph : Graph) → StaysLost graph graph
-stays_itself graph = record { grows = omega arith; lost = λ number within marked. marked }
-
--- and where it does twice
-stays_twice : {before middle after : Graph} → StaysLost before middle → StaysLost middle after → StaysLost before after
-stays_twice {before} {middle} {after} first second = record {
-  grows = omega (arith, first.grows, second.grows);
-  lost = λ number within marked.
-      first.lost number within (second.lost number (omega (arith, first.grows, within)) marked);
-}
-
--- and behind a command
-stays_behind : (names : List (List ℕ)) (graph after : Graph) (one : Command) (text : List ℕ) → IsGraph graph
-    → meaning ideal_limits names graph one ≡ done after text → StaysLost graph after
-stays_behind names graph after one text is_graph does = record {
-  grows = omega (arith, length-meaning ideal_limits names graph after one text does);
-  lost = λ number within marked.
-      elim (only_made_is_new ideal_limits names graph one after text number is_graph does marked) [
-        | inl was ↦ was
-        | inr made ↦ absurd (omega (arith, made.1, within))
-      ];
-}
-
--- so it does since the cycle began
+-- so what was lost when the cycle began, if one is open, stays lost
 since_later : {before after : Graph} (opened : Option Opening) → StaysLost before after → StaysLostSince opened before
     → StaysLostSince opened after
 since_later None later since = tt
-since_later (Some opening) later since = stays_twice since later
+since_later {before} {after} (Some opening) later since = stays_twice opening.graph before after since later
 
 -- and since the one began that is open behind a `mark`
 since_marked : (opened : Option Opening) (heap : Heap) (graph : Graph) → StaysLostSince opened graph
@@ -85,4 +61,4 @@ pub since_behind : (names : List (List ℕ)) (opened : Option Opening) (one : Co
     → StaysLostSince opened graph → StaysLostSince (opened_after_command opened one heap after) after
 since_behind names opened one heap graph after text is_graph does since =
     since_command opened one heap after
-    (since_later opened (stays_behind names graph after one text is_graph does) since)
+    (since_later opened (command_stays ideal_limits names graph one after text is_graph does) since)

@@ -176,7 +176,7 @@ no_way now made Granted (NoClear entries) way = way.1
 -- objects it had, and what was told of the try on whichever graph.
 module _ (names : List (List ℕ)) {old now : HeapState} (after : HeapState) {objects counted : ℕ} {command : Command}
     {stop : Stop} {tried : Attempt} {Rest : Type 0} (ready : IsReady names old now objects command tried)
-    (same : counted ≡ objects) (rest : after.rest ≡ now.rest)
+    (same : counted ≡ objects) (rest : after.rest ≡ now.rest) (noted : after.collected ≡ now.collected)
     (some : (graph : Graph) × HeapShows old graph × (objects ≡ length graph.objects))
     (carried : (graph : Graph) → HeapShows now graph → counted ≡ length graph.objects
     → (text : List ℕ) × Tries names now.main after.main graph command text (Err stop) × Rest) where
@@ -194,7 +194,7 @@ module _ (names : List (List ℕ)) {old now : HeapState} (after : HeapState) {ob
   unchanged =
       let (graph, shown, made) = some in
       let (text, apart, carries, asks) = stopped_on graph shown made in
-      same_heap now after (same_stopped names now.main after.main graph command text stop carries) rest
+      same_heap now after (same_stopped names now.main after.main graph command text stop carries) rest noted
 
   -- room may be made for it
   pub servable : IsWithin old.main.seat.space.variables field_numbers command → IsServable stop

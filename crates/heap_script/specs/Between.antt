@@ -2,6 +2,7 @@
 use Rattle.std.specs.Prelude.{◌≡◌, ℕ, ◌+◌, ◌-◌, ◌≤◌, true, List, [], length, drop, Option, Some, None, is_some}
 use Rattle.object_graph.specs.Graphs.{Graph}
 use Rattle.object_graph.specs.Run.{lines_most}
+use Rattle.graph_laws.specs.ReachAfter.{StaysLost}
 use Rattle.script_text.specs.declared.script.Line.{Line}
 use Rattle.script_text.specs.declared.script.What.{What}
 use Rattle.script_text.specs.Scripts.{ScriptText}
@@ -10,7 +11,7 @@ use Rattle.script_text.specs.Left.{IsLeft}
 use Rattle.nursery.specs.Young.{in_eden}
 use Rattle.mutator.specs.CarriesOut.{field_numbers}
 use Rattle.write_barrier.specs.MutatorState.{heap_of}
-use Rattle.collector.specs.Born.{Opening, StaysLost}
+use Rattle.collector.specs.Born.{Opening}
 use Rattle.collector.specs.States.{HeapState, HeapShows}
 use Rattle.heap_script.specs.Stages.{Collections, uncollected, stage_of}
 use Rattle.heap_script.specs.Reached.{left_after, RanTo}

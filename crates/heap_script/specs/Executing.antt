@@ -33,4 +33,5 @@ pub record Executes (old new : HeapState) (objects_old objects_new : ℕ) (comma
   pub tries : (names : List (List ℕ)) (graph : Graph) → HeapShows old graph → objects_old ≡ length graph.objects
       → Tries names old.main new.main graph command [] came
   pub rest : new.rest ≡ old.rest
+  pub noted : new.collected ≡ old.collected
   pub counted : objects_new ≡ objects_after objects_old command came

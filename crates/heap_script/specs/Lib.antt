@@ -12,3 +12,4 @@ pub mod MakingRoom
 pub mod Progress
 pub mod Between
 pub use Rattle.mutator.specs.declared.output.TheConstants
+pub mod Found

@@ -1,6 +1,6 @@
 -- How the run of a script on a heap ends, and what its sink takes.
 use Rattle.std.specs.Prelude.{◌≡◌, ◌≢◌, ◌⊎◌, ℕ, ◌+◌, ◌<◌, ◌≤◌, List, ◌∷◌}
-use Rattle.std.specs.Prelude.{[], ◌++◌, length, take, Option, Some, None, Bool, true, false, IsTrue, nat_lt}
+use Rattle.std.specs.Prelude.{[], ◌++◌, length, take, Option, Some, None, Bool, true, false, nat_lt}
 use Rattle.std.specs.Prelude.{if◌then◌else◌}
 use Rattle.heap_model.specs.Types.{Command, FaultWord, Run}
 use Rattle.heap_command.specs.Executed.{Executed}
@@ -13,10 +13,7 @@ use Rattle.script_text.specs.Scripts.{ScriptText}
 use Rattle.script_text.specs.Unrolled.{executed_lines}
 use Rattle.heap_model.specs.Heaps.{Heap}
 use Rattle.heap_model.specs.Collectable.{AreFreeRuns}
-use Rattle.heap_model.specs.Needs.{lacks_room}
-use Rattle.heap_model.specs.Reaching.{IsTight}
 use Rattle.heap_model.specs.Rooms.{Room, HasRooms, need_of}
-use Rattle.free_runs.specs.FreeRuns.{FitsNowhere}
 use Rattle.live_cells.specs.Exact.{Exact, Fits}
 use Rattle.live_cells.specs.Fitting.{DeadIsFree}
 use Rattle.scavenger.specs.Laws.{IsStuck}
@@ -33,17 +30,13 @@ use Rattle.heap_script.specs.Reached.{left_after, RanTo, EndsAs}
 use Rattle.heap_script.specs.Spending.{Spends}
 
 -- The heap, which shows a graph and whose pages have these free runs, is full for so many words: it keeps exactly what
--- can be reached, and they fit nowhere beside that. Eden is empty, each young cell is reached from a variable or a slot
--- of a page, the survivors and these words are more than the words of the young generation, each word of a page that is
--- not kept is in a free run, no free run has so many words, and each young cell is longer than each free run.
+-- can be reached, and they fit nowhere beside that. Eden is empty, each word of a page that is not kept is in a free run,
+-- and each young cell is longer than each free run.
 pub record IsFull (heap : Heap) (rows : List (List Run)) (graph : Graph) (need : ℕ) : Type 0 where
   pub exact : Exact heap graph
   pub full : Fits heap need → ⊥
   pub empty : heap.used ≡ 0
-  pub tight : IsTight heap
-  pub lacks : IsTrue (lacks_room heap need)
   pub dead : DeadIsFree heap rows
-  pub runs : FitsNowhere rows need
   pub stuck : IsStuck heap rows
 
 -- the line runs a command that needs so many words, by the rooms of objects, and the heap, which shows this graph and

@@ -12,12 +12,10 @@ use Rattle.script_text.specs.Unrolled.{executed_lines}
 use Rattle.page_space.specs.Extents.{roots_start}
 use Rattle.heap_model.specs.Heaps.{Heap}
 use Rattle.heap_model.specs.Needs.{lacks_room}
-use Rattle.heap_model.specs.Changes.{IsNewlyUsed}
 use Rattle.heap_model.specs.Collectable.{AreFreeRuns}
 use Rattle.heap_model.specs.Reaching.{IsTight, FillsPages}
 use Rattle.heap_model.specs.Rooms.{Room, HasRooms, need_of, FindsMapFull}
 use Rattle.free_runs.specs.FreeRuns.{AreFree, FitsNowhere, whole_rows}
-use Rattle.free_runs.specs.Laws.{IsFreeWord}
 use Rattle.collector.specs.Born.{Opening, LeavesBorn}
 use Rattle.collector.specs.Collected.{LeavesExact}
 use Rattle.scavenger.specs.Backs.{AreBacks}
@@ -26,14 +24,17 @@ use Rattle.mutator.specs.Capacities.{KeepsStores}
 use Rattle.mutator.specs.Changing.{IsChangedWord}
 use Rattle.heap_script.specs.Cycles.{asks_collector, opened_after, AsksForAll, CollectsNothing}
 use Rattle.heap_script.specs.Stages.{Stage, Collections, uncollected, scavenged, fully_collected, finally_collected}
-use Rattle.heap_script.specs.Stages.{SpendsWords}
+use Rattle.heap_script.specs.Stages.{SpendsWords, IsSpentWord}
 use Rattle.heap_script.specs.Reached.{left_after, RanTo, EndsAs}
 
 -- Where objects have these rooms, exactly the words that the command needs are spent behind these collections, and
--- objects come to have the rooms that it gives them.
+-- objects come to have the rooms that it gives them. Of the words before the roots only those that are spent are
+-- written, and those of the object that the command may change.
 pub record UsesNeed (old new : Stage) (graph after : Graph) (collections : Collections) (command : Command)
     (rooms : ℕ → Room) : Type 0 where
   pub spends : SpendsWords old new collections (need_of graph rooms command)
+  pub words : (word : ℕ) → word < roots_start old.heap.space → (IsChangedWord old.heap graph command word → ⊥)
+      → (IsSpentWord spends word → ⊥) → slice_get new.heap.words word ≡ slice_get old.heap.words word
   pub stores : KeepsStores old.heap new.heap graph after command rooms
 
 -- a command finds its weak map full of pairs, whatever rooms objects have in the heap
@@ -43,8 +44,8 @@ FindsMapFullFor heap graph (Some command) =
     (entries : ℕ) × ((rooms : ℕ → Room) → HasRooms heap graph rooms → FindsMapFull graph rooms command entries)
 
 -- A command that leads from one graph to another allocates on the heap, behind these collections. It does not find its
--- weak map full of pairs. The regions stay, and no survivor comes or goes. Of the words before the roots only those of
--- the object that the command may change are written, words that are newly used, and words of free runs.
+-- weak map full of pairs. The regions stay, and no survivor comes or goes. It spends the words that it needs. Before the
+-- roots it writes those, and words of the object that it may change, alone.
 pub record Allocates (old new : Stage) (graph after : Graph) (collections : Collections) (command : Command)
     : Type 0 where
   pub space : new.heap.space ≡ old.heap.space
@@ -52,9 +53,6 @@ pub record Allocates (old new : Stage) (graph after : Graph) (collections : Coll
   pub unfull : FindsMapFullFor old.heap graph (Some command) → ⊥
   pub uses : (rooms : ℕ → Room) → HasRooms old.heap graph rooms
       → UsesNeed old new graph after collections command rooms
-  pub words : (word : ℕ) → word < roots_start old.heap.space → (IsChangedWord old.heap graph command word → ⊥)
-      → (IsNewlyUsed old.heap new.heap word → ⊥) → (IsFreeWord old.rows word → ⊥)
-      → slice_get new.heap.words word ≡ slice_get old.heap.words word
 
 -- What is told of a scavenge, which promotes survivors, or all that lives: the regions stay, objects have the rooms that
 -- they had, eden is empty, the survivors are no more than survivors and used words before, of young cells only what is

@@ -1,6 +1,9 @@
 -- What of a heap the lines of a script spend: words of eden, and words of the free runs of pages.
-use Rattle.std.specs.Prelude.{◌≡◌, ◌≢◌, ℕ, ◌+◌, false, List, IsTrue}
+use Rattle.std.specs.Prelude.{◌≡◌, ◌≢◌, ℕ, ◌+◌, ◌<◌, ◌≤◌, false, List, IsTrue}
+use Rattle.tagged_word.specs.Cells.{length_offset}
+use Rattle.page_space.specs.Extents.{eden_start}
 use Rattle.free_runs.specs.FreeRuns.{TakesFront}
+use Rattle.free_runs.specs.Laws.{IsOfRun}
 use Rattle.heap_model.specs.Types.{Run}
 use Rattle.heap_model.specs.Heaps.{Heap}
 use Rattle.heap_model.specs.Needs.{lacks_room}
@@ -31,3 +34,17 @@ pub data SpendsWords (old new : Stage) (collections : Collections) (n : ℕ) : T
       → SpendsWords old new collections n
   of_page : (run : Run) → collections ≢ uncollected → IsTrue (lacks_room old.heap n) → old.heap.used ≡ 0
       → new.heap.used ≡ 0 → TakesFront old.rows new.rows n run → SpendsWords old new collections n
+
+-- The word is one of the first n of a free run, or of the head of the free cell that covers what is left of it: its
+-- header, and its length if it has one. No other word of the run is written where its front is taken.
+pub record IsCutWord (run : Run) (n word : ℕ) : Type 0 where
+  pub of_run : IsOfRun run word
+  pub head : word ≤ run.at + n + length_offset
+
+-- The word is spent: of eden, it is one of the n behind the used ones; of a page, one of the front of the run that was
+-- cut, or of the head of the free cell that is left.
+abbrev pub IsSpentWord : {old new : Stage} {collections : Collections} {n : ℕ} → SpendsWords old new collections n → ℕ
+    → Type 0
+IsSpentWord {old} {n = n} (SpendsWords.of_eden room used rows) word =
+    (eden_start old.heap.space + old.heap.used ≤ word) × (word < eden_start old.heap.space + old.heap.used + n)
+IsSpentWord {n = n} (SpendsWords.of_page run behind lacks empty stays takes) word = IsCutWord takes.takes.run n word

@@ -67,7 +67,7 @@ pub(crate) fn execute_line(
             }
             Ok(at + 1)
         }
-        What::Repeat { .. } | What::End { .. } => Ok(turns.next(at, what)),
+        jump => Ok(turns.jump(at, jump) + 1),
     }
 }
 
@@ -133,6 +133,7 @@ fn attempt(
         × Tries script.now.fields heap.old.main heap.new.main graph command.now text result
         × (out.new ≡ (if is_ok result then out.old ++ text else out.old)) }
     ensures rest { heap.new.rest ≡ heap.old.rest }
+    ensures noted { heap.new.collected ≡ heap.old.collected }
     ensures counted { objects.new ≡ objects_after objects.old command.now result }
 {
     match command {

@@ -1,20 +1,22 @@
 //! A script on the heap, line by line in the order of execution.
-ghost use Rattle.std.specs.Prelude.{◌≡◌, ◌+◌, ◌≤◌, false, [], length, OnOk, OnErr};
+ghost use Rattle.std.specs.Prelude.{◌≡◌, ◌+◌, ◌≤◌, false, Option, [], length, OnOk, OnErr};
 ghost use Rattle.object_graph.specs.Graphs.{Graph, start};
 ghost use Rattle.mutator.specs.CarriesOut.{field_numbers};
 ghost use Rattle.write_barrier.specs.MutatorState.{IsOpened};
 ghost use Rattle.collector.specs.States.{HeapShows};
 ghost use Rattle.byte_ends.specs.Faults.{Rose};
 ghost use Rattle.script_text.specs.Sound.{AreShort};
-ghost use Rattle.heap_script.specs.Runs.{Finishes, CutsOff, FillsOutput, waiting_of, IsCut};
-ghost use Rattle.heap_script.specs.Inspecting.{counts_at_end, IsFor};
+ghost use Rattle.heap_check.specs.declared.flaw.Flaw.{Flaw as Found};
+ghost use Rattle.heap_script.specs.Runs.{CutsOff, FillsOutput, waiting_of, IsCut};
+ghost use Rattle.heap_script.specs.Inspecting.{counts_at_end, plan_of, IsFor, HasInspected, JudgesAfter, how_found};
 ghost use Rattle.heap_script.specs.Stages.{stage_of};
-ghost use Rattle.heap_script.specs.Progress.{Handed, Pauses, how_of};
+ghost use Rattle.heap_script.specs.Progress.{Handed, how_of};
+ghost use Rattle.heap_script.specs.Found.{PausesFound, FinishesFound};
 
 use crate::execute::execute_line;
 use crate::finished::{Finished, How};
 use crate::flushing::flush;
-use crate::inspecting::{Inspection, flaw_behind, inspect_end};
+use crate::inspecting::{Inspection, Judge, flaw_behind, inspect_end};
 use crate::lines::{Reached, run_lines};
 use crate::loop_counters::LoopCounters;
 use crate::pace::Unpaced;
@@ -35,13 +37,13 @@ pub(crate) const FULL_FROM: usize = (OUTPUT_BYTES - ROOM) as usize;
 /// Runs a script on a heap that was just opened, with an output that is empty, and writes to the sink what it tells.
 /// Threads and gates are not used. The inspection says what is done about the heap at the end of the script, and behind
 /// full collections; a checker in it is one for the heap's regions.
-pub fn run_script<K: Sink, G: Gate, R: Threads + Sync>(
+pub fn run_script<K: Sink, J: Judge, G: Gate, R: Threads + Sync>(
     _rt: &R,
     heap: &mut Heap,
     script: &Script<'_>,
     out: &mut Output,
     sink: &mut K,
-    inspection: &mut Inspection,
+    inspection: &mut Inspection<J>,
     _gate: &G,
 ) -> Finished
     requires shown { HeapShows heap.old start }
@@ -49,9 +51,10 @@ pub fn run_script<K: Sink, G: Gate, R: Threads + Sync>(
     requires closed { heap.old.rest.in_cycle ≡ false }
     requires variables { heap.old.main.seat.space.variables ≡ length script.now.variables }
     requires empty { out.old ≡ [] }
-    requires for_heap { IsFor heap.old inspection.old }
-    ensures finishes { Finishes (counts_at_end inspection.old) script.now (stage_of heap.new.main) result
-        (K.HasTaken sink.old) (K.HasTaken sink.new) (K.faults sink.old) (K.faults sink.new) }
+    requires for_heap { IsFor heap.old (plan_of J.regions inspection.old) }
+    ensures finishes { (found : Option Found) × HasInspected J.Judged inspection.old inspection.new found
+        × FinishesFound (counts_at_end (plan_of J.regions inspection.old)) script.now (stage_of heap.new.main)
+        result (K.HasTaken sink.old) (K.HasTaken sink.new) (K.faults sink.old) (K.faults sink.new) found }
     ensures emptied { ¬ IsCut result.how → out.new ≡ [] }
     ensures shows { (graph : Graph) × HeapShows heap.new graph }
     ensures space { heap.new.main.seat.space ≡ heap.old.main.seat.space }
@@ -77,25 +80,27 @@ pub fn run_script<K: Sink, G: Gate, R: Threads + Sync>(
 
 /// Executes lines from the first on. What they write waits in the output or was handed to the sink.
 /// Before each line, and nowhere else, an output that is full is handed on.
-fn interpret<K: Sink>(
+fn interpret<K: Sink, J: Judge>(
     heap: &mut Heap,
     script: &Script<'_>,
     out: &mut Output,
     sink: &mut K,
-    inspection: &mut Inspection,
+    inspection: &mut Inspection<J>,
 ) -> Finished
     requires shown { HeapShows heap.old start }
     requires opened { IsOpened heap.old.main }
     requires closed { heap.old.rest.in_cycle ≡ false }
     requires variables { heap.old.main.seat.space.variables ≡ length script.now.variables }
-    requires for_heap { IsFor heap.old inspection.old }
+    requires for_heap { IsFor heap.old (plan_of J.regions inspection.old) }
     requires fields { length script.now.fields ≤ field_numbers }
     requires short { AreShort script.now.fields }
     requires empty { out.old ≡ [] }
-    ensures pauses { Pauses false script.now heap.new out.new result
-        (K.HasTaken sink.old) (K.HasTaken sink.new) (K.faults sink.old) (K.faults sink.new) }
+    ensures pauses { (found : Option Found) × HasInspected J.Judged inspection.old inspection.new found
+        × PausesFound false script.now heap.new out.new result
+        (K.HasTaken sink.old) (K.HasTaken sink.new) (K.faults sink.old) (K.faults sink.new) found }
     ensures space { heap.new.main.seat.space ≡ heap.old.main.seat.space }
-    ensures same { inspection.new ≡ inspection.old }
+    ensures same { plan_of J.regions inspection.new ≡ plan_of J.regions inspection.old }
+    ensures taken { heap.old.collected ≡ false → heap.new.collected ≡ false }
 {
     let lines = script.lines();
     let mut turns = LoopCounters::new();
@@ -129,13 +134,16 @@ fn interpret<K: Sink>(
 
 /// How a run ends at a line whose command was not carried out. If that came behind a full collection, the heap is
 /// judged.
-fn stopped(stop: Stop, heap: &mut Heap, inspection: &mut Inspection) -> How
+fn stopped<J: Judge>(stop: Stop, heap: &mut Heap, inspection: &mut Inspection<J>) -> How
     requires shown { (graph : Graph) × HeapShows heap.old graph }
-    requires for_heap { IsFor heap.old inspection.old }
-    ensures how { result ≡ how_of stop }
+    requires for_heap { IsFor heap.old (plan_of J.regions inspection.old) }
+    ensures judged { (found : Option Found)
+        × JudgesAfter J.Judged heap.old.collected heap.old.main inspection.old inspection.new found
+        × (result ≡ how_found found (how_of stop)) }
     ensures main { heap.new.main ≡ heap.old.main }
+    ensures taken { heap.new.collected ≡ false }
     ensures shows { (graph : Graph) → HeapShows heap.old graph → HeapShows heap.new graph }
-    ensures same { inspection.new ≡ inspection.old }
+    ensures same { plan_of J.regions inspection.new ≡ plan_of J.regions inspection.old }
 {
     if let Some(flaw) = flaw_behind(heap, inspection) {
         return How::Flawed(flaw);

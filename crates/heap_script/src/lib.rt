@@ -23,6 +23,6 @@ mod making_room;
 mod pace;
 
 pub use finished::{Finished, How};
-pub use inspecting::{Inspection, Inspector};
+pub use inspecting::{Inspection, Inspector, Judge};
 pub use interpreter::run_script;
 pub use mutator::Output;

@@ -49,6 +49,7 @@ pub(crate) fn run_lines<P: Pace>(
         result.executed uncollected }
     ensures holds { OutputHolds script.now from.executed out.now → OutputHolds script.now result.executed out.now }
     ensures space { heap.new.main.seat.space ≡ heap.old.main.seat.space }
+    ensures noted { heap.new.collected ≡ heap.old.collected }
     ensures further { from.executed ≤ result.executed }
     ensures few { result.executed ≤ from.executed + P.most pace.now }
 {
@@ -69,9 +70,9 @@ pub(crate) fn run_lines<P: Pace>(
             break;
         };
         let at = lines.len() - rest.len();
-        let next = turns.next(at, what);
-        spare = spare + next - at - 1;
-        rest = lines_from(lines, next);
+        let after = turns.jump(at, what);
+        spare = spare + after - at;
+        rest = lines_from(lines, after + 1);
     }
     Reached {
         at: lines.len() - rest.len(),
@@ -99,6 +100,7 @@ fn run_commands<'l, P: Pace>(
         → OutputHolds script (last - (spare + length lines.now)) out
         → OutputHolds script (last - (spare + length result.0.now)) out }
     ensures space { heap.new.main.seat.space ≡ heap.old.main.seat.space }
+    ensures noted { heap.new.collected ≡ heap.old.collected }
     ensures fewer { length result.0.now ≤ length lines.now }
     ensures begins { IfSome result.1 (λ what. Begins result.0.now what.now) }
 {

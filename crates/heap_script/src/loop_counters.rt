@@ -1,8 +1,9 @@
 //! The turns left of open blocks. Where a run goes on is `standing_after` of `specs/LoopCounters.antt`; that this
 //! is the order of execution is kept in `interpreter`.
-ghost use Rattle.std.specs.Prelude.{◌≡◌, ◌<◌, ◌≤◌, ◌^◌, [], ◌∷◌, length, drop};
+ghost use Rattle.std.specs.Prelude.{◌≡◌, ◌<◌, ◌≤◌, ◌^◌, suc, [], ◌∷◌, length, drop, None};
 ghost use Rattle.script_text.specs.Limits.{open_most};
 ghost use Rattle.heap_script.specs.LoopCounters.{standing_after, closed, IsInside};
+ghost use Rattle.heap_script.specs.Progress.{command_in};
 
 use script_text::What;
 use std::marker::Model;
@@ -38,21 +39,24 @@ impl LoopCounters {
         }
     }
 
-    /// Where the run goes on after the line at this place.
+    /// Carries out the `repeat` or the `end` at this place. The run goes on after the line whose place it returns: this one,
+    /// or the other end of the block.
     #[inline(always)]
-    pub(crate) fn next(&mut self, at: usize, what: &What) -> usize
+    pub(crate) fn jump(&mut self, at: usize, what: &What) -> usize
         requires small { at < 2 ^ 63 }
+        requires jumps { command_in what.now ≡ None }
         requires inside { IsInside self.old what.now }
         requires deep { length (standing_after at self.old what.now).turns ≤ open_most }
-        ensures place { result ≡ (standing_after at self.old what.now).at }
+        ensures place { suc result ≡ (standing_after at self.old what.now).at }
         ensures turns { self.new ≡ (standing_after at self.old what.now).turns }
+        ensures few { result < 2 ^ 63 }
     {
         match *what {
-            What::Run(_) => at + 1,
-            What::Repeat { times: 0, end_at } => end_at as usize + 1,
+            What::Run(_) => unreachable!(),
+            What::Repeat { times: 0, end_at } => end_at as usize,
             What::Repeat { times, .. } => {
                 self.enter(times - 1);
-                at + 1
+                at
             }
             What::End { repeat_at } => self.end(at, repeat_at),
         }
@@ -69,20 +73,21 @@ impl LoopCounters {
         self.open += 1;
     }
 
-    /// Where the run goes on after the `end` at this place, of the `repeat` at the other.
+    /// The same of an `end`, of the `repeat` at the other place.
     #[inline(always)]
     fn end(&mut self, at: usize, repeat_at: u32) -> usize
         requires small { at < 2 ^ 63 }
         requires some { 1 ≤ length self.old }
-        ensures place { result ≡ (closed at self.old repeat_at).at }
+        ensures place { suc result ≡ (closed at self.old repeat_at).at }
         ensures turns { self.new ≡ (closed at self.old repeat_at).turns }
+        ensures few { result < 2 ^ 63 }
     {
         if self.left[0] > 0 {
             self.left[0] -= 1;
-            return repeat_at as usize + 1;
+            return repeat_at as usize;
         }
         self.leave();
-        at + 1
+        at
     }
 
     /// The innermost block is open no more.

@@ -1,3 +1,10 @@
 mod MarksStart
+mod OwnKeeps
 pub mod HeapWords
-mod SeatKeeps
+pub mod SharedWords
+pub mod Agreeing
+mod PutSeats
+mod PutCases
+mod SharedStretches
+mod ChangedStretches
+pub mod SeatSteps

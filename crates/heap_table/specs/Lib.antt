@@ -1,3 +1,8 @@
+pub mod Owned
+pub mod Kept
+pub mod Phases
 pub mod Seats
+pub mod Overviews
 pub mod Seated
+pub mod Sharing
 pub mod Staying

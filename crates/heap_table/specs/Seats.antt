@@ -1,24 +1,75 @@
 -- What a seat at the table of words knows.
-use Rattle.std.specs.Prelude.{◌≡◌, ℕ, List, length, replicate}
-use Rattle.page_space.specs.Extents.{Space, marks_start}
-use Rattle.heap_table.specs.declared.phase.Phase.{Phase}
-use Rattle.heap_table.specs.declared.phase.Phase.TheVariants.{Quiet}
+use Rattle.std.specs.Prelude.{◌≡◌, ℕ, ◌<◌, ◌≤◌, Bool, true, false, IsTrue, is_some, List, length, replicate}
+use Rattle.std.specs.Prelude.{Option, Some, None}
+use Rattle.tagged_word.specs.Shapes.{shapes_most}
+use Rattle.atomic_table.specs.Seated.{TableId}
+use Rattle.page_space.specs.Extents.{Space, eden_start, layouts_start, marks_start}
+use Rattle.mark_laws.specs.Types.{MainView}
+use Rattle.shared_table.specs.declared.overview.Counts.{Counts}
+use Rattle.shared_table.specs.declared.overview.Overview.{Overview}
+use Rattle.shared_table.specs.declared.phase.Phase.{Phase}
+use Rattle.shared_table.specs.declared.phase.Phase.TheVariants.{Quiet}
+use Rattle.shared_table.specs.Worlds.{beginning}
 
--- the regions of the table, the phase, and the words of the table
+-- What the seat knows of the shared table that its own words do not say: which table it is; whether colours and board
+-- are known, and these; the mutator's view of the open cycle, and what was found at its opening; how many seats are
+-- out, and how many were ever lent.
+pub record Beside : Type 0 where
+  pub id : TableId
+  pub home : Bool
+  pub colours : List ℕ
+  pub board : List ℕ
+  pub view : MainView
+  pub reached : List ℕ
+  pub made : ℕ
+  pub out : ℕ
+  pub lent : ℕ
+
+-- the regions of the heap, the phase, the words of the seat, and what it knows of the shared table, where there is one
 pub record Seat : Type 0 where
   pub space : Space
   pub phase : Phase
   pub table : List ℕ
+  pub shared : Option Beside
 
 -- the words that stand before the marks: pages, eden, segments, roots and layout words; the table has these alone
 abbrev pub heap_words : Seat → List ℕ
 heap_words seat = seat.table
 
--- all words are 0, and the phase is quiet
-abbrev pub fresh : Space → Seat
-fresh space = record { space = space; phase = Quiet; table = replicate (marks_start space) 0 }
+-- what an overview says that own words do not
+abbrev pub beside_in : TableId → Overview → Beside
+beside_in id main = record {
+  id = id;
+  home = main.home;
+  colours = main.colours;
+  board = main.board;
+  view = main.view;
+  reached = main.reached;
+  made = main.made;
+  out = main.out;
+  lent = main.lent;
+}
 
--- Everything but the heap words is the same: the regions, the phase, and how many words there are.
+-- all words are 0, the phase is quiet, and there is no shared table
+abbrev pub fresh : Space → Seat
+fresh space = record { space = space; phase = Quiet; table = replicate (marks_start space) 0; shared = None }
+
+-- how many words the pages have, and how many layout words there are
+abbrev pub counts_of : Space → Counts
+counts_of space = record { old = eden_start space; shapes = shapes_most }
+
+-- A seat that was just opened: all words are 0, in the shared table too, where one was asked for.
+abbrev pub IsFresh : Space → Bool → Seat → Type 0
+IsFresh space false seat = seat ≡ fresh space
+IsFresh space true seat =
+    (id : TableId) × (seat ≡ record (fresh space) { shared = Some (beside_in id (beginning (counts_of space))) })
+
+-- A word at the address stands among the own words alone: where there is a shared table, it is behind the pages and
+-- before the layout words.
+abbrev pub IsOwnAlone : Seat → ℕ → Type 0
+IsOwnAlone seat a = IsTrue (is_some seat.shared) → (eden_start seat.space ≤ a) × (a < layouts_start seat.space)
+
+-- The regions, the phase, and how many heap words there are, stay.
 pub record RestStays (old new : Seat) : Type 0 where
   pub space : new.space ≡ old.space
   pub phase : new.phase ≡ old.phase

@@ -1,14 +1,21 @@
-//! The table of a heap's words, and the seats from which threads read and write them.
+//! The table of a heap's words, and the seat from which the thread that runs commands reads and writes them.
 //!
-//! Model: a `Seat` of `specs/Seats.antt`: the regions, the phase, and the words of the table, which are the
-//! heap words: those before the marks, which commands read and write. Marks and board have no words here.
-//! Invariant: the table has a word for each address before the marks.
+//! Model: a `Seat` of `specs/Seats.antt`: the regions, the phase, the heap words, which are those before the marks, and
+//! what is known of the table that helpers read (`shared_table`), where there is one.
+//! Invariant: there is a word for each address before the marks. In each phase the shared table has the same words in
+//! its pages, and the same layout words.
 #![tactic(auto)]
 
+mod copies;
+mod cycles;
+mod lending;
 mod main_seat;
+mod marking;
+mod own_words;
 mod paused;
-mod phase;
+mod sharing;
 
 pub use main_seat::{HeapTable, MainSeat};
+pub use own_words::OwnWords;
 pub use paused::Paused;
-pub use phase::Phase;
+pub use shared_table::{Choice, Colour, HelperSeat, Phase, SharedTable};

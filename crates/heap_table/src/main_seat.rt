@@ -1,18 +1,21 @@
-//! The seat of the thread that runs commands.
-ghost use Rattle.std.specs.Prelude.{◌≡◌, ◌+◌, ◌<◌, ◌≤◌, ◌++◌, length, take, drop, replicate};
-ghost use Rattle.std.specs.Prelude.{slice_get, slice_set, IfOk, Some};
-ghost use Rattle.page_space.specs.Extents.{marks_start};
-ghost use Rattle.word_store.specs.Copies.{copied};
-ghost use Rattle.heap_table.specs.declared.phase.Phase.TheVariants.{Quiet};
-ghost use Rattle.heap_table.specs.Seats.{fresh, heap_words, RestStays};
+//! The seat of the thread that runs commands: how it is opened, and single words. Stretches of words are in `copies`,
+//! steps of marking in `marking`.
+ghost use Rattle.std.specs.Prelude.{◌≡◌, ◌+◌, ◌<◌, length, slice_get, slice_set};
+ghost use Rattle.std.specs.Prelude.{IfOk, Some, None, is_some, true};
+ghost use Rattle.page_space.specs.Extents.{Space, marks_start};
+ghost use Rattle.shared_table.specs.declared.phase.Phase.TheVariants.{Mark};
+ghost use Rattle.heap_table.specs.Owned.{zeros};
+ghost use Rattle.heap_table.specs.Seats.{IsFresh, IsOwnAlone, heap_words, RestStays};
 ghost use Rattle.heap_table.specs.Staying.{rest_stays_itself, rest_stays_again};
 
+use crate::own_words::OwnWords;
 use crate::paused::Paused;
-use crate::phase::Phase;
-use page_space::{Region, Regions};
+use crate::sharing::share;
+use page_space::{PAGE_WORDS, Regions};
+use shared_table::{Counts, MainSide, Phase, SharedTable};
 use std::alloc::Global;
 use std::marker::Model;
-use tagged_word::NoMemory;
+use tagged_word::{NoMemory, shape};
 use word_store::Reads;
 
 /// The table of a heap's words.
@@ -20,31 +23,28 @@ pub struct HeapTable;
 
 impl HeapTable {
     /// Opens a table with a word of 0 for each address before the marks, and takes the main seat. It takes
-    /// all the memory that these words need. The only failure is out of memory.
-    pub fn open(alloc: Global, regions: Regions) -> Result<MainSeat, NoMemory>
-        ensures opened { IfOk result (λ seat. seat ≡ fresh regions) }
+    /// all the memory that these words need, and a shared table needs, where one is asked for.
+    ///
+    /// # Errors
+    /// Out of memory.
+    pub fn open(alloc: Global, regions: Regions, shared: bool) -> Result<MainSeat, NoMemory>
+        ensures opened { IfOk result (λ seat. IsFresh regions shared seat) }
     {
-        // The sizes are within their limits, so there is a first mark.
-        let _words_count = regions.count();
-        let heap_count = regions.start(Region::Mark(0));
-        let table = vec![in alloc; 0u64; heap_count as usize]?;
-        Ok(MainSeat {
-            regions,
-            phase: Phase::Quiet,
-            heap_count,
-            table,
-        })
+        let own = OwnWords::open(alloc, regions)?;
+        if shared {
+            MainSeat::share(alloc, own)
+        } else {
+            Ok(MainSeat { own, shared: None })
+        }
     }
 }
 
-/// The seat of the thread that runs commands: it has the table of words.
+/// The seat of the thread that runs commands. Its own words stay plain, and it reads no others. Where a shared table
+/// was asked for, each word that is put in a page and each layout word goes to both.
 #[derive(Drop)]
 pub struct MainSeat {
-    regions: Regions,
-    phase: Phase,
-    // How many words stand before the marks. It is computed once, since each step asks for it.
-    heap_count: u32,
-    table: Vec<u64>,
+    pub(crate) own: OwnWords,
+    pub(crate) shared: Option<MainSide>,
 }
 
 impl Model for MainSeat {
@@ -60,11 +60,42 @@ impl Model for MainSeat {
 }
 
 impl MainSeat {
+    /// A seat with a shared table, for own words that are all 0.
+    fn share(alloc: Global, own: OwnWords) -> Result<MainSeat, NoMemory>
+        requires { (regions : Space) × (own ≡ zeros regions) }
+        ensures { (regions : Space) → own ≡ zeros regions → IfOk result (λ seat. IsFresh regions true seat) }
+    {
+        let regions = own.regions();
+        // The sizes are within their limits.
+        let _words_count = regions.count();
+        let counts = Counts {
+            old: regions.sizes().pages * PAGE_WORDS,
+            shapes: shape::COUNT,
+        };
+        let side = SharedTable::open(alloc, counts)?;
+        Ok(MainSeat {
+            own,
+            shared: Some(side),
+        })
+    }
+
     /// The phase of the heap.
+    #[inline(always)]
     pub fn phase(&self) -> Phase
         ensures { result ≡ self.now.phase }
     {
-        self.phase
+        match &self.shared {
+            Some(side) => side.phase(),
+            None => Phase::Quiet,
+        }
+    }
+
+    /// Whether there is a shared table.
+    #[inline(always)]
+    pub fn is_shared(&self) -> bool
+        ensures { result ≡ is_some self.now.shared }
+    {
+        self.shared.is_some()
     }
 
     /// Where the regions of the heap stand.
@@ -73,7 +104,16 @@ impl MainSeat {
         ensures regions { result ≡ self.now.space }
         ensures heap_counted { length (heap_words self.now) ≡ marks_start self.now.space }
     {
-        self.regions
+        self.own.regions()
+    }
+
+    /// The own words. A thread that is lent them reads them while no command runs.
+    #[inline(always)]
+    pub fn own(&self) -> &OwnWords
+        ensures space { result.now.space ≡ self.now.space }
+        ensures words { result.now.words ≡ heap_words self.now }
+    {
+        &self.own
     }
 
     /// The word at an address before the marks.
@@ -82,21 +122,22 @@ impl MainSeat {
         requires { a < marks_start self.now.space }
         ensures of_heap { slice_get (heap_words self.now) a ≡ Some result }
     {
-        self.table[a as usize]
+        self.own.word(a)
     }
 
-    /// Puts a word at an address before the marks. No other word changes.
+    /// Puts a word at an address before the marks, while no cycle is open or while it waits. No other word changes.
     #[inline(always)]
     pub fn put(&mut self, a: u32, word: u64)
-        requires quiet { self.old.phase ≡ Quiet }
+        requires idle { self.old.phase ≡ Mark → ⊥ }
         requires within { a < marks_start self.old.space }
         ensures put { self.new ≡ record self.old { table = slice_set self.old.table a word } }
         ensures heap { heap_words self.new ≡ slice_set (heap_words self.old) a word }
         ensures rest { RestStays self.old self.new }
     {
-        // There is a word for each address before the marks.
-        let _regions = self.regions();
-        self.put_any(a, word);
+        self.own.put(a, word);
+        if let Some(side) = &mut self.shared {
+            share(side, self.own.count(), a, word);
+        }
     }
 
     /// The word at an offset of a cell, before the marks. The sum is taken in 64 bits, which it fits
@@ -106,58 +147,55 @@ impl MainSeat {
         requires { cell + offset < marks_start self.now.space }
         ensures of_heap { slice_get (heap_words self.now) (cell + offset) ≡ Some result }
     {
-        self.table[cell as usize + offset as usize]
+        self.own.slot(cell, offset)
     }
 
-    /// Puts a word at an offset of a cell, before the marks. No other word changes.
+    /// Puts a word at an offset of a cell, before the marks, while no cycle is open or while it waits. No other word
+    /// changes.
     #[inline(always)]
     pub fn put_slot(&mut self, cell: u32, offset: u32, word: u64)
-        requires quiet { self.old.phase ≡ Quiet }
+        requires idle { self.old.phase ≡ Mark → ⊥ }
         requires within { cell + offset < marks_start self.old.space }
         ensures put { let table = slice_set self.old.table (cell + offset) word in
             self.new ≡ record self.old { table = table } }
         ensures heap { heap_words self.new ≡ slice_set (heap_words self.old) (cell + offset) word }
         ensures rest { RestStays self.old self.new }
     {
-        self.table[cell as usize + offset as usize] = word;
+        self.own.put_slot(cell, offset, word);
+        if let Some(side) = &mut self.shared {
+            share(side, self.own.count(), cell + offset, word);
+        }
     }
 
-    /// Copies so many words to another address, all before the marks. No other word changes.
-    #[inline]
-    pub fn copy(&mut self, from: u32, to: u32, count: u32)
-        requires quiet { self.old.phase ≡ Quiet }
-        requires within { from + count ≤ marks_start self.old.space }
-        requires room { to + count ≤ marks_start self.old.space }
-        ensures copied { let table = copied self.old.table from to count in
-            self.new ≡ record self.old { table = table } }
-        ensures heap { heap_words self.new ≡ copied (heap_words self.old) from to count }
+    /// Puts a word among the own ones alone: one that no helper ever reads. No other word changes.
+    #[inline(always)]
+    pub fn put_own(&mut self, a: u32, word: u64)
+        requires own { IsOwnAlone self.old a }
+        requires within { a < marks_start self.old.space }
+        ensures put { self.new ≡ record self.old { table = slice_set self.old.table a word } }
+        ensures heap { heap_words self.new ≡ slice_set (heap_words self.old) a word }
         ensures rest { RestStays self.old self.new }
     {
-        let start = from as usize;
-        self.table
-            .copy_within(start..start + count as usize, to as usize);
+        self.own.put(a, word);
     }
 
-    /// Puts one word at so many addresses from one on, before the marks. No other word changes.
-    #[inline]
-    pub fn fill(&mut self, at: u32, count: u32, word: u64)
-        requires quiet { self.old.phase ≡ Quiet }
-        requires within { at + count ≤ marks_start self.old.space }
-        ensures filled { let words = self.old.table in
-            let table = take at words ++ replicate count word ++ drop (at + count) words in
+    /// The same at an offset of a cell.
+    #[inline(always)]
+    pub fn put_own_slot(&mut self, cell: u32, offset: u32, word: u64)
+        requires own { IsOwnAlone self.old (cell + offset) }
+        requires within { cell + offset < marks_start self.old.space }
+        ensures put { let table = slice_set self.old.table (cell + offset) word in
             self.new ≡ record self.old { table = table } }
-        ensures heap { let words = heap_words self.old in
-            heap_words self.new ≡ take at words ++ replicate count word ++ drop (at + count) words }
+        ensures heap { heap_words self.new ≡ slice_set (heap_words self.old) (cell + offset) word }
         ensures rest { RestStays self.old self.new }
     {
-        let start = at as usize;
-        self.table[start..start + count as usize].fill(word);
+        self.own.put_slot(cell, offset, word);
     }
 
-    /// All words of the table, to read and write while no other thread runs.
+    /// All words of a seat that has no shared table, to read and write.
     #[inline(always)]
     pub fn paused(&mut self) -> Paused<'_>
-        requires { self.old.phase ≡ Quiet }
+        requires { self.old.shared ≡ None }
         ensures lender { result.seat.ghost_name ≡ self.entry.ghost_name }
         ensures seat { result.seat.now ≡ self.old }
     {
@@ -168,22 +206,8 @@ impl MainSeat {
     pub fn into_words(self) -> Vec<u64>
         ensures { result.items ≡ heap_words self }
     {
-        let MainSeat {
-            regions: _,
-            phase: _,
-            heap_count: _,
-            table,
-        } = self;
-        table
-    }
-
-    /// Puts any word of the table, whatever the phase.
-    #[inline(always)]
-    pub(crate) fn put_any(&mut self, a: u32, word: u64)
-        requires { a < length self.old.table }
-        ensures { self.new ≡ record self.old { table = slice_set self.old.table a word } }
-    {
-        self.table[a as usize] = word;
+        let MainSeat { own, shared: _ } = self;
+        own.into_words()
     }
 }
 
@@ -202,7 +226,7 @@ impl Reads for MainSeat {
 
     #[inline(always)]
     fn count(&self) -> u32 {
-        self.heap_count
+        self.own.count()
     }
 
     #[inline(always)]

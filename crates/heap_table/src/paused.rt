@@ -1,11 +1,10 @@
-//! All words of a table, while no other thread runs.
-ghost use Rattle.heap_table.specs.Staying.{StaysLent, stays_lent_itself, stays_lent_again};
+//! All words of a seat that has no shared table.
+ghost use Rattle.heap_table.specs.Staying.{IsUnshared, StaysLent, stays_lent_itself, stays_lent_again, stays_unshared};
 
 use crate::main_seat::MainSeat;
 use word_store::{Reads, Words};
 
-/// All words of the table of a seat. The seat is lent to it, so its phase stays Quiet and the words are
-/// always steady.
+/// All words of a seat that has no shared table. The seat is lent to it, so there is none as long as it lasts.
 #[derive(Drop)]
 pub struct Paused<'s> {
     pub(crate) seat: &'s mut MainSeat,
@@ -14,7 +13,7 @@ pub struct Paused<'s> {
 impl<'s> Reads for Paused<'s> {
     ghost words = { λ paused. paused.seat.now.table };
 
-    ghost IsSteady = { λ _. Unit {0} };
+    ghost IsSteady = { λ paused. IsUnshared paused.seat };
 
     ghost Rest = { λ old new. StaysLent old.seat new.seat };
 
@@ -22,7 +21,7 @@ impl<'s> Reads for Paused<'s> {
 
     ghost rest_again = { λ a b c. stays_lent_again a.seat b.seat c.seat };
 
-    ghost stays_steady = { λ _ _ _ _. tt };
+    ghost stays_steady = { λ a b. stays_unshared a.seat b.seat };
 
     #[inline(always)]
     fn count(&self) -> u32 {
@@ -40,6 +39,8 @@ impl<'s> Reads for Paused<'s> {
 impl<'s> Words for Paused<'s> {
     #[inline(always)]
     fn put(&mut self, a: u32, word: u64) {
-        self.seat.put_any(a, word);
+        // There is a word for each address before the marks.
+        let _regions = self.seat.regions();
+        self.seat.put_own(a, word);
     }
 }

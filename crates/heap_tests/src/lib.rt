@@ -5,6 +5,8 @@
 #![tactic(auto)]
 
 #[cfg(test)]
+mod given_cells;
+#[cfg(test)]
 mod opened_heaps;
 #[cfg(test)]
 mod opened_words;

@@ -4,7 +4,7 @@ ghost use Rattle.std.specs.Prelude.{◌≡◌, ◌<◌, IfOk, IfErr, false, leng
 ghost use Rattle.object_graph.specs.Invariants.{fields_most};
 ghost use Rattle.object_graph.specs.Graphs.{start};
 ghost use Rattle.cell_layout.specs.Cells.{IsCell};
-ghost use Rattle.heap_table.specs.declared.phase.Phase.TheVariants.{Quiet};
+ghost use Rattle.heap_table.specs.Phases.{Quiet};
 ghost use Rattle.heap_table.specs.Seats.{heap_words};
 ghost use Rattle.shape_tree.specs.Shapes.{IsPathShape, LacksPathsFor, Leads, has_name, shape_path};
 ghost use Rattle.shape_tree.specs.Shapes.{stepped};
@@ -57,7 +57,7 @@ fn opened(rt: &impl Abort, alloc: Global, sizes: Sizes) -> Result<Heap, Fail>
 {
     assert!(rt; sizes.are_within(1));
     let regions = Regions::new(sizes, 1);
-    let Ok(seat) = HeapTable::open(alloc, regions) else {
+    let Ok(seat) = HeapTable::open(alloc, regions, false) else {
         return Err(Fail::from("memory was refused"));
     };
     match Heap::open_new(alloc, seat, regions) {

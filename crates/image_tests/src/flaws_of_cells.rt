@@ -1,6 +1,6 @@
 //! Images in which a cell is forged, and the first flaw of each.
 use crate::first_flaws::Group;
-use crate::images::Change::Word;
+use crate::images::Change::{Used, Word};
 use crate::worked::{BESIDE, ENTRY, FREE, LISTS, PROBED, USUAL};
 use crate::worked_ends::{LONG, SPREAD};
 
@@ -203,7 +203,7 @@ pub(crate) const WEAK: [Group; 4] = [
 ];
 
 /// What is no object: numbers, and slots that no object has.
-pub(crate) const OTHERS: [Group; 3] = [
+pub(crate) const OTHERS: [Group; 4] = [
     (&USUAL, &[(&[Word(0, 4_294_967_326)], "0 4294967326 30")]),
     (
         &LISTS,
@@ -255,6 +255,41 @@ pub(crate) const OTHERS: [Group; 3] = [
                     Word(6_156, 26),
                 ],
                 "objects 7 entries 1",
+            ),
+        ],
+    ),
+    // A weak map outgrew the table at 2,060 while a cycle was open. Were that kept, its second pair would keep a key at
+    // 2,066 that was swept: pairs are cleared map by map.
+    (
+        &ENTRY,
+        &[
+            (
+                &[
+                    Used(21),
+                    Word(2_060, 18),
+                    Word(2_061, 2),
+                    Word(2_062, 8_229),
+                    Word(2_063, 10),
+                    Word(2_064, 8_265),
+                    Word(2_065, 10),
+                    Word(2_066, 30),
+                    Word(2_067, 3),
+                ],
+                "2064 8265 3",
+            ),
+            (
+                &[
+                    Used(21),
+                    Word(2_060, 18),
+                    Word(2_061, 2),
+                    Word(2_062, 8_229),
+                    Word(2_063, 10),
+                    Word(2_064, 7),
+                    Word(2_065, 7),
+                    Word(2_066, 30),
+                    Word(2_067, 3),
+                ],
+                "objects 2 entries 1",
             ),
         ],
     ),

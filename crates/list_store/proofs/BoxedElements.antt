@@ -14,7 +14,7 @@ use Rattle.heap_model.specs.Needs.{capacity_at}
 use Rattle.tagged_word.specs.Cells.{is_object_kind}
 use Rattle.heap_model.specs.Slots.{raw_word, RefersToBox}
 use Rattle.write_barrier.specs.MutatorState.{Mutator, heap_of, MainShows, with_word}
-use Rattle.object_cells.specs.Capacities.{ChangesObject}
+use Rattle.object_cells.specs.Capacities.{ChangesObjectUsing}
 use Rattle.object_cells.specs.Made.{IsStoreAt, store_content}
 use Rattle.object_cells.specs.OwnSlots.{ComesFrom, Refills}
 use Rattle.object_cells.specs.declared.content.SlotContent.TheVariants as content
@@ -130,5 +130,5 @@ module _ {old new : Mutator} {graph : Graph} {at slot count : ℕ} {list : ListO
       (element_refills puts_element) (integer_remembers put_it)
 
   -- each store has as many slots as before
-  pub box_keeps : ChangesObject (heap_of old) (heap_of new) cell.at (capacity_at (heap_of old) cell.at)
+  pub box_keeps : ChangesObjectUsing old new 0 cell.at (capacity_at (heap_of old) cell.at)
   box_keeps = integer.capacity_stays put_it known.shown.shows.slot

@@ -10,7 +10,7 @@ use Rattle.object_graph.specs.Meaning.{list_most}
 use Rattle.nursery.specs.Young.{HasRoom}
 use Rattle.heap_model.specs.Needs.{capacity_at}
 use Rattle.write_barrier.specs.MutatorState.{Mutator, heap_of}
-use Rattle.object_cells.specs.Capacities.{ChangesObject}
+use Rattle.object_cells.specs.Capacities.{ChangesObjectUsing}
 use Rattle.object_cells.specs.Uses.{UsesMore}
 use Rattle.object_cells.proofs.NewElements.{pushed_elements_are_new}
 use Rattle.object_cells.proofs.OneElement.{DiffersAt, pushed_differs}
@@ -62,10 +62,11 @@ has_pushed {old} {new} {at = at} {count} {list} {value} {what} known is few size
       room = subst (HasRoom old.young) need pushes.room;
       uses = subst (UsesMore old new) need
           (record { beside = pushes.words.beside; young = pushes.words.young; free = pushes.touches.free });
-      changes = subst (ChangesObject heap (heap_of new) at)
+      changes = subst (λ n. ChangesObjectUsing old new n at (push_capacity held (length list.elements))) need
+          (subst (ChangesObjectUsing old new (content_need (store_content value)) at)
           (sym (ap (λ t. cond t (grown_list (length list.elements)) held) test))
-          (subst (λ a. ChangesObject heap (heap_of new) a (capacity_at heap a)) known.shown.stands
-          (slot_keeps known becomes can.is room enough pushes.room pushes.words));
+          (subst (λ a. ChangesObjectUsing old new (content_need (store_content value)) a (capacity_at heap a))
+          known.shown.stands (slot_keeps known becomes can.is room enough pushes.room pushes.words)));
       shows = slot_shown known becomes can.is room enough pushes.room pushes.words
           (push_remembers known becomes can.is room enough pushes.room pushes.words pushes.touches);
       held = value;
@@ -77,7 +78,8 @@ has_pushed {old} {new} {at = at} {count} {list} {value} {what} known is few size
     let heap = heap_of old in
     let held : ℕ = capacity_at heap at in
     let full_now : count ≡ held = full ∙ sym can.is.capacity in
-    let need : store_head + grown_list count + content_need (store_content value) ≡ push_need held list what =
+    let taken : ℕ = store_head + grown_list count + content_need (store_content value) in
+    let need : taken ≡ push_need held list what =
     sym (need_to_new_store held count value full_now) ∙ push_need_is list held count value known.held.shows is in
     let test : (length list.elements == held) ≡ true = eq-eqb (length list.elements) held (sym is ∙ full_now) in
     let grows : grown_list count ≡ push_capacity held (length list.elements) =
@@ -87,9 +89,10 @@ has_pushed {old} {new} {at = at} {count} {list} {value} {what} known is few size
       room = subst (HasRoom old.young) need pushes.room;
       uses = subst (UsesMore old new) need
           (record { beside = pushes.words.beside; young = pushes.words.young; free = pushes.touches.free });
-      changes = subst (ChangesObject heap (heap_of new) at) grows
-          (subst (λ a. ChangesObject heap (heap_of new) a (grown_list count)) known.shown.stands
-          (to_new_store_becomes known can is few full pushes sizes));
+      changes = subst (λ n. ChangesObjectUsing old new n at (push_capacity held (length list.elements))) need
+          (subst (ChangesObjectUsing old new taken at) grows
+          (subst (λ a. ChangesObjectUsing old new taken a (grown_list count)) known.shown.stands
+          (to_new_store_becomes known can is few full pushes sizes)));
       shows = to_new_store_shown known can is few full pushes (new_store_remembers known can is few full pushes);
       held = value;
       holds = known.held.shows;

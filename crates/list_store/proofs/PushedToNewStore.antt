@@ -21,7 +21,7 @@ use Rattle.heap_model.proofs.CellOutcomes.{object_is_no_filler}
 use Rattle.heap_model.proofs.CellWords.{words_by_kind}
 use Rattle.write_barrier.specs.MutatorState.{Mutator, heap_of, MainShows}
 use Rattle.write_barrier.specs.Recording.{Remembers}
-use Rattle.object_cells.specs.Capacities.{ChangesObject}
+use Rattle.object_cells.specs.Capacities.{ChangesObjectUsing}
 use Rattle.object_cells.specs.Contents.{next_at}
 use Rattle.object_cells.specs.FilledRuns.{FillsRun}
 use Rattle.object_cells.specs.OwnSlots.{ComesFrom}
@@ -217,8 +217,9 @@ module _ {old new : Mutator} {graph : Graph} {at count : ℕ} {list : ListObject
 
   -- the list has as many slots as the store that was made, and each other object as many as before
   pub to_new_store_becomes : AreWithin old.seat.space.sizes old.seat.space.variables
-      → ChangesObject (heap_of old) (heap_of new) cell.at capacity
+      → ChangesObjectUsing old new need cell.at capacity
   to_new_store_becomes sizes =
-      object_grows (taken.taken_beside takes) other (first_in other (made_boxes (store_content value) box)) refl
+      object_grows (taken.taken_beside takes) (own_row filled).row other
+      (first_in other (made_boxes (store_content value) box)) refl
       (omega (arith, (own_run filled).within, marks_fit old.seat.space sizes, marks_start_is old.seat.space))
       (filled_named filled)

@@ -22,7 +22,7 @@ use Rattle.write_barrier.specs.Recording.{Touches, touched_one, touched_then}
 use Rattle.heap_model.specs.Remembered.{Touch}
 use Rattle.heap_model.specs.Slots.{IsSlotWord}
 use Rattle.object_cells.specs.declared.stores.Store.{Store}
-use Rattle.object_cells.specs.Capacities.{ChangesObject}
+use Rattle.object_cells.specs.Capacities.{ChangesObjectUsing}
 use Rattle.object_cells.specs.Contents.{next_at, box_in, filling_at, filling_of, filling_need, FillsSlot}
 use Rattle.object_cells.specs.Made.{IsStoreAt, PutsWords, with_content, content_need, content_word, slot_touch}
 use Rattle.object_cells.specs.Made.{content_touch, store_content, is_wide_held}
@@ -197,8 +197,9 @@ has_put {old} {new} {at = at} {list} {value} {what} store place known is_store b
         young = words.young;
         free = (element_touch store place known is_store below fills needs).free;
       });
-      changes = subst (λ a. ChangesObject heap (heap_of new) a (capacity_at heap a)) known.shown.stands
-          (slot_keeps known becomes is_store below enough room puts);
+      changes = subst (λ n. ChangesObjectUsing old new n at (capacity_at heap at)) need
+          (subst (λ a. ChangesObjectUsing old new (content_need (store_content value)) a (capacity_at heap a))
+          known.shown.stands (slot_keeps known becomes is_store below enough room puts));
       shows = slot_shown known becomes is_store below enough room puts
           (put_remembers known becomes is_store below enough room puts
           (element_touch store place known is_store below fills needs));
@@ -228,8 +229,9 @@ has_put {old} {new} {at = at} {list} {value} {what} store place known is_store b
         young = same_young (put_it w known becomes is_store enough refl read.holds box_of boxed same);
         free = ap (λ (main : Mutator). main.free) same;
       });
-      changes = subst (λ a. ChangesObject heap (heap_of new) a (capacity_at heap a)) known.shown.stands
-          (box_keeps w known becomes is_store enough refl read.holds box_of boxed same);
+      changes = subst (λ n. ChangesObjectUsing old new n at (capacity_at heap at)) need
+          (subst (λ a. ChangesObjectUsing old new 0 a (capacity_at heap a)) known.shown.stands
+          (box_keeps w known becomes is_store enough refl read.holds box_of boxed same));
       shows = box_shown w known becomes is_store enough refl read.holds box_of boxed same;
       store = store;
       is_store = is_store;

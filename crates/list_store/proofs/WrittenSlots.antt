@@ -27,7 +27,7 @@ use Rattle.object_cells.specs.Contents.{next_at}
 use Rattle.object_cells.specs.Made.{IsStoreAt, PutsWords, with_content, content_need, content_word}
 use Rattle.object_cells.specs.Made.{store_content}
 use Rattle.object_cells.specs.declared.stores.Store.{Store}
-use Rattle.object_cells.specs.Capacities.{ChangesObject}
+use Rattle.object_cells.specs.Capacities.{ChangesObjectUsing}
 use Rattle.object_cells.specs.OwnSlots.{ComesFrom}
 use Rattle.object_cells.proofs.MadeBoxes.{made_boxes, made_row, length-with_content, with_content_stays}
 use Rattle.object_cells.proofs.OwnPlaces.{has_own_words}
@@ -255,5 +255,5 @@ module _ {old new : Mutator} {graph : Graph} {at slot count : ℕ} {list : ListO
       (takes_run need puts.beside room puts.young row) puts.paths takes.writes (element_refills puts_element) remembered
 
   -- each store has as many slots as before
-  pub slot_keeps : ChangesObject (heap_of old) (heap_of new) cell.at (capacity_at (heap_of old) cell.at)
-  slot_keeps = object_keeps (taken.taken_beside takes) (beside.slot_stays putting)
+  pub slot_keeps : ChangesObjectUsing old new need cell.at (capacity_at (heap_of old) cell.at)
+  slot_keeps = object_keeps (taken.taken_beside takes) row (beside.slot_stays putting)

@@ -21,7 +21,7 @@ use Rattle.object_cells.specs.declared.stores.Store.{Store}
 use Rattle.object_cells.specs.Contents.{FillsSlot}
 use Rattle.object_cells.specs.Made.{IsStoreAt, store_content}
 use Rattle.object_cells.specs.Uses.{UsesMore}
-use Rattle.object_cells.specs.Capacities.{ChangesObject}
+use Rattle.object_cells.specs.Capacities.{ChangesObjectUsing}
 use Rattle.list_store.specs.Pushes.{PushesAt}
 use Rattle.list_store.specs.declared.stop.PushStop.{PushStop}
 use Rattle.list_store.specs.declared.stop.PushStop.TheVariants as push
@@ -46,7 +46,7 @@ pub record HasPushed (old new : Mutator) (graph : Graph) (at : ℕ) (list : List
   pub few : length list.elements < list_most
   pub room : HasRoom old.young (push_need (capacity_at (heap_of old) at) list value)
   pub uses : UsesMore old new (push_need (capacity_at (heap_of old) at) list value)
-  pub changes : ChangesObject (heap_of old) (heap_of new) at
+  pub changes : ChangesObjectUsing old new (push_need (capacity_at (heap_of old) at) list value) at
       (push_capacity (capacity_at (heap_of old) at) (length list.elements))
   pub shows : MainShows new (relist graph list (list.elements ++ value ∷ []))
   pub held : Held
@@ -76,7 +76,7 @@ pub record HasPut (old new : Mutator) (graph : Graph) (at : ℕ) (list : ListObj
     (value : Value) : Type 0 where
   pub room : HasRoom old.young (put_need list value place)
   pub uses : UsesMore old new (put_need list value place)
-  pub changes : ChangesObject (heap_of old) (heap_of new) at (capacity_at (heap_of old) at)
+  pub changes : ChangesObjectUsing old new (put_need list value place) at (capacity_at (heap_of old) at)
   pub shows : MainShows new (relist graph list (slice_set list.elements place value))
   pub store : Store
   pub is_store : IsStoreAt (heap_of old) at store

@@ -5,6 +5,7 @@ use Rattle.std.proofs.lemmas.Bool.Decides.{nat_tests}
 use Rattle.std.proofs.lemmas.List.Elements.{Contains-get_or}
 use Rattle.tagged_word.specs.Cells.{is_free_kind}
 use Rattle.free_runs.specs.FreeRuns.{row_of}
+use Rattle.free_runs.proofs.PageRows.{page_there, run_of_page}
 use Rattle.heap_model.specs.Types.{Cell}
 use Rattle.heap_model.specs.Heaps.{Heap, HasCell}
 use Rattle.heap_model.specs.Wholeness.{HasRows, IsOwnedKind}
@@ -12,7 +13,7 @@ use Rattle.heap_model.proofs.CellsApart.{IsOfCell, one_at, cells_apart}
 use Rattle.heap_model.proofs.StaysCollectable.{object_not_free, owned_not_free}
 use Rattle.live_cells.specs.Exact.{IsNamedByObject, IsWordOf, IsDeadWord, Fits}
 use Rattle.live_cells.specs.Fitting.{NoRunFitsNone, RunsFit}
-use Rattle.live_cells.proofs.RunWords.{page_there, run_of_page, page_run, none_has}
+use Rattle.live_cells.proofs.RunWords.{page_run, none_has}
 
 -- a cell that an object names is a store, a table or a box
 pub named_is_owned : {heap : Heap} {cell : Cell} {words : List ℕ} → HasCell heap cell words
@@ -23,7 +24,7 @@ named_is_owned {cell = cell} has named =
     subst (λ (one : Cell). IsOwnedKind one.layout.kind) same names.owned
 
 -- a word of a free cell is dead
-free_is_dead : {heap : Heap} {cell : Cell} {words : List ℕ} (at : ℕ) → HasRows heap → HasCell heap cell words
+pub free_is_dead : {heap : Heap} {cell : Cell} {words : List ℕ} (at : ℕ) → HasRows heap → HasCell heap cell words
     → IsTrue (is_free_kind cell.layout.kind) → IsWordOf cell at → IsDeadWord heap at
 free_is_dead {cell = cell} at rows has free word other others has_other of_other =
     let one : IsOfCell cell at = record { from = word.from; below = word.below } in

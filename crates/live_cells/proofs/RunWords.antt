@@ -1,41 +1,14 @@
 -- Where words that stand one behind another in a page are all free, one run has them.
-use Rattle.std.proofs.Common.{◌≡◌, ℕ, ◌+◌, ◌*◌, ◌<◌, ◌≤◌, inl, inr, List, [], ◌∷◌, length}
-use Rattle.std.proofs.Common.{Contains, sym, ap, subst, arith}
+use Rattle.std.proofs.Common.{◌≡◌, ℕ, ◌+◌, ◌*◌, ◌<◌, ◌≤◌, inl, inr, List, [], ◌∷◌}
+use Rattle.std.proofs.Common.{Contains, sym, subst, arith}
 use Rattle.std.proofs.lemmas.Bool.{cases_lt}
-use Rattle.std.proofs.lemmas.List.{get_or_past}
 use Rattle.std.proofs.lemmas.List.Elements.{All-contains}
 use Rattle.tagged_word.proofs.Members.{first_in, rest_in, in_cases}
 use Rattle.page_space.specs.declared.run.Run.{Run}
 use Rattle.page_space.specs.Sizes.{page_words}
-use Rattle.free_runs.specs.FreeRuns.{LiesIn, AscendIn, AreFree, AreShort, FitsNowhere, row_of}
+use Rattle.free_runs.specs.FreeRuns.{AscendIn, AreFree, AreShort, FitsNowhere, row_of}
 use Rattle.free_runs.specs.Laws.{IsOfRun, IsFreeIn, IsFreeWord}
-
--- each of the runs lies between start and end
-pub run_lies : (start end : ℕ) (runs : List Run) (run : Run) → AscendIn start end runs → Contains runs run
-    → LiesIn start end run
-run_lies start end [] run ascend there = absurd (omega (arith, there.1))
-run_lies start end (first ∷ more) run ascend there =
-    elim (in_cases first more run there) [
-      | inl same ↦ subst (LiesIn start end) same ascend.0
-      | inr later ↦
-          let lies = run_lies (first.at + first.words + 1) end more run ascend.1 later in
-          record { from = omega (arith, ascend.0.from, lies.from); some = lies.some; below = lies.below }
-    ]
-
--- the runs of a page are no others where it has some
-pub page_there : (rows : List (List Run)) (page : ℕ) (run : Run) → Contains (row_of rows page) run → page < length rows
-page_there rows page run there =
-    elim (cases_lt page (length rows)) [
-      | inl within ↦ within
-      | inr past ↦ absurd (omega (arith, there.1, ap length (get_or_past rows page [] past)))
-    ]
-
--- the runs of the page lie in it
-pub run_of_page : (rows : List (List Run)) (page : ℕ) (run : Run) → AreFree rows → Contains (row_of rows page) run
-    → LiesIn (page_words * page) (page_words * (page + 1)) run
-run_of_page rows page run free there =
-    run_lies (page_words * page) (page_words * (page + 1)) (row_of rows page) run
-    (free page (page_there rows page run there)) there
+use Rattle.free_runs.proofs.PageRows.{run_lies, page_there, run_of_page}
 
 -- one of the runs has so many words
 pub record HasRunOf (runs : List Run) (n : ℕ) : Type 0 where

@@ -91,15 +91,16 @@ store_room capacity = record { capacity = capacity; entries = 0 }
 module _ {old new : Mutator} {graph after : Graph} {rooms : ℕ → Room} (one : IsAfter old new graph after rooms)
     (fewer : ReachesNoMore graph after) where
   -- the object of a command, which has no table, has the store that the command gives it
-  pub keeps_object : {number at : ℕ} {was : Object} (command : Command) (is : Object) (capacity : ℕ)
+  pub keeps_object : {number at : ℕ} {was : Object} {from to : ℕ} (command : Command) (is : Object) (capacity : ℕ)
       → room_at (heap_of new) at is ≡ store_room (capacity_at (heap_of new) at)
       → slice_get graph.objects number ≡ Some was → IsTrue (is_marked (reach graph) number)
       → IsPlace (heap_of old) number at → after.objects ≡ slice_set graph.objects number is
       → rooms_after graph rooms command number ≡ store_room capacity
       → ((other : ℕ) → other ≢ number → rooms_after graph rooms command other ≡ rooms other)
-      → ChangesObject (heap_of old) (heap_of new) at capacity
+      → ChangesObject (heap_of old) (heap_of new) from to at capacity
       → KeepsStores (heap_of old) (heap_of new) graph after command rooms
-  keeps_object {number} {at} {was} command is capacity bare there reached place objects becomes others changes =
+  keeps_object {number} {at} {was} {from} {to} command is capacity bare there reached place objects becomes others
+      changes =
       keeps_others command number at was is (store_room capacity) one fewer (record {
         there = there;
         reached = reached;
@@ -108,16 +109,18 @@ module _ {old new : Mutator} {graph after : Graph} {rooms : ℕ → Room} (one :
         becomes = becomes;
         others = others;
         own = λ there marked place. ap store_room (sym changes.own) ∙ sym bare;
+        from = from;
+        to = to;
         changes = changes;
       })
 
   -- so it is where the command gives rooms to no other
-  gives_object : {number at : ℕ} {was : Object} (command : Command) (is : Object) (capacity : ℕ)
+  gives_object : {number at : ℕ} {was : Object} {from to : ℕ} (command : Command) (is : Object) (capacity : ℕ)
       → room_at (heap_of new) at is ≡ store_room (capacity_at (heap_of new) at)
       → slice_get graph.objects number ≡ Some was → IsTrue (is_marked (reach graph) number)
       → IsPlace (heap_of old) number at → after.objects ≡ slice_set graph.objects number is
       → rooms_after graph rooms command ≡ with_room rooms number (store_room capacity)
-      → ChangesObject (heap_of old) (heap_of new) at capacity
+      → ChangesObject (heap_of old) (heap_of new) from to at capacity
       → KeepsStores (heap_of old) (heap_of new) graph after command rooms
   gives_object {number} command is capacity bare there reached place objects gives changes =
       keeps_object command is capacity bare there reached place objects
@@ -125,10 +128,10 @@ module _ {old new : Mutator} {graph after : Graph} {rooms : ℕ → Room} (one :
       (λ other apart. ap (λ (r : ℕ → Room). r other) gives ∙ with_room-other rooms number _ other apart) changes
 
   -- `set`
-  pub keeps_set : {x at : ℕ} {plain : PlainObject} (f : ℕ) (v : Operand) (fields : List Field)
+  pub keeps_set : {x at : ℕ} {plain : PlainObject} {from to : ℕ} (f : ℕ) (v : Operand) (fields : List Field)
       → IsKnown as_plain graph x (Ref plain.number) plain → IsPlainAt old graph at plain
       → after.objects ≡ slice_set graph.objects plain.number (Plain plain.cap fields)
-      → ChangesObject (heap_of old) (heap_of new) at (set_capacity (capacity_at (heap_of old) at) plain f)
+      → ChangesObject (heap_of old) (heap_of new) from to at (set_capacity (capacity_at (heap_of old) at) plain f)
       → KeepsStores (heap_of old) (heap_of new) graph after (command.Set x f v) rooms
   keeps_set {x} {at} {plain} f v fields known stands objects changes =
       gives_object (command.Set x f v) (Plain plain.cap fields) _ refl stands.object stands.reached stands.place objects
@@ -139,10 +142,10 @@ module _ {old new : Mutator} {graph after : Graph} {rooms : ℕ → Room} (one :
       (one.has plain.number at _ stands.object stands.reached stands.place)) changes
 
   -- `push`
-  pub keeps_push : {x at : ℕ} {list : ListObject} (v : Operand) (elements : List Value)
+  pub keeps_push : {x at : ℕ} {list : ListObject} {from to : ℕ} (v : Operand) (elements : List Value)
       → IsKnown as_list graph x (Ref list.number) list → IsListAt old graph at list
       → after.objects ≡ slice_set graph.objects list.number (ListOf elements)
-      → ChangesObject (heap_of old) (heap_of new) at
+      → ChangesObject (heap_of old) (heap_of new) from to at
       (push_capacity (capacity_at (heap_of old) at) (length list.elements))
       → KeepsStores (heap_of old) (heap_of new) graph after (command.Push x v) rooms
   keeps_push {x} {at} {list} v elements known stands objects changes =
@@ -175,22 +178,22 @@ module _ {old new : Mutator} {graph after : Graph} {rooms : ℕ → Room} (one :
       (one.has list.number at _ stands.object stands.reached stands.place)
 
   -- `shift`
-  pub keeps_shift : {x at gone : ℕ} {list : ListObject} {k : ℤ} (n : Operand) (elements : List Value)
+  pub keeps_shift : {x at gone : ℕ} {list : ListObject} {k : ℤ} {from to : ℕ} (n : Operand) (elements : List Value)
       → IsKnown as_list graph x (Ref list.number) list → IsIndex graph n k
       → below (suc (length list.elements)) k ≡ Some gone
       → IsListAt old graph at list → after.objects ≡ slice_set graph.objects list.number (ListOf elements)
-      → ChangesObject (heap_of old) (heap_of new) at (capacity_at (heap_of old) at - gone)
+      → ChangesObject (heap_of old) (heap_of new) from to at (capacity_at (heap_of old) at - gone)
       → KeepsStores (heap_of old) (heap_of new) graph after (command.Shift x n) rooms
   keeps_shift {x} n elements known index is stands objects changes =
       gives_object (command.Shift x n) (ListOf elements) _ refl stands.object stands.reached stands.place objects
       (counted_gives n (λ capacity many gone. capacity - gone) known index is stands) changes
 
   -- `trunc`
-  pub keeps_trunc : {x at kept : ℕ} {list : ListObject} {k : ℤ} (n : Operand) (elements : List Value)
+  pub keeps_trunc : {x at kept : ℕ} {list : ListObject} {k : ℤ} {from to : ℕ} (n : Operand) (elements : List Value)
       → IsKnown as_list graph x (Ref list.number) list → IsIndex graph n k
       → below (suc (length list.elements)) k ≡ Some kept
       → IsListAt old graph at list → after.objects ≡ slice_set graph.objects list.number (ListOf elements)
-      → ChangesObject (heap_of old) (heap_of new) at
+      → ChangesObject (heap_of old) (heap_of new) from to at
       (truncated_capacity (capacity_at (heap_of old) at) (length list.elements) kept)
       → KeepsStores (heap_of old) (heap_of new) graph after (command.Trunc x n) rooms
   keeps_trunc {x} n elements known index is stands objects changes =

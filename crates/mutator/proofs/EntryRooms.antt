@@ -21,12 +21,12 @@ use Rattle.mutator.proofs.KeptStores.{IsAfter, keeps_others, with_room-same, wit
 module _ {old new : Mutator} {graph after : Graph} {rooms : ℕ → Room} (one : IsAfter old new graph after rooms)
     (fewer : ReachesNoMore graph after) where
   -- the weak map of a command has the room that the command gives it, of which so many pairs are filled
-  pub keeps_weak : {at : ℕ} {weak : WeakObject} (command : Command) (entries : List Entry) (room : Room)
+  pub keeps_weak : {at : ℕ} {weak : WeakObject} {from to : ℕ} (command : Command) (entries : List Entry) (room : Room)
       → IsWeakAt old graph at weak → after.objects ≡ slice_set graph.objects weak.number (Weak entries)
       → rooms_after graph rooms command ≡ with_room rooms weak.number room
-      → count_at (heap_of new) at ≡ room.entries → ChangesObject (heap_of old) (heap_of new) at room.capacity
+      → count_at (heap_of new) at ≡ room.entries → ChangesObject (heap_of old) (heap_of new) from to at room.capacity
       → KeepsStores (heap_of old) (heap_of new) graph after command rooms
-  keeps_weak {at} {weak} command entries room stands objects gives many changes =
+  keeps_weak {at} {weak} {from} {to} command entries room stands objects gives many changes =
       keeps_others command weak.number at (Weak weak.entries) (Weak entries) room one fewer (record {
         there = stands.object;
         reached = stands.reached;
@@ -39,6 +39,8 @@ module _ {old new : Mutator} {graph after : Graph} {rooms : ℕ → Room} (one :
             let same = sym changes.own in
             let counts = sym many in
             λ i. record { capacity = same i; entries = counts i };
+        from = from;
+        to = to;
         changes = changes;
       })
 
@@ -58,11 +60,11 @@ module _ {old new : Mutator} {graph after : Graph} {rooms : ℕ → Room} (one :
       (one.has weak.number at _ stands.object stands.reached stands.place)
 
   -- `wput`
-  pub keeps_wput : {m at number : ℕ} {weak : WeakObject} (k v : Operand) (value : Value)
+  pub keeps_wput : {m at number : ℕ} {weak : WeakObject} {from to : ℕ} (k v : Operand) (value : Value)
       → IsKnown as_weak graph m (Ref weak.number) weak → value_of graph k ≡ Some (Ref number)
       → IsWeakAt old graph at weak
       → after.objects ≡ slice_set graph.objects weak.number (Weak (with_entry weak.entries number value))
-      → ChangesObject (heap_of old) (heap_of new) at
+      → ChangesObject (heap_of old) (heap_of new) from to at
       (room_put (map_room old at weak) (entry_value weak.entries number)).capacity
       → count_at (heap_of new) at ≡ (room_put (map_room old at weak) (entry_value weak.entries number)).entries
       → KeepsStores (heap_of old) (heap_of new) graph after (command.WPut m k v) rooms
@@ -76,16 +78,16 @@ module _ {old new : Mutator} {graph after : Graph} {rooms : ℕ → Room} (one :
   without_capacity room (Some before) = refl
 
   -- `wdel`
-  pub keeps_wdel : {m at number : ℕ} {weak : WeakObject} (k : Operand)
+  pub keeps_wdel : {m at number : ℕ} {weak : WeakObject} {from to : ℕ} (k : Operand)
       → IsKnown as_weak graph m (Ref weak.number) weak → value_of graph k ≡ Some (Ref number)
       → IsWeakAt old graph at weak
       → after.objects ≡ slice_set graph.objects weak.number (Weak (without_entry weak.entries number))
-      → ChangesObject (heap_of old) (heap_of new) at (capacity_at (heap_of old) at)
+      → ChangesObject (heap_of old) (heap_of new) from to at (capacity_at (heap_of old) at)
       → count_at (heap_of new) at ≡ (room_without (map_room old at weak) (entry_value weak.entries number)).entries
       → KeepsStores (heap_of old) (heap_of new) graph after (command.WDel m k) rooms
-  keeps_wdel {m} {at} {number} {weak} k known key stands objects changes counts =
+  keeps_wdel {m} {at} {number} {weak} {from} {to} k known key stands objects changes counts =
       let found : Option Value = entry_value weak.entries number in
       keeps_weak (command.WDel m k) (without_entry weak.entries number) _ stands objects
       (entry_gives k room_without known key stands) counts
-      (subst (ChangesObject (heap_of old) (heap_of new) at) (sym (without_capacity (map_room old at weak) found))
-      changes)
+      (subst (ChangesObject (heap_of old) (heap_of new) from to at)
+      (sym (without_capacity (map_room old at weak) found)) changes)

@@ -97,10 +97,10 @@ taken_by {main = main} {new} {graph} {x} names f None same taking is taken =
       takes = λ rooms has. record {
         room = room_for_none taking.shows;
         uses = taken.uses;
+        words = still_keeps graph (Del x f) (taken.none is);
         stores = keeps_still (Del x f) (taken.none is) taking.shows still has (λ number marked. marked) refl
             (λ number. refl);
       };
-      words = still_keeps graph (Del x f) (taken.none is);
     })
 taken_by {main = main} {graph = graph} {x} {at} names f (Some value) same taking is taken =
     let plain = taking.plain in

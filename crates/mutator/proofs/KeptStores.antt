@@ -120,7 +120,9 @@ pub record ChangesOne (old new : Mutator) (graph after : Graph) (rooms : ℕ →
   pub others : (number : ℕ) → number ≢ of → rooms_after graph rooms command number ≡ rooms number
   pub own : slice_get after.objects of ≡ Some now → IsTrue (is_marked (reach after) of)
       → IsPlace (heap_of new) of at → room ≡ room_at (heap_of new) at now
-  pub changes : ChangesObject (heap_of old) (heap_of new) at room.capacity
+  pub from : ℕ
+  pub to : ℕ
+  pub changes : ChangesObject (heap_of old) (heap_of new) from to at room.capacity
 
 -- Then all other objects keep their rooms.
 pub keeps_others : {old new : Mutator} {graph after : Graph} {rooms : ℕ → Room} (command : Command) (of at : ℕ)

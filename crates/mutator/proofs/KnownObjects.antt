@@ -1,5 +1,5 @@
 -- What is known of the object that a command names, and that a command is carried out that changes one.
-use Rattle.std.proofs.Common.{◌≡◌, ℕ, List, [], Option, Some, None, Ok, ◌∙◌, ap, subst}
+use Rattle.std.proofs.Common.{◌≡◌, ℕ, ◌+◌, List, [], Option, Some, None, Ok, ◌∙◌, ap, subst}
 use Rattle.std.specs.Prelude.{option_and_then}
 use Rattle.std.specs.FinMap.{get}
 use Rattle.graph_laws.specs.Laws.{MayChange}
@@ -9,13 +9,15 @@ use Rattle.heap_model.specs.Laws.{ReachesNoMore}
 use Rattle.heap_model.specs.Rooms.{Room, HasRooms, need_of}
 use Rattle.heap_model.specs.Slots.{IsPlace}
 use Rattle.nursery.specs.Young.{HasRoom}
-use Rattle.object_cells.specs.Capacities.{ChangesObject}
+use Rattle.object_cells.specs.Capacities.{ChangesObjectUsing}
+use Rattle.object_cells.specs.Contents.{next_at}
 use Rattle.object_cells.specs.Uses.{UsesMore}
 use Rattle.object_graph.specs.Graphs.{Graph, found_at}
 use Rattle.object_graph.specs.Limits.{ideal_limits}
 use Rattle.object_graph.specs.Meaning.{done, meaning}
 use Rattle.write_barrier.specs.MutatorState.{Mutator, heap_of, MainShows}
 use Rattle.mutator.specs.Capacities.{KeepsStores}
+use Rattle.mutator.specs.Changing.{KeepsOtherWords}
 use Rattle.mutator.specs.CarriesOut.{Carries}
 use Rattle.mutator.proofs.ChangedWords.{object_keeps}
 use Rattle.mutator.proofs.KeptStores.{IsAfter}
@@ -47,7 +49,7 @@ pub change_carried : {old main new : Mutator} {graph after : Graph} {command : C
     (names : List (List ℕ)) → main ≡ old → MainShows main graph → MainShows new after
     → meaning ideal_limits names graph command ≡ done after [] → made_for command ≡ None
     → MayChange graph command number → IsPlace (heap_of main) number at
-    → ChangesObject (heap_of main) (heap_of new) at capacity → HasRoom main.young need → UsesMore main new need
+    → ChangesObjectUsing main new need at capacity → HasRoom main.young need → UsesMore main new need
     → ((rooms : ℕ → Room) → HasRooms (heap_of main) graph rooms → need ≡ need_of graph rooms command)
     → ((rooms : ℕ → Room) → IsAfter main new graph after rooms → ReachesNoMore graph after
     → KeepsStores (heap_of main) (heap_of new) graph after command rooms)
@@ -62,8 +64,10 @@ change_carried {main = main} {new} {graph} {after} {command} names same shown sh
       takes = λ rooms has. record {
         room = subst (HasRoom main.young) (needs rooms has) room;
         uses = subst (UsesMore main new) (needs rooms has) uses;
+        words = subst
+            (λ n. KeepsOtherWords (heap_of main) (heap_of new) (next_at main) (next_at main + n) graph command)
+            (needs rooms has) (object_keeps (heap_of new) may place changes.words);
         stores = keeps rooms (record { shows = shown; shown = shows; has = has; stays = changes.stays })
             (reaches_no_more names command [] shown means none);
       };
-      words = object_keeps may place changes.words;
     })

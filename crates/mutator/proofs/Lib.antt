@@ -41,3 +41,4 @@ mod MadeRooms
 mod CommandRooms
 mod EntryRooms
 pub mod MapsNotFull
+mod BoundFirst

@@ -40,6 +40,7 @@ use Rattle.object_cells.proofs.GrantedRests.{left_are_granted, left_avoids_free,
 use Rattle.object_cells.proofs.RestOfWords.{range_beside, variable_beside}
 use Rattle.object_cells.proofs.UnusedWords.{run_before_marks}
 use Rattle.mutator.specs.CarriesOut.{Carries}
+use Rattle.mutator.specs.Changing.{KeepsOtherWords}
 use Rattle.mutator.specs.Making.{new_touch}
 use Rattle.mutator.proofs.NewCells.{NewCell, cell_of}
 use Rattle.mutator.proofs.ChangedWords.{making_keeps}
@@ -267,6 +268,10 @@ module _ {old mid filled new : Mutator} {graph : Graph} {command : Command} {x a
         takes = λ rooms has. record {
           room = subst (HasRoom old.young) (sym (making.need rooms)) room;
           uses = subst (UsesMore old new) (sym (making.need rooms)) made_uses;
+          words = subst
+              (λ n. KeepsOtherWords (heap_of old) (heap_of new) (next_at old) (next_at old + n) graph command)
+              (sym (making.need rooms))
+              (making_keeps graph command x refers made.fits below (bound_heap makes));
           stores = keeps_made command what (record {
             shows = shows;
             shown = made_main;
@@ -274,7 +279,6 @@ module _ {old mid filled new : Mutator} {graph : Graph} {command : Command} {x a
             stays = makes_it.stays;
           }) (reaches_one_more shows.is_graph making) refl (making.gives rooms) makes_it;
         };
-        words = making_keeps graph command x refers made.fits below (bound_heap makes);
       }
 
 -- where there is no room for the cell, the command stops with what it needs

@@ -15,7 +15,7 @@ use Rattle.graph_laws.proofs.NothingNew.{only_made_is_new}
 use Rattle.page_space.specs.Extents.{eden_start}
 use Rattle.nursery.specs.Young.{HasRoom, other_half}
 use Rattle.handle_roots.specs.Roots.{FitsHeld, with_root}
-use Rattle.heap_table.specs.declared.phase.Phase.TheVariants.{Quiet}
+use Rattle.heap_table.specs.Phases.{Quiet}
 use Rattle.heap_table.specs.Seats.{heap_words, RestStays}
 use Rattle.heap_model.specs.Heaps.{Heap}
 use Rattle.heap_model.specs.Changes.{AreFillers}
@@ -165,10 +165,10 @@ binding_carried {old} {new} {graph} after names command x one shows carried none
       takes = λ rooms has. record {
         room = subst (HasRoom old.young) (sym (no_need rooms).0) (room_for_none shows);
         uses = subst (UsesMore old new) (sym (no_need rooms).0) (uses_none x one holds below);
+        words = rebound_keeps graph command x one below (heap_bound x one holds);
         stores = keeps_bound command x one below (heap_bound x one holds) shows shown_after has
             (reaches_no_more names command [] shows carried none) anew.objects (no_need rooms).1;
       };
-      words = rebound_keeps graph command x one below (heap_bound x one holds);
     }
 
 -- so is one that binds a variable to a value that is held, on a heap that is the same as before

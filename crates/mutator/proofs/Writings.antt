@@ -35,8 +35,8 @@ writing_carried {old} {new} {graph} names command text same shows carried no_nee
   takes = λ rooms has. record {
     room = subst (HasRoom old.young) (sym (no_need rooms).0) (room_for_none shows);
     uses = subst (UsesMore old new) (sym (no_need rooms).0) (uses_none_still same);
+    words = still_keeps graph command same;
     stores = keeps_still command same shows (shows_still same shows) has (λ number marked. marked) refl
         (no_need rooms).1;
   };
-  words = still_keeps graph command same;
 }

@@ -1,5 +1,5 @@
 -- What a call of the mutator does.
-use Rattle.std.specs.Prelude.{◌≡◌, ℕ, ◌^◌, List, Result, Ok, Err}
+use Rattle.std.specs.Prelude.{◌≡◌, ℕ, ◌+◌, ◌^◌, List, Result, Ok, Err}
 use Rattle.heap_model.specs.Types.{Command}
 use Rattle.object_graph.specs.Graphs.{Graph}
 use Rattle.object_graph.specs.Meaning.{done, fault, meaning}
@@ -7,6 +7,7 @@ use Rattle.object_graph.specs.Limits.{ideal_limits}
 use Rattle.nursery.specs.Young.{HasRoom}
 use Rattle.heap_model.specs.Rooms.{Room, HasRooms, need_of, FindsMapFull}
 use Rattle.write_barrier.specs.MutatorState.{Mutator, heap_of, MainShows}
+use Rattle.object_cells.specs.Contents.{next_at}
 use Rattle.object_cells.specs.Uses.{UsesMore}
 use Rattle.mutator.specs.Capacities.{KeepsStores}
 use Rattle.mutator.specs.Changing.{KeepsOtherWords}
@@ -17,11 +18,14 @@ use Rattle.mutator.specs.declared.stop.Stop.TheVariants.{Fault, NoRoom, NoClear}
 abbrev pub field_numbers : ℕ
 field_numbers = 2 ^ 32
 
--- Where objects have these rooms, as many words more are used as the command needs, for which there was room, and the
--- objects come to have the rooms that the command gives them.
+-- Where objects have these rooms, as many words more are used as the command needs, for which there was room. Of the
+-- words before the roots only these have changed, and those of the object that the command may change. The objects come
+-- to have the rooms that the command gives them.
 pub record TakesRoom (old new : Mutator) (graph after : Graph) (command : Command) (rooms : ℕ → Room) : Type 0 where
   pub room : HasRoom old.young (need_of graph rooms command)
   pub uses : UsesMore old new (need_of graph rooms command)
+  pub words : KeepsOtherWords (heap_of old) (heap_of new) (next_at old) (next_at old + need_of graph rooms command)
+      graph command
   pub stores : KeepsStores (heap_of old) (heap_of new) graph after command rooms
 
 -- The call carried the command out, and wrote the text: the heap then shows what the command means, the words that it
@@ -32,7 +36,6 @@ pub record HasCarriedOut (names : List (List ℕ)) (old new : Mutator) (graph : 
   pub means : meaning ideal_limits names graph command ≡ done after text
   pub shows : MainShows new after
   pub takes : (rooms : ℕ → Room) → HasRooms (heap_of old) graph rooms → TakesRoom old new graph after command rooms
-  pub words : KeepsOtherWords (heap_of old) (heap_of new) graph command
 
 -- The call carried the command out, or it stops: exactly where the meaning is a fault, or where there is none and the
 -- words are not there where cells are made; or where a weak map is full of pairs, of which some may wait to be cleared,

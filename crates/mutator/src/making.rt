@@ -124,8 +124,9 @@ pub(crate) fn new_counted<C: Counted>(main: &mut Main, x: u32, object: u32) -> R
         shape: C::shape(),
         object,
     };
-    fill_counted(main, run.at, header);
+    // The variable is bound first: while the cell's words are put, its number need not be kept.
     main.hold(x, Held::Ref(run.at));
+    fill_counted(main, run.at, header);
     Ok(())
 }
 

@@ -30,10 +30,10 @@ uses_none {old} beside young free =
     record { beside = beside; young = young ∙ sym (bumped_none old.young); free = free }
 
 -- where nothing has changed, each object has the capacity that it had
-pub nothing_changes : (heap : Heap) (at capacity : ℕ) → capacity_at heap at ≡ capacity
-    → ChangesObject heap heap at capacity
+pub nothing_changes : {from to : ℕ} (heap : Heap) (at capacity : ℕ) → capacity_at heap at ≡ capacity
+    → ChangesObject heap heap from to at capacity
 nothing_changes heap at capacity same = record {
-  words = λ word below not_own not_new. refl;
+  words = λ word below not_own not_made. refl;
   own = same;
   others = λ number other place apart. refl;
   stays = λ number other place. place;

@@ -1,5 +1,5 @@
 -- How many slots the stores of objects have once words of one object's own cells were written.
-use Rattle.std.proofs.Common.{◌≡◌, ℕ, ◌+◌, ◌<◌, inl, inr, List, ◌∷◌, Contains, Some}
+use Rattle.std.proofs.Common.{◌≡◌, ℕ, ◌+◌, ◌<◌, ◌≤◌, inl, inr, List, [], ◌∷◌, Contains, Some}
 use Rattle.std.proofs.Common.{IsTrue, slice_get, refl, sym, ◌∙◌, ap, subst, arith}
 use Rattle.std.proofs.lemmas.Bool.{false≢true}
 use Rattle.std.proofs.lemmas.List.Elements.{Contains-append_right}
@@ -9,11 +9,12 @@ use Rattle.tagged_word.specs.declared.word.Class.TheVariants.{Ref}
 use Rattle.tagged_word.specs.Words.{IsClass}
 use Rattle.tagged_word.specs.Cells.{store_slot, has_length, is_object_kind}
 use Rattle.tagged_word.proofs.Members.{first_in, rest_in, in_cases}
-use Rattle.page_space.specs.Extents.{layouts_start}
+use Rattle.page_space.specs.Extents.{Space, layouts_start}
+use Rattle.cell_layout.specs.Cells.{IsRow}
+use Rattle.cell_layout.proofs.Rows.{row_begins, row_of_none, rows_are_full}
 use Rattle.heap_model.specs.Heaps.{Heap, words_of_cell}
 use Rattle.heap_model.specs.Slots.{reference_word, IsPlace}
 use Rattle.heap_model.specs.Wholeness.{NamesFrom, IsOwnedKind}
-use Rattle.heap_model.specs.Changes.{IsNewlyUsed}
 use Rattle.heap_model.specs.Needs.{capacity_at}
 use Rattle.heap_model.proofs.CellOutcomes.{cells_move, object_is_no_filler, owned_is_no_filler, stays_standing}
 use Rattle.heap_model.proofs.CellsApart.{IsOfCell}
@@ -24,7 +25,6 @@ use Rattle.object_cells.specs.OwnWords.{IsOwnWord}
 use Rattle.object_cells.specs.Capacities.{ChangesObject, WritesBeside, CapacitiesStay, CapacitiesGrow}
 use Rattle.object_cells.proofs.KeptCapacities.{capacity_of_store, slot_keeps, place_keeps, stands_there}
 use Rattle.object_cells.proofs.OwnerWrites.{plain_owns}
-use Rattle.object_cells.proofs.TakenRuns.{run_newly_used}
 use Rattle.object_cells.proofs.OwnSteps.{OwnWriting, own_writing, stood, went_object, came_object, own_places_stay}
 use Rattle.object_cells.proofs.OwnCells.{word_stays}
 use Rattle.object_cells.proofs.WrittenPlaces.{IsStoreOrBox}
@@ -36,6 +36,17 @@ owned_is_store kind.Store owned long = inl refl
 owned_is_store kind.Table owned long = inr refl
 owned_is_store kind.Boxed owned long = absurd (false≢true long)
 owned_is_store _ owned long = absurd owned
+
+-- a word of a row of cells is one of each row of these cells
+of_same_row : {space : Space} {words : List ℕ} {from to start end : ℕ} (cells : List Cell) (at : ℕ)
+    → IsRow space words from to cells → IsRow space words start end cells → from ≤ at → at < to
+    → (start ≤ at) × (at < end)
+of_same_row [] at row other above below = absurd (omega (arith, row_of_none row, above, below))
+of_same_row {space} {words} {from} {to} {start} {end} (cell ∷ cells) at row other above below =
+    let same : from ≡ start = sym (row_begins row).starts ∙ (row_begins other).starts in
+    let full = rows_are_full space words from to (cell ∷ cells) row in
+    let full_too = rows_are_full space words start end (cell ∷ cells) other in
+    (omega (arith, same, above), omega (arith, same, below, full, full_too))
 
 module _ {old new : Heap} {cell came : Cell} {others beside made : List Cell}
     (writing : OwnWriting old new cell came others beside made) where
@@ -87,13 +98,13 @@ module _ {old new : Heap} {cell came : Cell} {others beside made : List Cell}
   }
 
   -- Then the object comes to have a store of so many slots, and each other object keeps the capacity of its own; and
-  -- where only words of these cells have changed and newly used ones, these are words of the object.
-  pub own_capacities : (capacity : ℕ) → capacity_at new cell.at ≡ capacity
+  -- where only words of these cells and of a run have changed, those of the cells are words of the object.
+  pub own_capacities : (from to capacity : ℕ) → capacity_at new cell.at ≡ capacity
       → ((at : ℕ) → at < layouts_start old.space
-      → ((other : Cell) → Contains (cell ∷ others) other → IsInCell at other → ⊥) → (IsNewlyUsed old new at → ⊥)
+      → ((other : Cell) → Contains (cell ∷ others) other → IsInCell at other → ⊥) → (from ≤ at → at < to → ⊥)
       → slice_get new.words at ≡ slice_get old.words at)
-      → ChangesObject old new cell.at capacity
-  own_capacities capacity holds stay = record {
+      → ChangesObject old new from to cell.at capacity
+  own_capacities from to capacity holds stay = record {
     words = λ word below not_own not_new.
         stay word below (λ other there inside. not_own (gone_own other word there inside)) not_new;
     own = holds;
@@ -121,51 +132,57 @@ module _ {owner owned : Kind} {old new : Heap} {cell came : Cell} {others made :
   own = own_writing writing.owns writing.whole writing.writes writing.belong writing.kinds
 
   -- so each other object keeps the capacity of its store
-  others_keep : (capacity : ℕ) → capacity_at new cell.at ≡ capacity → ChangesObject old new cell.at capacity
-  others_keep capacity holds = own_capacities own capacity holds (λ at below apart not_new.
+  others_keep : {from to : ℕ} → IsRow new.space new.words from to made → (capacity : ℕ)
+      → capacity_at new cell.at ≡ capacity → ChangesObject old new from to cell.at capacity
+  others_keep {from} {to} row capacity holds = own_capacities own from to capacity holds (λ at below apart not_made.
       writing.writes.stay at below (λ inside. apart cell (first_in cell others) inside)
       (λ other among inside. apart other (rest_in cell others other among) inside)
-      (λ from high. not_new (run_newly_used at writing.writes.run from high)))
+      (λ low high.
+      let made_there = of_same_row made at writing.writes.made_stand row low high in
+      not_made made_there.0 made_there.1))
 
   -- where the word of its slot for the store stays, the object keeps its capacity too
-  pub object_keeps : slice_get new.words (cell.at + store_slot) ≡ slice_get old.words (cell.at + store_slot)
-      → ChangesObject old new cell.at (capacity_at old cell.at)
-  object_keeps stays =
-      others_keep (capacity_at old cell.at)
+  pub object_keeps : {from to : ℕ} → IsRow new.space new.words from to made
+      → slice_get new.words (cell.at + store_slot) ≡ slice_get old.words (cell.at + store_slot)
+      → ChangesObject old new from to cell.at (capacity_at old cell.at)
+  object_keeps row stays =
+      others_keep row (capacity_at old cell.at)
       (slot_keeps writing.whole
       (λ store words names has is. beside_stands own.step.object own.step.cells has is) (stood own.step)
       own.step.object stays)
 
   -- where that word refers to a store or a table that was made, the object has as many slots or pairs as that
-  pub object_grows : (store : Cell) → Contains made store → store.layout.kind ≡ owned
-      → IsClass (Ref store.at) → slice_get new.words (cell.at + store_slot) ≡ Some (reference_word store.at)
-      → ChangesObject old new cell.at store.length
-  object_grows store among of_kind fits there =
+  pub object_grows : {from to : ℕ} → IsRow new.space new.words from to made → (store : Cell) → Contains made store
+      → store.layout.kind ≡ owned → IsClass (Ref store.at)
+      → slice_get new.words (cell.at + store_slot) ≡ Some (reference_word store.at)
+      → ChangesObject old new from to cell.at store.length
+  object_grows row store among of_kind fits there =
       let has = own.step.cells.comes store (Contains-append_right (came ∷ others) made store among) in
       let is : IsStoreKind store.layout.kind =
       subst IsStoreKind (sym of_kind) (owned_is_store owned writing.owns.belongs writing.owns.long) in
-      others_keep store.length (capacity_of_store cell.at has is fits there)
+      others_keep row store.length (capacity_of_store cell.at has is fits there)
 
 -- so an object keeps its capacity where that word stays
 pub capacities_stay : CapacitiesStay
-capacities_stay owner owned old new cell came others made writing stays = object_keeps writing stays
+capacities_stay owner owned old new cell came others made beside stays =
+    object_keeps beside beside.writes.made_stand stays
 
 -- and has as many slots as a store or table that was made, where it refers to this
 pub capacities_grow : CapacitiesGrow
-capacities_grow owner owned old new cell came others made store writing among of_kind fits there =
-    object_grows writing store among of_kind fits there
+capacities_grow owner owned old new cell came others made store beside among of_kind fits there =
+    object_grows beside beside.writes.made_stand store among of_kind fits there
 
 -- a plain object keeps its capacity where one word was put, and not that one
-pub one_keeps : {old new : Heap} {cell : Cell} {shape at word : ℕ} {others made : List Cell}
-    → PutsOwn old new cell shape at word others made
+pub one_keeps : {old new : Heap} {cell : Cell} {shape at word from to : ℕ} {others made : List Cell}
+    → PutsOwn old new cell shape at word others made → IsRow new.space new.words from to made
     → ((other : Cell) → Contains others other → (slot : ℕ) × NamesFrom old cell slot other.at)
     → ((other : Cell) → Contains made other → IsStoreOrBox other.layout.kind)
-    → ChangesObject old new cell.at (capacity_at old cell.at)
-one_keeps {cell = cell} puts belong kinds =
+    → ChangesObject old new from to cell.at (capacity_at old cell.at)
+one_keeps {cell = cell} puts row belong kinds =
     let within : store_slot < cell.size = omega (arith, plain_cell_size puts.has puts.plain) in
     let of_cell : IsOfCell cell (cell.at + store_slot) = record { from = omega arith; below = omega (arith, within) } in
     object_keeps
-    (record { owns = plain_owns; whole = puts.whole; writes = puts.writes; belong = belong; kinds = kinds })
+    (record { owns = plain_owns; whole = puts.whole; writes = puts.writes; belong = belong; kinds = kinds }) row
     (word_stays (cell.at + store_slot) puts.whole puts.one puts.has
     (object_is_no_filler cell.layout.kind (ap is_object_kind puts.plain)) of_cell (λ same. omega (arith, same))
     puts.not_store)

@@ -25,7 +25,7 @@ use Rattle.heap_model.proofs.CellOutcomes.{cells_move, owned_is_no_filler, stays
 use Rattle.heap_model.proofs.CellsApart.{IsOfCell, first_of_cell, cells_apart}
 use Rattle.heap_model.proofs.RowCovers.{stretch_alike}
 use Rattle.write_barrier.specs.MutatorState.{Mutator, heap_of, IsTied, with_word}
-use Rattle.object_cells.specs.Capacities.{ChangesObject, WritesBeside}
+use Rattle.object_cells.specs.Capacities.{ChangesObjectUsing, WritesBeside}
 use Rattle.object_cells.specs.CellWrites.{Owns, IsWrittenOfKind, WritesOwnCells}
 use Rattle.object_cells.specs.Contents.{next_at}
 use Rattle.object_cells.specs.OwnSlots.{ComesFrom, Refills}
@@ -219,8 +219,8 @@ module _ {owner owned : Kind} {old new : Mutator} {cell : Cell} {word box : ℕ}
 
   -- so it keeps its capacity
   pub capacity_stays : {store : ℕ} → HasWord (words_of_cell (heap_of old) cell) store_slot store
-      → ChangesObject (heap_of old) (heap_of new) cell.at (capacity_at (heap_of old) cell.at)
-  capacity_stays slot = object_keeps beside (slot_stays slot)
+      → ChangesObjectUsing old new 0 cell.at (capacity_at (heap_of old) cell.at)
+  capacity_stays slot = object_keeps beside (row_of_none (heap_of new) (next_at old)) (slot_stays slot)
 
   -- the box holds the integer
   box_now : HasCell (heap_of new) one_box (words_of_cell (heap_of new) one_box)

@@ -10,7 +10,7 @@ use Rattle.heap_table.specs.Seats.{RestStays}
 use Rattle.heap_model.specs.Types.{Run, Cell}
 use Rattle.heap_model.specs.Heaps.{Heap}
 use Rattle.heap_model.specs.Wholeness.{HasRows}
-use Rattle.heap_model.specs.Changes.{AreFillers, IsRunOf, IsNewlyUsed}
+use Rattle.heap_model.specs.Changes.{AreFillers, IsRunOf}
 use Rattle.heap_model.proofs.BoundHeaps.{none_in}
 use Rattle.write_barrier.specs.MutatorState.{Mutator, heap_of, IsTied}
 use Rattle.object_cells.specs.Contents.{next_at}
@@ -138,15 +138,7 @@ pub taken_run : {old : Mutator} (new : Mutator) (need : ℕ) → IsTied old → 
     → IsRunOf (heap_of old) (heap_of new) (next_at old) (next_at old + need)
 taken_run {old} new need tied room young space = taken_by new need tied (taking old.young need room) young
 
--- each address of a run is newly used
-pub run_newly_used : {old new : Heap} {from to : ℕ} (at : ℕ) → IsRunOf old new from to → from ≤ at → at < to
-    → IsNewlyUsed old new at
-run_newly_used at (IsRunOf.of_eden begins ends grown) above below =
-    IsNewlyUsed.of_eden (omega (arith, begins, above)) (omega (arith, ends, below))
-run_newly_used at (IsRunOf.of_page forward same fillers) above below =
-    IsNewlyUsed.of_page (fillers.each at above below) (omega (arith, fillers.of_page, below))
-
--- and cells that are a row of what was taken stand in it
+-- cells that are a row of what was taken stand in it
 pub takes_run : {old new : Mutator} {words : List ℕ} {made : List Cell} (need : ℕ) → RestStays old.seat new.seat
     → HasRoom old.young need → new.young ≡ bumped old.young need
     → IsRow new.seat.space words (next_at old) (next_at old + need) made → TakesRun old new made

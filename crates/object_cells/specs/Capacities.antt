@@ -8,15 +8,17 @@ use Rattle.heap_model.specs.Heaps.{Heap, HasCell}
 use Rattle.heap_model.specs.Slots.{reference_word, IsPlace}
 use Rattle.heap_model.specs.Wholeness.{Whole, NamesFrom}
 use Rattle.heap_model.specs.Needs.{capacity_at}
+use Rattle.write_barrier.specs.MutatorState.{Mutator, heap_of}
+use Rattle.object_cells.specs.Contents.{next_at}
 use Rattle.object_cells.specs.CellWrites.{Owns, WritesOwnCells}
 use Rattle.object_cells.specs.OwnWords.{ChangesOwnWords}
 
--- Of the words before the layout words only those of the object at the address have changed, and newly used ones. The
--- object has a store of so many slots, or a table of so many pairs, and each other object one of as many as before.
--- Each object stands where it stood, with the same words in its own cell but for the one that is changed, and none is
--- made.
-pub record ChangesObject (old new : Heap) (at capacity : ℕ) : Type 0 where
-  pub words : ChangesOwnWords old new at
+-- Of the words before the layout words only those of the object at the address have changed, and those of the run in
+-- which cells were made, from an address up to another. The object has a store of so many slots, or a table of so many
+-- pairs, and each other object one of as many as before. Each object stands where it stood, with the same words in its
+-- own cell but for the one that is changed, and none is made.
+pub record ChangesObject (old new : Heap) (from to at capacity : ℕ) : Type 0 where
+  pub words : ChangesOwnWords old new from to at
   pub own : capacity_at new at ≡ capacity
   pub others : (number other : ℕ) → IsPlace old number other → other ≢ at
       → capacity_at new other ≡ capacity_at old other
@@ -24,6 +26,12 @@ pub record ChangesObject (old new : Heap) (at capacity : ℕ) : Type 0 where
   pub stand : (cell : Cell) (words : List ℕ) → HasCell old cell words → IsTrue (is_object_kind cell.layout.kind)
       → cell.at ≢ at → HasCell new cell words
   pub none_made : (number other : ℕ) → IsPlace new number other → IsPlace old number other
+
+-- The object at the address was changed so, and the run in which cells were made is that of so many words, from where
+-- the next cell is made.
+abbrev pub ChangesObjectUsing : Mutator → Mutator → (need at capacity : ℕ) → Type 0
+ChangesObjectUsing old new need at capacity =
+    ChangesObject (heap_of old) (heap_of new) (next_at old) (next_at old + need) at capacity
 
 -- Words of one object's own cells were written in a whole heap, and stores, tables and boxes made.
 pub record WritesBeside (owner owned : Kind) (old new : Heap) (cell came : Cell) (others made : List Cell)
@@ -38,14 +46,15 @@ pub record WritesBeside (owner owned : Kind) (old new : Heap) (cell came : Cell)
 abbrev pub CapacitiesStay : Type 0
 CapacitiesStay =
     (owner owned : Kind) (old new : Heap) (cell came : Cell) (others made : List Cell)
-    → WritesBeside owner owned old new cell came others made
+    → (beside : WritesBeside owner owned old new cell came others made)
     → slice_get new.words (cell.at + store_slot) ≡ slice_get old.words (cell.at + store_slot)
-    → ChangesObject old new cell.at (capacity_at old cell.at)
+    → ChangesObject old new beside.writes.from beside.writes.to cell.at (capacity_at old cell.at)
 
 -- Where that word refers to a store or table that was made, the object has as many slots or pairs as this one.
 abbrev pub CapacitiesGrow : Type 0
 CapacitiesGrow =
     (owner owned : Kind) (old new : Heap) (cell came : Cell) (others made : List Cell) (store : Cell)
-    → WritesBeside owner owned old new cell came others made → Contains made store → store.layout.kind ≡ owned
-    → store.at < 2 ^ 32 → slice_get new.words (cell.at + store_slot) ≡ Some (reference_word store.at)
-    → ChangesObject old new cell.at store.length
+    → (beside : WritesBeside owner owned old new cell came others made) → Contains made store
+    → store.layout.kind ≡ owned → store.at < 2 ^ 32
+    → slice_get new.words (cell.at + store_slot) ≡ Some (reference_word store.at)
+    → ChangesObject old new beside.writes.from beside.writes.to cell.at store.length

@@ -17,17 +17,19 @@ pub fn laws_of_refills()
 {}
 
 /// Where an object has the header that it had, or a plain one that of a shape with the same cap, and
-/// else only words of its cell, of some stores or tables and boxes, newly used words and layout words
-/// of new shapes have changed, cells stand in rows again: the object's, or what it became, the stores,
-/// tables and boxes as they were, those that were made, and all others as before.
+/// else only words of its cell, of some stores or tables and boxes, of the run in which cells were
+/// made and layout words of new shapes have changed, cells stand in rows again: the object's, or what
+/// it became, the stores, tables and boxes as they were, those that were made, and all others as
+/// before.
 pub fn laws_of_writes()
     ensures cells { WritesKeepCells }
 {}
 
 /// Where words were so written, of cells that belong to the object, and stores or tables and boxes
-/// made, only words of the object have changed. It keeps the capacity of its store or table where the
-/// word that refers to it stays, and has that of one that was made where it refers to this one. Each
-/// other object keeps its capacity; each stands where it stood, and none is made.
+/// made, only words of the object have changed, and those of the run in which these were made. It
+/// keeps the capacity of its store or table where the word that refers to it stays, and has that of
+/// one that was made where it refers to this one. Each other object keeps its capacity; each stands
+/// where it stood, and none is made.
 pub fn laws_of_capacities()
     ensures stay { CapacitiesStay }
     ensures grow { CapacitiesGrow }

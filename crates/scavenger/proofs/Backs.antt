@@ -2,10 +2,11 @@
 use Rattle.std.proofs.Common.{◌≡◌, ℕ, ◌+◌, ◌-◌, ◌*◌, ◌<◌, ◌≤◌, inl, inr, List, Contains, refl, ap, subst, arith}
 use Rattle.page_space.specs.Sizes.{page_words}
 use Rattle.free_runs.specs.FreeRuns.{AreFree, TakesFront, row_of}
+use Rattle.free_runs.proofs.PageRows.{run_lies, page_there}
 use Rattle.heap_model.specs.Types.{Run}
 use Rattle.scavenger.specs.Starts.{IsFreeRun}
 use Rattle.scavenger.specs.Backs.{AreBacks}
-use Rattle.scavenger.proofs.PagesRuns.{whole, whole_is, lies_in_row, run_in, run_of, row_there, left_from, still_free}
+use Rattle.scavenger.proofs.PagesRuns.{whole, whole_is, run_in, run_of, left_from, still_free}
 
 -- each run is the back of itself
 pub backs_of_all : (rows : List (List Run)) → AreBacks rows rows
@@ -36,9 +37,9 @@ run_of_page rows page at run free is from below above before =
 pub front_leaves_backs : {rows left : List (List Run)} {n : ℕ} {taken : Run} → TakesFront rows left n taken → 1 ≤ n
     → AreFree rows → AreBacks rows left
 front_leaves_backs {rows} {left} {n} takes some free page run among =
-    let there = row_there left page run among in
+    let there = page_there left page run among in
     let start : ℕ = page_words * page in
-    let lies = lies_in_row start (page_words * (page + 1)) (row_of left page) run
+    let lies = run_lies start (page_words * (page + 1)) (row_of left page) run
     (still_free takes some free page there) among in
     let before : run.at < start + page_words = omega (arith, lies.some, lies.below) in
     elim (left_from takes run (run_of left page run there among)) [

@@ -6,7 +6,7 @@ use Rattle.page_space.specs.RegionLaws.{IsSpace}
 use Rattle.object_graph.specs.Graphs.{Graph}
 use Rattle.nursery.specs.Young.{IsYoung, other_half}
 use Rattle.free_runs.specs.FreeRuns.{AreFree}
-use Rattle.heap_table.specs.declared.phase.Phase.TheVariants.{Quiet}
+use Rattle.heap_table.specs.Phases.{Quiet}
 use Rattle.heap_model.proofs.RememberedSlots.{page_slot_below}
 use Rattle.write_barrier.specs.MutatorState.{Mutator, MainShows}
 use Rattle.scav_copy.specs.Places.{Fixed, StoodAt}

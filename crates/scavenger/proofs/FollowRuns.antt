@@ -1,72 +1,35 @@
 -- Each free run lies in one of the rooms that copies may go to.
-use Rattle.std.proofs.Common.{◌≡◌, ◌≢◌, ℕ, ◌+◌, ◌-◌, ◌*◌, ◌<◌, ◌≤◌, inl, inr, List, [], ◌∷◌, Contains}
-use Rattle.std.proofs.Common.{refl, ap, subst, arith}
+use Rattle.std.proofs.Common.{◌≡◌, ℕ, ◌+◌, ◌*◌, ◌<◌, ◌≤◌, inl, inr, List, Contains}
+use Rattle.std.proofs.Common.{refl, subst, arith}
 use Rattle.std.proofs.lemmas.Bool.{cases_lt}
-use Rattle.tagged_word.proofs.Members.{in_cases}
 use Rattle.page_space.specs.Sizes.{page_words}
-use Rattle.free_runs.specs.FreeRuns.{AscendIn, AreFree, row_of}
+use Rattle.free_runs.specs.FreeRuns.{AreFree, row_of}
 use Rattle.free_runs.specs.Laws.{IsOfRun, IsFreeWord}
+use Rattle.free_runs.proofs.PageRows.{none_behind}
 use Rattle.heap_model.specs.Types.{Run}
 use Rattle.scav_copy.specs.declared.places.Home.{Home}
 use Rattle.scav_copy.specs.declared.places.Room.{Room}
 use Rattle.scav_copy.specs.Places.{Fixed}
 use Rattle.scav_copy.specs.Copies.{LiesInRoom}
-use Rattle.scav_copy.proofs.Spots.{none_in}
 use Rattle.scavenger.specs.Starts.{Start, IsBegun, IsFreeRun, room_of_run}
 use Rattle.scavenger.specs.Filling.{CopiesFillRooms}
 use Rattle.scavenger.proofs.OneSegment.{rooms_tell}
-use Rattle.scavenger.proofs.PagesRuns.{lies_in_row, run_in, one_run, run_of_word, word_of_run}
-
--- no run of a row begins where another ends
-none_touches : (start end : ℕ) (runs : List Run) (run other : Run) → AscendIn start end runs → Contains runs run
-    → Contains runs other → run.at + run.words ≢ other.at
-none_touches start end [] run other ascend there there_too same = absurd (none_in run there)
-none_touches start end (first ∷ more) run other ascend there there_too same =
-    let behind = first.at + first.words + 1 in
-    elim (in_cases first more run there) [
-      | inl is ↦
-          let ends : first.at + first.words ≡ run.at + run.words = ap (λ (one : Run). one.at + one.words) is in
-          elim (in_cases first more other there_too) [
-            | inl is_too ↦
-                let at : first.at ≡ other.at = ap (λ (one : Run). one.at) is_too in
-                omega (arith, ends, at, same, ascend.0.some)
-            | inr later ↦
-                let lies = lies_in_row behind end more other ascend.1 later in omega (arith, ends, same, lies.from)
-          ]
-      | inr later ↦ elim (in_cases first more other there_too) [
-        | inl is_too ↦
-            let at : first.at ≡ other.at = ap (λ (one : Run). one.at) is_too in
-            let lies = lies_in_row behind end more run ascend.1 later in omega (arith, at, same, lies.from)
-        | inr later_too ↦ none_touches behind end more run other ascend.1 later later_too same
-      ]
-    ]
+use Rattle.scavenger.proofs.PagesRuns.{run_in, run_of_word, word_of_run}
 
 -- where a run ends, in its page, no word is free
 behind_is_taken : (rows : List (List Run)) (run : Run) → (free : AreFree rows) → (is : IsFreeRun rows run)
     → run.at + run.words < page_words * (run_in rows run free is).page + page_words
     → IsFreeWord rows (run.at + run.words) → ⊥
 behind_is_taken rows run free is within word =
-    let end : ℕ = run.at + run.words in
-    let has = run_of_word rows end word in
+    let has = run_of_word rows (run.at + run.words) word in
     let other : Run = has.run in
     let one = run_in rows run free is in
     let two = run_in rows other free has.is in
-    elim (cases_lt other.at end) [
-      | inl before ↦
-          let same : run ≡ other =
-          one_run rows run other (end - 1) free is has.is
-          (record { from = omega (arith, one.some); below = omega (arith, one.some) })
-          (record { from = omega (arith, before); below = omega (arith, has.of_run.below) }) in
-          let ends : run.at + run.words ≡ other.at + other.words = ap (λ (r : Run). r.at + r.words) same in
-          omega (arith, ends, has.of_run.below)
-      | inr from ↦
-          let pages : two.page ≡ one.page =
-          omega (arith, one.from, one.some, within, two.from, two.below, has.of_run.from, has.of_run.below) in
-          none_touches (page_words * one.page) (page_words * (one.page + 1)) (row_of rows one.page) run other
-          (free one.page one.there) one.among
-          (subst (λ (page : ℕ). Contains (row_of rows page) other) pages two.among)
-          (omega (arith, from, has.of_run.from))
-    ]
+    let pages : two.page ≡ one.page =
+    omega (arith, one.from, one.some, within, two.from, two.below, has.of_run.from, has.of_run.below) in
+    none_behind (page_words * one.page) (page_words * (one.page + 1)) (row_of rows one.page) run other
+    (free one.page one.there) one.among (subst (λ (page : ℕ). Contains (row_of rows page) other) pages two.among)
+    has.of_run
 
 -- a free run lies in one of the free runs of before
 record LiesInRun (rows : List (List Run)) (run : Run) : Type 0 where

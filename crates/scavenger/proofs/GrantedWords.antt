@@ -1,14 +1,15 @@
 -- Words of a free cell of a page are granted: which words of the heap stay, and which cells stand in those of the free
 -- one.
 use Rattle.std.proofs.Common.{◌≡◌, ℕ, zero, suc, ◌+◌, ◌-◌, ◌/◌, ◌<◌, ◌≤◌, ◌⊎◌, inl, inr, List, [], ◌∷◌, ◌++◌, Contains}
-use Rattle.std.proofs.Common.{true, length, slice_get, IsTrue, refl, sym, ◌∙◌, subst, arith}
-use Rattle.std.specs.Prelude.{replicate}
+use Rattle.std.proofs.Common.{true, length, slice_get, IsTrue, refl, sym, ◌∙◌, ap, subst, arith}
+use Rattle.std.specs.Prelude.{replicate, slice_set}
 use Rattle.std.proofs.lemmas.Bool.{cases_eq}
 use Rattle.std.proofs.lemmas.List.{length-replicate}
 use Rattle.std.proofs.lemmas.List.Elements.{Contains-append_left, Contains-append_right, Contains-append_cases}
 use Rattle.tagged_word.specs.Headers.{header_bits}
-use Rattle.tagged_word.specs.Cells.{is_free_kind}
+use Rattle.tagged_word.specs.Cells.{is_free_kind, length_offset}
 use Rattle.tagged_word.proofs.Members.{first_in, one_in}
+use Rattle.object_graph.proofs.Lists.{slice_get-set_other}
 use Rattle.page_space.specs.Sizes.{page_words}
 use Rattle.page_space.specs.Extents.{eden_start, layouts_start}
 use Rattle.page_space.proofs.CellAddresses.{page_ends}
@@ -28,9 +29,10 @@ use Rattle.heap_model.proofs.CellsApart.{has_is_cell}
 use Rattle.heap_model.proofs.LayoutsStay.{SayLayouts}
 use Rattle.heap_model.proofs.Rewrites.{row_of_one}
 use Rattle.write_barrier.specs.FreeCells.{filler_header, with_free_cell}
+use Rattle.write_barrier.specs.MutatorState.{gap_header}
 use Rattle.write_barrier.proofs.FreeCells.{free_cell_by, free_cell, free_cell_is_free, free_cell_no_number}
 use Rattle.write_barrier.proofs.FreeCells.{length-free_cell, beside_free_cell, shapes_have_free, filler_there}
-use Rattle.write_barrier.proofs.FreeCells.{free_cell_within}
+use Rattle.write_barrier.proofs.FreeCells.{free_cell_within, PutAs, put_as}
 use Rattle.write_barrier.proofs.PutRanges.{length-with_range, with_range_before, with_range_behind, with_range_filled}
 use Rattle.scavenger.specs.Granting.{granted_words}
 use Rattle.scavenger.proofs.PagesWords.{cell_in_page}
@@ -41,6 +43,21 @@ pub record Granting (heap : Heap) (run : Run) (n : ℕ) : Type 0 where
   pub free : IsFreeCell heap run
   pub some : 1 ≤ n
   pub enough : n ≤ run.words
+
+-- a word behind the header and the length of a free cell stays
+behind_free_head : (words : List ℕ) (at count a : ℕ) → at + length_offset < a
+    → slice_get (with_free_cell words at count) a ≡ slice_get words a
+behind_free_head words at count a behind = elim (put_as words at count) [
+  | PutAs.none is same ↦ ap (λ all. slice_get all a) same
+  | PutAs.filler is same ↦
+      ap (λ all. slice_get all a) same
+      ∙ slice_get-set_other words at a (header_bits filler_header) (λ here. omega (arith, behind, here))
+  | PutAs.gap some same ↦
+      ap (λ all. slice_get all a) same
+      ∙ slice_get-set_other (slice_set words at (header_bits gap_header)) (at + length_offset) a count
+      (λ here. omega (arith, behind, here))
+      ∙ slice_get-set_other words at a (header_bits gap_header) (λ here. omega (arith, behind, here))
+]
 
 -- so many fillers from an address on
 abbrev pub fillers_from : ℕ → ℕ → List Cell
@@ -151,6 +168,11 @@ module _ {heap : Heap} {run : Run} {n : ℕ} (granting : Granting heap run n) wh
         ∙ beside_free_cell heap.words (run.at + n) (run.words - n) at
         (inr (omega (arith, behind, granting.enough)))
   ]
+
+  -- so does one of the run behind the head of the free cell over what is left
+  pub rest_stays : (at : ℕ) → run.at + n + length_offset < at → slice_get now at ≡ slice_get heap.words at
+  rest_stays at behind =
+      rest_word at (omega (arith, behind)) ∙ behind_free_head heap.words (run.at + n) (run.words - n) at behind
 
   -- the layout words are those of the shapes
   pub say_layouts : SayLayouts heap.space now heap.paths

@@ -12,7 +12,7 @@ use Rattle.cell_layout.specs.Cells.{IsCell}
 use Rattle.free_runs.specs.FreeRuns.{TakesFront}
 use Rattle.nursery.specs.Young.{Young}
 use Rattle.heap_model.specs.Types.{Cell, Run}
-use Rattle.heap_table.specs.declared.phase.Phase.TheVariants.{Quiet}
+use Rattle.heap_table.specs.Phases.{Quiet}
 use Rattle.heap_table.specs.Seats.{heap_words}
 use Rattle.write_barrier.specs.MutatorState.{Mutator}
 use Rattle.write_barrier.specs.FreeCells.{with_free_cell}

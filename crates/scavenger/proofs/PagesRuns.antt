@@ -2,56 +2,22 @@
 use Rattle.std.proofs.Common.{◌≡◌, ◌≢◌, ℕ, ◌+◌, ◌-◌, ◌*◌, ◌<◌, ◌≤◌, ◌⊎◌, inl, inr}
 use Rattle.std.proofs.Common.{List, [], ◌∷◌, ◌++◌, length, Contains}
 use Rattle.std.proofs.Common.{sym, ◌∙◌, ap, subst, arith}
-use Rattle.std.proofs.lemmas.Bool.{cases_eq, cases_lt}
-use Rattle.std.proofs.lemmas.List.{get_or-set_same, get_or-set_other, get_or_past, get_or_default, length-set}
+use Rattle.std.proofs.lemmas.Bool.{cases_eq}
+use Rattle.std.proofs.lemmas.List.{get_or-set_same, get_or-set_other, get_or_default, length-set}
 use Rattle.std.proofs.lemmas.List.Elements.{Contains-append_left, Contains-append_right, Contains-append_cases}
 use Rattle.tagged_word.proofs.Members.{first_in, one_in, in_cases}
 use Rattle.page_space.specs.Sizes.{page_words}
 use Rattle.cell_layout.proofs.OneCell.{cells_have_words}
-use Rattle.free_runs.specs.FreeRuns.{LiesIn, AscendIn, AreFree, TakesFront, row_of, left_of}
+use Rattle.free_runs.specs.FreeRuns.{AreFree, TakesFront, row_of, left_of}
 use Rattle.free_runs.specs.Laws.{IsOfRun, IsFreeWord}
 use Rattle.free_runs.proofs.Cuts.{left_is}
+use Rattle.free_runs.proofs.PageRows.{run_lies, one_in_row, page_there}
 use Rattle.free_runs.proofs.Pages.{page_put, row_taken}
 use Rattle.free_runs.proofs.TakenWords.{taken_are_apart}
 use Rattle.heap_model.specs.Types.{Run}
 use Rattle.scav_copy.proofs.Spots.{none_in}
 use Rattle.scavenger.specs.Starts.{IsFreeRun}
 use Rattle.scavenger.specs.Paging.{FreeIsLeft}
-
--- each run of a row lies where the row does
-pub lies_in_row : (start end : ℕ) (runs : List Run) (run : Run) → AscendIn start end runs → Contains runs run
-    → LiesIn start end run
-lies_in_row start end [] run ascend there = absurd (none_in run there)
-lies_in_row start end (first ∷ more) run ascend there =
-    elim (in_cases first more run there) [
-      | inl same ↦ subst (LiesIn start end) same ascend.0
-      | inr later ↦
-          let lies = lies_in_row (first.at + first.words + 1) end more run ascend.1 later in
-          record { from = omega (arith, ascend.0.from, lies.from); some = lies.some; below = lies.below }
-    ]
-
--- two runs of a row that share a word are one
-one_in_row : (start end at : ℕ) (runs : List Run) (run other : Run) → AscendIn start end runs → Contains runs run
-    → Contains runs other → IsOfRun run at → IsOfRun other at → run ≡ other
-one_in_row start end at [] run other ascend there there_too of_run of_other = absurd (none_in run there)
-one_in_row start end at (first ∷ more) run other ascend there there_too of_run of_other =
-    let behind = first.at + first.words + 1 in
-    elim (in_cases first more run there) [
-      | inl same ↦ elim (in_cases first more other there_too) [
-        | inl same_too ↦ sym same ∙ same_too
-        | inr later ↦
-            let lies = lies_in_row behind end more other ascend.1 later in
-            let of_first : IsOfRun first at = subst (λ (one : Run). IsOfRun one at) (sym same) of_run in
-            absurd (omega (arith, lies.from, of_first.below, of_other.from))
-      ]
-      | inr later ↦ elim (in_cases first more other there_too) [
-        | inl same_too ↦
-            let lies = lies_in_row behind end more run ascend.1 later in
-            let of_first : IsOfRun first at = subst (λ (one : Run). IsOfRun one at) (sym same_too) of_other in
-            absurd (omega (arith, lies.from, of_first.below, of_run.from))
-        | inr later_too ↦ one_in_row behind end at more run other ascend.1 later later_too of_run of_other
-      ]
-    ]
 
 -- The run is one of a page's, and lies in that page.
 pub record IsRunIn (rows : List (List Run)) (run : Run) : Type 0 where
@@ -69,7 +35,7 @@ run_in rows run free is =
     let there : page < length rows = is.of_rows.1 in
     let same : row_of rows page ≡ is.row = get_or_default rows page [] is.row there ∙ is.of_rows.2 in
     let among : Contains (row_of rows page) run = subst (λ (row : List Run). Contains row run) (sym same) is.among in
-    let lies = lies_in_row (page_words * page) (page_words * (page + 1)) (row_of rows page) run (free page there) among
+    let lies = run_lies (page_words * page) (page_words * (page + 1)) (row_of rows page) run (free page there) among
     in
     record {
       page = page;
@@ -88,15 +54,6 @@ run_of rows page run there among = record {
   of_rows = (page, there, get_or_default rows page (row_of rows page) [] there);
   among = among;
 }
-
--- a page that is there has the runs
-pub row_there : (rows : List (List Run)) (page : ℕ) (run : Run) → Contains (row_of rows page) run → page < length rows
-row_there rows page run among =
-    elim (cases_lt page (length rows)) [
-      | inl there ↦ there
-      | inr past ↦
-          absurd (none_in run (subst (λ (row : List Run). Contains row run) (get_or_past rows page [] past) among))
-    ]
 
 -- each word of a run is free
 pub word_of_run : (rows : List (List Run)) (run : Run) (at : ℕ) → AreFree rows → IsFreeRun rows run → IsOfRun run at
@@ -121,7 +78,7 @@ pub record HasRun (rows : List (List Run)) (at : ℕ) : Type 0 where
 pub run_of_word : (rows : List (List Run)) (at : ℕ) → IsFreeWord rows at → HasRun rows at
 run_of_word rows at is = record {
   run = is.free.run;
-  is = run_of rows is.page is.free.run (row_there rows is.page is.free.run is.free.among) is.free.among;
+  is = run_of rows is.page is.free.run (page_there rows is.page is.free.run is.free.among) is.free.among;
   of_run = is.free.of_run;
 }
 

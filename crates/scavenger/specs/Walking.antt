@@ -7,7 +7,7 @@ use Rattle.page_space.specs.Extents.{Space, eden_start, segments_start, marks_st
 use Rattle.cell_layout.specs.Cells.{IsSized}
 use Rattle.nursery.specs.Young.{other_half}
 use Rattle.free_runs.specs.FreeRuns.{FitsNowhere, TakesFront}
-use Rattle.heap_table.specs.declared.phase.Phase.TheVariants.{Quiet}
+use Rattle.heap_table.specs.Phases.{Quiet}
 use Rattle.heap_table.specs.Seats.{heap_words}
 use Rattle.heap_model.specs.Types.{Cell, Run}
 use Rattle.heap_model.specs.Remembered.{RefersToYoung}

@@ -1,7 +1,7 @@
 //! Emptying what a scavenge leaves: where no cell is to stand, the first word is 0.
 ghost use Rattle.std.specs.Prelude.{◌≡◌, ◌≤◌};
 ghost use Rattle.page_space.specs.Extents.{eden_start, marks_start};
-ghost use Rattle.heap_table.specs.declared.phase.Phase.TheVariants.{Quiet};
+ghost use Rattle.heap_table.specs.Phases.{Quiet};
 ghost use Rattle.heap_table.specs.Seats.{heap_words};
 ghost use Rattle.scavenger.specs.Filling.{ChangesWords, IsEmptied};
 ghost use Rattle.scavenger.specs.Walking.{EndsCopies, EmptiesSegments};

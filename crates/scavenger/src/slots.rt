@@ -1,7 +1,7 @@
 //! Following one slot: the step of a scavenge.
 ghost use Rattle.std.specs.Prelude.{◌≡◌, ℕ, ◌≤◌, Bool};
 ghost use Rattle.std.specs.Vec.{vec_capacity};
-ghost use Rattle.heap_table.specs.declared.phase.Phase.TheVariants.{Quiet};
+ghost use Rattle.heap_table.specs.Phases.{Quiet};
 ghost use Rattle.write_barrier.specs.MutatorState.{Mutator};
 ghost use Rattle.scav_copy.specs.Places.{StoodAt};
 ghost use Rattle.scavenger.specs.Filling.{Front};

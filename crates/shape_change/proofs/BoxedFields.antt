@@ -165,7 +165,7 @@ module _ {old : Mutator} {graph : Graph} {object slot : ℕ} {plain : PlainObjec
     row = made_row (heap_of new) (content.Boxed v) box sized stands
 
     -- and the heap shows the graph with the field
-    pub new_box_shown : ShowsSet s new
+    pub new_box_shown : ShowsSet s new box_words
     new_box_shown =
         let run_taken = taken_run new box_words s.shows.tied ready.room (puts.young ∙ boxed.young) same_space in
         let stored : TouchesWith old new s.cell (box_cell box ∷ []) (touched_one Touch.Stored at) =
@@ -191,7 +191,7 @@ module _ {old : Mutator} {graph : Graph} {object slot : ℕ} {plain : PlainObjec
   pub old_box_shown : {mid new : Mutator} {next : ℕ} (word box : ℕ) → HasWord s.shown.slots slot word
       → IsBoxOf (heap_of old) word box → IsReady old mid 0 → IsNextShape s new next
       → HasHead mid (with_word mid (box + 1) (raw_word v)) new s.cell.at (next_head s next)
-      → TouchesObject old new s.cell.at (touched_one Touch.Wiped (box + 1)) → ShowsSet s new
+      → TouchesObject old new s.cell.at (touched_one Touch.Wiped (box + 1)) → ShowsSet s new 0
   old_box_shown {mid} {new} {next} word box there is ready shape head touches =
       let whole = s.shows.shows.whole in
       let one : Cell = is.cell in

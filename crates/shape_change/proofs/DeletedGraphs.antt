@@ -23,11 +23,13 @@ use Rattle.heap_model.proofs.SlotWords.{All-slice_get}
 use Rattle.write_barrier.specs.MutatorState.{Mutator, heap_of, MainShows}
 use Rattle.write_barrier.specs.Reading.{IsHeaderAt}
 use Rattle.object_cells.specs.PlainObjects.{IsPlainAt, ShowsRefilled}
-use Rattle.object_cells.specs.Capacities.{ChangesObject}
+use Rattle.object_cells.specs.Capacities.{ChangesObjectUsing}
+use Rattle.object_cells.specs.Contents.{next_at}
 use Rattle.shape_change.specs.FieldChanges.{HasDeletedField, DeletesField}
 use Rattle.shape_change.specs.Deletions.{TakesFieldOut, TakingOut}
 use Rattle.object_cells.proofs.FieldsFound.{value_found}
 use Rattle.shape_change.proofs.FieldsLess.{AreLess, are_less, none_less}
+use Rattle.object_cells.proofs.MadeBoxes.{row_of_none}
 use Rattle.object_cells.proofs.NothingUsed.{room_for_none, uses_none}
 use Rattle.object_cells.proofs.PlainFields.{names_distinct}
 use Rattle.object_cells.proofs.NewFields.{rest_of_fields_are_new}
@@ -72,16 +74,16 @@ module _ {old : Mutator} {graph : Graph} {object : ℕ} {plain : PlainObject} {h
     }
 
     -- each property store has as many slots as before
-    stores_stay : ChangesObject (heap_of old) (heap_of new) object (capacity_at (heap_of old) object)
+    stores_stay : ChangesObjectUsing old new 0 object (capacity_at (heap_of old) object)
     stores_stay =
-        subst (λ n. ChangesObject (heap_of old) (heap_of new) n (capacity_at (heap_of old) n)) shown.at
+        subst (λ n. ChangesObjectUsing old new 0 n (capacity_at (heap_of old) n)) shown.at
         (object_keeps (record {
           owns = plain_owns;
           whole = shows.shows.whole;
           writes = deleted_writes deleting_of;
           belong = store_belongs deleting_of;
           kinds = λ other there. absurd (none_in other there);
-        }) (slot_stays deleting_of))
+        }) (row_of_none (heap_of new) (next_at old)) (slot_stays deleting_of))
 
     -- the heap shows the graph in which the object lacks the field
     field_less : ShowsRefilled new graph plain (without_field plain.fields name)
@@ -147,7 +149,7 @@ none_deleted {main} {graph} {plain = plain} name shows is header_at none =
       none = λ _. refl;
       uses = uses_none (rest_stays_itself main.seat) refl refl;
       changes = record {
-        words = λ word below not_own not_new. refl;
+        words = λ word below not_own not_made. refl;
         own = refl;
         others = λ number other place apart. refl;
         stays = λ number other place. place;

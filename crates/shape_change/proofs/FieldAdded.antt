@@ -12,7 +12,7 @@ use Rattle.heap_model.specs.Rooms.{new_field_capacity}
 use Rattle.write_barrier.specs.MutatorState.{Mutator, heap_of}
 use Rattle.object_cells.specs.PlainObjects.{ShowsRefilled}
 use Rattle.object_cells.specs.Uses.{UsesMore}
-use Rattle.object_cells.specs.Capacities.{ChangesObject}
+use Rattle.object_cells.specs.Capacities.{ChangesObjectUsing}
 use Rattle.shape_change.specs.FieldChanges.{HasSetField}
 use Rattle.shape_change.specs.Additions.{AddsField, count_of, behind_cap}
 use Rattle.object_cells.specs.Made.{is_wide_held}
@@ -59,7 +59,7 @@ module _ {old new : Mutator} {graph : Graph} {plain : PlainObject} {object : ℕ
       (is_wide_held value)
       ≡ need → HasRoom old.young need → UsesMore old new need
       → new_field_capacity held (shape_path old.paths header.shape).cap (count_of old.paths header.shape) ≡ capacity
-      → ChangesObject (heap_of old) (heap_of new) known.cell.at capacity
+      → ChangesObjectUsing old new need known.cell.at capacity
       → ShowsRefilled new graph plain (with_field plain.fields name what)
       → HasSetField old new graph object plain name what
   set_by held need capacity holds is room uses is_capacity stores shows =
@@ -71,8 +71,10 @@ module _ {old new : Mutator} {graph : Graph} {plain : PlainObject} {object : ℕ
         few = lacks_none known;
         room = subst (HasRoom old.young) same room;
         uses = subst (UsesMore old new) same uses;
-        changes = subst (ChangesObject (heap_of old) (heap_of new) object) becomes
-            (subst (λ a. ChangesObject (heap_of old) (heap_of new) a capacity) known.stands stores);
+        changes = subst (λ n. ChangesObjectUsing old new n object
+            (set_capacity (capacity_at (heap_of old) object) plain name)) same
+            (subst (ChangesObjectUsing old new need object) becomes
+            (subst (λ a. ChangesObjectUsing old new need a capacity) known.stands stores));
         shows = shows;
       }
 

@@ -127,7 +127,7 @@ module _ {old : Mutator} {graph : Graph} {object slot : ℕ} {plain : PlainObjec
           → HasHead mid put new s.cell.at (next_head next) → TouchesSlot new made
           → IsRow new.seat.space (heap_words new.seat) (next_at old) (next_at old + need) made
           → ((others : List Cell) (sets : SetsOne (heap_of old) (heap_of new) s.cell next at word slot others made
-          plain.fields (revalued s.field what)) → ShowsPut sets) → ShowsSet s new
+          plain.fields (revalued s.field what)) → ShowsPut sets) → ShowsSet s new need
       slot_shown {need} word made ready word_put head touches row owed =
           let whole = s.shows.shows.whole in
           let puts = slot_puts word next ready word_put head in
@@ -153,7 +153,7 @@ module _ {old : Mutator} {graph : Graph} {object slot : ℕ} {plain : PlainObjec
           → HasHead mid put new s.cell.at (next_head next)
           → TouchesObject old new s.cell.at (touched_one Touch.Stored at)
           → HoldsValue (heap_of old) (nat_lt slot s.cell.layout.cap) s.field.rep (revalued s.field what).rep what
-          (content.Tagged word) → ShowsSet s new
+          (content.Tagged word) → ShowsSet s new 0
       tagged_shown word ready word_put head touches holds =
           slot_shown word.0 [] ready word_put head (touches_slot (content.Tagged word) holds (touches_alone touches))
           (row_of_none (heap_of new) (next_at old)) (λ others sets.
@@ -169,7 +169,7 @@ module _ {old : Mutator} {graph : Graph} {object slot : ℕ} {plain : PlainObjec
           → HasHead mid put new s.cell.at (next_head next)
           → TouchesObject old new s.cell.at (touched_one Touch.Wiped at)
           → HoldsValue (heap_of old) (nat_lt slot s.cell.layout.cap) s.field.rep (revalued s.field what).rep what
-          (content.Raw word) → ShowsSet s new
+          (content.Raw word) → ShowsSet s new 0
       raw_shown word ready word_put head touches holds =
           slot_shown word [] ready word_put head (touches_slot (content.Raw word) holds (touches_alone touches))
           (row_of_none (heap_of new) (next_at old)) (λ others sets.

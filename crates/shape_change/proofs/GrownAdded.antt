@@ -26,7 +26,7 @@ use Rattle.heap_model.proofs.CellWords.{words_by_kind}
 use Rattle.write_barrier.specs.MutatorState.{Mutator, heap_of}
 use Rattle.write_barrier.specs.Recording.{Remembers}
 use Rattle.object_cells.specs.declared.stores.Store.{Store}
-use Rattle.object_cells.specs.Capacities.{ChangesObject}
+use Rattle.object_cells.specs.Capacities.{ChangesObjectUsing}
 use Rattle.object_cells.specs.CellWrites.{reshaped}
 use Rattle.object_cells.specs.Contents.{next_at}
 use Rattle.object_cells.specs.PlainObjects.{ShowsRefilled}
@@ -269,7 +269,8 @@ module _ {old new : Mutator} {graph : Graph} {plain : PlainObject} {object : ℕ
 
   -- the object's property store has as many slots as the new one
   pub grown_becomes : AreWithin old.seat.space.sizes old.seat.space.variables
-      → ChangesObject (heap_of old) (heap_of new) growing.known.cell.at (grown store.capacity)
+      → ChangesObjectUsing old new (grows.need growing) growing.known.cell.at (grown store.capacity)
   grown_becomes within =
-      object_grows (taken.taken_beside takes) new_store (first_in new_store (made_boxes (store_content value) box)) refl
+      object_grows (taken.taken_beside takes) (grows.filled growing).row new_store
+      (first_in new_store (made_boxes (store_content value) box)) refl
       (omega (arith, (grows.run growing).within, marks_fit old.seat.space within, marks_start_is old.seat.space)) named

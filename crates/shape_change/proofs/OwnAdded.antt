@@ -19,7 +19,7 @@ use Rattle.object_cells.specs.Contents.{next_at}
 use Rattle.shape_change.specs.Additions.{AddsOwn, AddsPath, added_path, count_of, own_content, with_shape}
 use Rattle.shape_change.specs.Shifts.{field_touch}
 use Rattle.heap_model.specs.Needs.{capacity_at}
-use Rattle.object_cells.specs.Capacities.{ChangesObject}
+use Rattle.object_cells.specs.Capacities.{ChangesObjectUsing}
 use Rattle.object_cells.proofs.OwnCapacities.{one_keeps}
 use Rattle.object_cells.proofs.OwnSteps.{written_places_stay}
 use Rattle.object_cells.proofs.OwnerWrites.{plain_owns}
@@ -153,8 +153,8 @@ module _ {old : Mutator} {graph : Graph} {plain : PlainObject} {object : ℕ} {h
 
   -- each property store has as many slots as before
   pub own_keeps : {new : Mutator} → AddsOwn old new object header name value
-      → ChangesObject (heap_of old) (heap_of new) known.cell.at (capacity_at (heap_of old) known.cell.at)
-  own_keeps adds =
-      one_keeps (own_adding adds).adds.puts
+      → ChangesObjectUsing old new 0 known.cell.at (capacity_at (heap_of old) known.cell.at)
+  own_keeps {new} adds =
+      one_keeps (own_adding adds).adds.puts (row_of_none (heap_of new) (next_at old))
       (λ other among. (known.cell.at + store_slot, ((own_adding adds).adds.place.stores other among).named))
       (λ other there. absurd (none_in other there))

@@ -20,7 +20,7 @@ use Rattle.write_barrier.specs.Recording.{Remembers}
 use Rattle.object_cells.specs.PlainObjects.{ShowsRefilled}
 use Rattle.object_cells.specs.Refills.{AreNewFields}
 use Rattle.object_cells.specs.Uses.{TakesRun}
-use Rattle.object_cells.specs.Capacities.{ChangesObject}
+use Rattle.object_cells.specs.Capacities.{ChangesObjectUsing}
 use Rattle.object_cells.specs.Contents.{next_at}
 use Rattle.object_cells.specs.CellWrites.{reshaped}
 use Rattle.object_cells.proofs.OwnerWrites.{plain_owns, written_own_keeps_cells}
@@ -45,10 +45,11 @@ module _ {old : Mutator} {graph : Graph} {object slot : ℕ} {plain : PlainObjec
     pub is_shape : IsShapeOf new.paths (path_of plain.cap fields) next
     pub added : with_path (Some paths_most) old.paths (path_of plain.cap fields) ≡ Some new.paths
 
-  -- The heap shows the graph with the field, and each property store has as many slots as before.
-  pub record ShowsSet (new : Mutator) : Type 0 where
+  -- The heap shows the graph with the field, so many words were taken, and each property store has as many slots as
+  -- before.
+  pub record ShowsSet (new : Mutator) (need : ℕ) : Type 0 where
     pub shows : ShowsRefilled new graph plain (with_field plain.fields name what)
-    pub changes : ChangesObject (heap_of old) (heap_of new) s.cell.at (capacity_at (heap_of old) s.cell.at)
+    pub changes : ChangesObjectUsing old new need s.cell.at (capacity_at (heap_of old) s.cell.at)
 
   module _ {mid new : Mutator} {next need at word : ℕ} (shape : IsNextShape new next) (ready : IsReady old mid need)
     where
@@ -88,7 +89,7 @@ module _ {old : Mutator} {graph : Graph} {object slot : ℕ} {plain : PlainObjec
           → (sets : SetsOne (heap_of old) (heap_of new) s.cell next at word slot others made plain.fields
           (revalued s.field what)) → FillsOne sets
           → IsRow new.seat.space (heap_words new.seat) (next_at old) (next_at old + need) made
-          → Remembers old new (s.cell ∷ others) (reshaped new.paths s.cell next ∷ others) made → ShowsSet new
+          → Remembers old new (s.cell ∷ others) (reshaped new.paths s.cell next ∷ others) made → ShowsSet new need
       field_shown {others} {made} puts sets fills row remembers =
           let heap = heap_of old in
           let same : with_field plain.fields name what ≡ fields = fields_are s in
@@ -110,5 +111,5 @@ module _ {old : Mutator} {graph : Graph} {object slot : ℕ} {plain : PlainObjec
             shows = subst (ShowsRefilled new graph plain) (sym same)
                 (written_fields_show old new graph plain s.cell next others made fields s.shows s.is.object s.carries
                 s.cap shown new_fields added takes sets.puts.writes (refills_slots sets fills) remembers);
-            changes = one_keeps sets.puts fills.belong fills.kinds;
+            changes = one_keeps sets.puts row fills.belong fills.kinds;
           }

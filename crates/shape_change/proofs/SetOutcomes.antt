@@ -22,7 +22,7 @@ use Rattle.object_cells.specs.declared.content.SlotContent.{SlotContent}
 use Rattle.object_cells.specs.declared.content.SlotWrite.{SlotWrite}
 use Rattle.object_cells.specs.declared.content.SlotWrite.TheVariants as filling
 use Rattle.object_cells.specs.Uses.{UsesMore}
-use Rattle.object_cells.specs.Capacities.{ChangesObject}
+use Rattle.object_cells.specs.Capacities.{ChangesObjectUsing}
 use Rattle.object_cells.specs.Contents.{box_in, next_at, filling_of, filling_at, filling_need, filled, FillsSlot}
 use Rattle.object_cells.specs.Contents.{filled_touch}
 use Rattle.object_cells.proofs.NothingUsed.{room_for_none}
@@ -164,17 +164,20 @@ module _ {old : Mutator} {graph : Graph} {object slot : ℕ} {plain : PlainObjec
         → HasSetField old new graph object plain name what
     has_set_field {new = new} {next} ready shape beside head touches =
         let capacity : ℕ = capacity_at (heap_of old) object in
-        let P : ℕ → Type 0 = λ n. HasRoom old.young n × UsesMore old new n in
+        let P : ℕ → Type 0 =
+        λ n. HasRoom old.young n × UsesMore old new n × ChangesObjectUsing old new n object capacity in
         let uses = uses_more s.cell.at (next_head s next) at fill ready beside head (object_free touches) in
-        let used = subst P (sym (setting_need capacity)) (ready.room, uses) in
         let shown = fill_shown s at word shape content fills ready head touches in
-        let Q : ℕ → ℕ → Type 0 = λ a n. ChangesObject (heap_of old) (heap_of new) a n in
+        let changes =
+        subst (λ a. ChangesObjectUsing old new (filling_need fill) a (capacity_at (heap_of old) a)) s.stands
+        shown.changes in
+        let used = subst P (sym (setting_need capacity)) (ready.room, uses, changes) in
         record {
           few = λ lacks. name_is_there s lacks;
           room = used.0;
           uses = used.1;
-          changes = subst (Q object) (sym (setting_capacity capacity))
-              (subst (λ a. Q a (capacity_at (heap_of old) a)) s.stands shown.changes);
+          changes = subst (ChangesObjectUsing old new (set_need capacity plain name what) object)
+              (sym (setting_capacity capacity)) used.2;
           shows = shown.shows;
         }
 

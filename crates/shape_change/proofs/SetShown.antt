@@ -55,7 +55,7 @@ module _ {old : Mutator} {graph : Graph} {object slot : ℕ} {plain : PlainObjec
         → HasHead mid (filled mid at (filling_of found (next_at old) (content.Boxed v))) new s.cell.at
         (next_head s next)
         → TouchesObject old new s.cell.at (filled_touch (filling_of found (next_at old) (content.Boxed v)) at)
-        → ShowsSet s new
+        → ShowsSet s new (filling_need (filling_of found (next_at old) (content.Boxed v)))
     boxed_shown v None fills is ready head touches =
         new_box_shown s v fills.comes at fills.numbered ready shape head touches
     boxed_shown v (Some box) fills is ready head touches =
@@ -67,7 +67,8 @@ module _ {old : Mutator} {graph : Graph} {object slot : ℕ} {plain : PlainObjec
     pub fill_shown : (content : SlotContent) → FillsAt at word content
         → IsReady old mid (filling_need (filling_at old at content))
         → HasHead mid (filled mid at (filling_at old at content)) new s.cell.at (next_head s next)
-        → TouchesObject old new s.cell.at (filled_touch (filling_at old at content) at) → ShowsSet s new
+        → TouchesObject old new s.cell.at (filled_touch (filling_at old at content) at)
+        → ShowsSet s new (filling_need (filling_at old at content))
     fill_shown (content.Tagged put) fills ready head touches =
         tagged_shown s at fills.numbered shape put ready (puts_slot refl) head touches fills.comes
     fill_shown (content.Raw put) fills ready head touches =

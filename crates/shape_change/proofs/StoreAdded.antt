@@ -37,7 +37,7 @@ use Rattle.object_cells.proofs.OwnCells.{cell_below_layouts, beside_not_header}
 use Rattle.object_cells.proofs.StoresRead.{StoredAt, stored_at}
 use Rattle.heap_model.specs.Needs.{capacity_at}
 use Rattle.heap_model.specs.Remembered.{Touch}
-use Rattle.object_cells.specs.Capacities.{ChangesObject}
+use Rattle.object_cells.specs.Capacities.{ChangesObjectUsing}
 use Rattle.object_cells.proofs.OwnCapacities.{one_keeps}
 use Rattle.object_cells.proofs.OwnSteps.{written_places_stay}
 use Rattle.object_cells.proofs.OwnerWrites.{plain_owns}
@@ -255,9 +255,9 @@ module _ {old new : Mutator} {graph : Graph} {plain : PlainObject} {object : ℕ
       (one_remembered one.adds touches)
 
   -- each property store has as many slots as before
-  pub store_keeps : ChangesObject (heap_of old) (heap_of new) adding.known.cell.at
+  pub store_keeps : ChangesObjectUsing old new (content_need (store_content value)) adding.known.cell.at
       (capacity_at (heap_of old) adding.known.cell.at)
   store_keeps =
-      one_keeps one.adds.puts
+      one_keeps one.adds.puts row
       (λ other among. (adding.known.cell.at + store_slot, (one.adds.place.stores other among).named))
       (λ other there. inr (made_boxed (store_content value) (next_at old) other there))

@@ -23,7 +23,7 @@ use Rattle.write_barrier.specs.MutatorState.{Mutator, heap_of, MainShows, with_v
 use Rattle.object_cells.specs.PlainObjects.{IsPlainAt, ShowsRefilled, LacksPaths, LacksFields}
 use Rattle.object_cells.specs.HeldValues.{IsValueHeld}
 use Rattle.object_cells.specs.Uses.{UsesMore}
-use Rattle.object_cells.specs.Capacities.{ChangesObject}
+use Rattle.object_cells.specs.Capacities.{ChangesObjectUsing}
 use Rattle.shape_change.specs.declared.stop.FieldStop.{FieldStop}
 use Rattle.shape_change.specs.declared.stop.FieldStop.TheVariants as stop
 
@@ -62,7 +62,8 @@ pub record HasSetField (old new : Mutator) (graph : Graph) (at : ℕ) (plain : P
   pub few : LacksFields plain name → ⊥
   pub room : HasRoom old.young (set_need (capacity_at (heap_of old) at) plain name value)
   pub uses : UsesMore old new (set_need (capacity_at (heap_of old) at) plain name value)
-  pub changes : ChangesObject (heap_of old) (heap_of new) at (set_capacity (capacity_at (heap_of old) at) plain name)
+  pub changes : ChangesObjectUsing old new (set_need (capacity_at (heap_of old) at) plain name value) at
+      (set_capacity (capacity_at (heap_of old) at) plain name)
   pub shows : ShowsRefilled new graph plain (with_field plain.fields name value)
 
 -- There may not be as many paths as the object with these fields needs; the refusal says how many there are, and how
@@ -106,7 +107,7 @@ pub record Sets (old new : Mutator) (at : ℕ) (header : Header) (name : ℕ) (v
 pub record HasDeletedField (old new : Mutator) (graph : Graph) (at : ℕ) (plain : PlainObject) (name : ℕ) : Type 0 where
   pub none : field_value plain.fields name ≡ None → new ≡ old
   pub uses : UsesMore old new 0
-  pub changes : ChangesObject (heap_of old) (heap_of new) at (capacity_at (heap_of old) at)
+  pub changes : ChangesObjectUsing old new 0 at (capacity_at (heap_of old) at)
   pub shows : ShowsRefilled new graph plain (without_field plain.fields name)
 
 -- `del` of a field: it is taken out, and nothing happens where it is not there; or there are too many paths.

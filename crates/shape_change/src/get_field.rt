@@ -5,7 +5,10 @@ ghost use Rattle.object_graph.specs.Graphs.{Graph, PlainObject};
 ghost use Rattle.shape_tree.specs.Shapes.{IsLocated};
 ghost use Rattle.shape_tree.specs.declared.located.Located.{Located as Found};
 ghost use Rattle.shape_change.specs.WordPlaces.{StandsWord};
-ghost use Rattle.write_barrier.specs.MutatorState.{heap_of, MainShows};
+ghost use Rattle.handle_roots.specs.declared.held.Held.TheVariants as held;
+ghost use Rattle.handle_roots.specs.Roots.{with_root};
+ghost use Rattle.heap_table.specs.Seats.{heap_words};
+ghost use Rattle.write_barrier.specs.MutatorState.{MayStore, heap_of, MainShows, with_variable};
 ghost use Rattle.object_cells.specs.PlainObjects.{IsPlainAt, IsShownPlain};
 ghost use Rattle.shape_change.specs.FieldChanges.{HoldsSlot, HoldsValue, value_or_undefined};
 ghost use Rattle.write_barrier.specs.Reading.{IsHeaderAt};
@@ -40,7 +43,8 @@ fn hold_slot(main: &mut Main, variable: u32, object: u32, found: Located)
 /// Only shapes of plain objects are cached, so where a slot is cached the object is one, and its shape is not asked.
 ///
 /// It is compiled for each `O` of its callers: with one call in each copy it is inlined, and with two in all it is not,
-/// which costs the loop over lines a third of a `get`.
+/// which costs the loop over lines a third of a `get`. Only a cached slot is read here, and the rest stands in calls: if
+/// the test of the shape were inlined too, each `get` would keep a copy of the header's word for it.
 #[inline(always)]
 pub fn get<O: FieldOutcome>(
     main: &mut Main,
@@ -69,13 +73,7 @@ pub fn get<O: FieldOutcome>(
             hold_word_at(main, variable, object, place);
             true
         }
-        CachedSlot::Absent => {
-            if header.shape < shape::PATHS {
-                return false;
-            }
-            main.hold(variable, Held::Undefined);
-            true
-        }
+        CachedSlot::Absent => hold_undefined(main, variable, header),
         CachedSlot::Miss => get_sought(main, variable, object, header, name),
     }
 }
@@ -93,6 +91,24 @@ fn hold_word_at(main: &mut Main, variable: u32, object: u32, place: Place)
     main.addresses_fit();
     let word = word_of_place(main, object, place);
     hold_tagged(main, variable, Word(word));
+}
+
+/// Makes a variable hold `undefined` if the header is that of a plain object, and returns whether it is.
+#[inline(never)]
+fn hold_undefined(main: &mut Main, variable: u32, header: Header) -> bool
+    requires may_store { first_path_shape ≤ header.shape → MayStore main.old }
+    requires known { variable < main.old.seat.space.variables }
+    ensures held { IsTrue result → main.new ≡ with_variable main.old variable held.Undefined }
+    ensures heap { IsTrue result → let words = heap_words main.old.seat in
+        heap_words main.new.seat ≡ with_root main.old.seat.space words variable held.Undefined }
+    ensures plain { IsTrue result ↔ (first_path_shape ≤ header.shape) }
+    ensures unchanged { result ≡ false → main.new ≡ main.old }
+{
+    if header.shape < shape::PATHS {
+        return false;
+    }
+    main.hold(variable, Held::Undefined);
+    true
 }
 
 /// The same as `get` where no slot is cached.

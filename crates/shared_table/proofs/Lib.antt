@@ -10,3 +10,8 @@ mod Loads
 mod Beginnings
 mod LentSeats
 mod Whitened
+mod HelperViews
+mod HelperEvents
+mod HelperSpots
+mod HelperSteps
+mod Helping

@@ -27,7 +27,7 @@ IsLentAs counts (Main main) = ⊥
 IsLentAs counts (Helper lent) = (lent.counts ≡ counts) × IsTrue lent.view.out
 IsLentAs counts Gone = ⊥
 
-abbrev IsHelper : View → Type 0
+abbrev pub IsHelper : View → Type 0
 IsHelper (Main main) = ⊥
 IsHelper (Helper lent) = Unit {0}
 IsHelper Gone = ⊥
@@ -44,7 +44,7 @@ lent_at counts (Helper one ∷ rest) zero lent are at =
 lent_at counts (Gone ∷ rest) zero lent are at = absurd (subst IsHelper (sym (some-injective Gone (Helper lent) at)) tt)
 
 -- where no colour gets lighter, what was not white is not
-not_white_rise : (colours later list : List ℕ) → ((at : ℕ) → slice_index colours at ≤ slice_index later at)
+pub not_white_rise : (colours later list : List ℕ) → ((at : ℕ) → slice_index colours at ≤ slice_index later at)
     → AreNotWhite colours list → AreNotWhite later list
 not_white_rise colours later [] rise are = tt
 not_white_rise colours later (at ∷ rest) rise are =
@@ -110,12 +110,12 @@ views_set (one ∷ rest) zero view = refl
 views_set (one ∷ rest) (suc j) view = ap (λ views. helper_of one ∷ views) (views_set rest j view)
 
 -- how many of the views are out, by the first one
-out_first : (view : View) (rest : List View)
+pub out_first : (view : View) (rest : List View)
     → count_by is_out (views_of (view ∷ rest)) ≡ cond (helper_of view).out 1 0 + count_by is_out (views_of rest)
 out_first view rest = sum_by-cons (λ (one : HelperView). cond one.out 1 0) (helper_of view) (views_of rest)
 
 -- a lent seat is out
-one_out : (lent : Lent) (rest : List View) → IsTrue lent.view.out
+pub one_out : (lent : Lent) (rest : List View) → IsTrue lent.view.out
     → count_by is_out (views_of (Helper lent ∷ rest)) ≡ 1 + count_by is_out (views_of rest)
 one_out lent rest out =
     let one : ◌≡◌ {A = ℕ} (cond lent.view.out 1 0) 1 = ap (λ (b : Bool). cond b 1 0) out in

@@ -3,6 +3,7 @@ use Rattle.std.proofs.Common.{◌≡◌, ◌≤◌, ℕ, true, List, length, set
 use Rattle.std.proofs.Common.{Option, Some, None, IfSome, Contains, arith}
 use Rattle.std.proofs.lemmas.List.Elements.{All-get_or, All-contains}
 use Rattle.tagged_word.specs.Readings.{reference_in}
+use Rattle.core_parts.specs.Boards.{IsBoardWord}
 use Rattle.mark_laws.specs.Types.{MainView, Spot}
 use Rattle.mark_laws.specs.Runs.{IsSoundAndBorn}
 use Rattle.mark_world.specs.AfterEvents.{IsMarked, word_at, with_word}
@@ -114,6 +115,7 @@ pub spot_finds : (counts : Counts) (main : Overview) (others : List View) (colou
 spot_finds counts main others colours board (Spot.Heap at) fits inside home whole = refl
 spot_finds counts main others colours board (Spot.Layout shape) fits inside home whole = refl
 spot_finds counts main others colours board (Spot.Board place) fits inside home whole = record {
+  word = All-get_or IsBoardWord board place 0 (omega (arith, inside, fits.board)) whole.0.sizes.board.each;
   home = λ h. ap (λ (all : List ℕ). slice_index all place) (home h).1;
   born = marked_born main others colours board whole (reference_in (slice_index board place))
       (All-get_or (λ (word : ℕ). IfSome (reference_in word) (IsMarked (world main others colours board))) board place 0

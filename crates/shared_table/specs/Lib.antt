@@ -7,3 +7,4 @@ pub mod Told
 pub mod Seats
 pub mod Seated
 pub mod Helped
+pub mod HelperTold

@@ -2,6 +2,7 @@
 use Rattle.std.specs.Prelude.{◌≡◌, ◌≢◌, ℕ, ◌+◌, ◌<◌, ◌≤◌, true, List, Contains, slice_index, slice_set, IfSome}
 use Rattle.tagged_word.specs.Readings.{reference_in}
 use Rattle.page_space.specs.Extents.{board_words}
+use Rattle.core_parts.specs.Boards.{IsBoardWord}
 use Rattle.mark_laws.specs.Types.{Spot}
 use Rattle.mark_world.specs.Steps.{white, black}
 use Rattle.shared_table.specs.declared.overview.Counts.{Counts}
@@ -71,9 +72,10 @@ pub record FindsColour (main : Overview) (at found : ℕ) : Type 0 where
   pub home : main.home ≡ true → found ≡ slice_index main.colours at
   pub mark : FindsInMark main at found
 
--- A word of the board was found: the one that the main seat knows where it knows the board. The cell that it refers to,
--- if any, is born.
+-- A word of the board was found: 0 or a reference, and the one that the main seat knows where it knows the board. The
+-- cell that it refers to, if any, is born.
 pub record FindsBoard (main : Overview) (place found : ℕ) : Type 0 where
+  pub word : IsBoardWord found
   pub home : main.home ≡ true → found ≡ slice_index main.board place
   pub born : IfSome (reference_in found) (λ at. Contains main.view.born at)
 

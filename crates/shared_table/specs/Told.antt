@@ -4,6 +4,7 @@ use Rattle.std.specs.declared.vec.Vec.{Vec}
 use Rattle.std.specs.declared.alloc.Global.{Global}
 use mathlib.Core.Option as core
 use Rattle.atomic_table.specs.Table.{Me, Step}
+use Rattle.tagged_word.specs.Readings.{reference_in}
 use Rattle.mark_laws.specs.Types.{Event, Spot}
 use Rattle.mark_laws.specs.PageWords.{MainSound}
 use Rattle.mark_laws.specs.Runs.{IsSoundAndBorn}
@@ -28,6 +29,11 @@ FindsBy main (Some spot) found = Finds main spot found
 abbrev pub said_words : core.Option (Vec ℕ Global) → List ℕ
 said_words core.none = []
 said_words (core.some words) = words.items
+
+-- the cell that a word refers to; 0 where there is none
+abbrev pub cell_referred : Option ℕ → ℕ
+cell_referred None = 0
+cell_referred (Some at) = at
 
 module _ {S : Type 0} where
   -- the cell whose colour a step touches, and the place of the board
@@ -58,6 +64,9 @@ module _ {S : Type 0} where
 
   abbrev pub new_event : Overview → Step S → Event
   new_event main st = event.NewBlack (coloured_cell main st)
+
+  abbrev pub give_event : Overview → Step S → Event
+  give_event main st = event.GiveMain (board_at main st) (cell_referred (reference_in st.second))
 
   abbrev pub take_event : Overview → Step S → Event
   take_event main st = event.TakeMain (board_at main st)

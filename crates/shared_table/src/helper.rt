@@ -1,12 +1,14 @@
 //! The seat of a helper, at the shared table.
+ghost use Rattle.std.specs.Prelude.{◌≡◌};
 
-use crate::overview::View;
+use crate::overview::{Counts, View};
 use atomic_table::Seat;
 use std::marker::Model;
 
-/// A seat that was lent to a helper. It has no bytes: its thread has the table beside it.
+/// A seat that was lent to a helper. Its thread has the table beside it, and passes it at each step.
 #[derive(Drop)]
 pub struct HelperSeat {
+    pub(crate) counts: Counts,
     pub(crate) seat: Seat<Vec<u64>, View>,
 }
 
@@ -20,4 +22,14 @@ impl Model for HelperSeat {
     ghost view = { helping_of };
 
     ghost invariant = { IsHelping };
+}
+
+impl HelperSeat {
+    /// The sizes of the table.
+    #[inline(always)]
+    pub fn counts(&self) -> Counts
+        ensures { result ≡ self.now.lent.counts }
+    {
+        self.counts
+    }
 }

@@ -16,12 +16,16 @@ impl MainSide {
         requires few { self.old.main.out < helpers_most }
         ensures lent { self.new ≡ record self.old { main = lending self.old.main } }
         ensures of_table { result.table ≡ self.old.table }
-        ensures knows { let knows = lent_by self.old.main in
-            (result.counts ≡ knows.counts) × (result.view ≡ knows.view) × (result.seen ≡ knows.seen) }
+        ensures knows { result.lent ≡ lent_by self.old.main }
     {
+        // What a lent seat keeps of its table's sizes.
+        self.sound();
         let seat = self.shared.table.shared.split_seat::<Lends>(&mut self.seat);
         self.out += 1;
-        HelperSeat { seat }
+        HelperSeat {
+            counts: self.counts,
+            seat,
+        }
     }
 
     /// Takes a seat back that this one lent. After the last one the colours and the board are known again.
@@ -30,11 +34,11 @@ impl MainSide {
         requires own { helper.table ≡ self.old.table }
         requires some { 0 < self.old.main.out }
         ensures taken { 1 < self.old.main.out →
-            self.new ≡ record self.old { main = taking self.old.main helper.view } }
+            self.new ≡ record self.old { main = taking self.old.main helper.lent.view } }
         ensures last { self.old.main.out ≡ 1 → (colours : List ℕ) × (board : List ℕ)
-            × (self.new ≡ record self.old { main = home_with (taking self.old.main helper.view) colours board }) }
+            × (self.new ≡ record self.old { main = home_with (taking self.old.main helper.lent.view) colours board }) }
     {
-        let HelperSeat { seat } = helper;
+        let HelperSeat { counts: _, seat } = helper;
         self.shared
             .table
             .shared

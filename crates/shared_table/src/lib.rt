@@ -7,9 +7,12 @@
 //! seat is one event of that world.
 #![tactic(auto)]
 
+mod board;
 mod colour;
 mod cycles;
 mod helper;
+mod helper_plays;
+mod helper_steps;
 mod lending;
 mod main_side;
 mod overview;

@@ -15,6 +15,14 @@ pub struct Counts {
 }
 
 impl Counts {
+    /// The place of a layout word in the table.
+    #[inline(always)]
+    pub(crate) fn layout_place(self, shape: u32) -> usize
+        ensures { result ≡ self.old + shape }
+    {
+        self.old as usize + shape as usize
+    }
+
     /// The place of the colour of a page's word.
     #[inline(always)]
     pub(crate) fn colour_place(self, a: u32) -> usize
@@ -25,7 +33,7 @@ impl Counts {
 
     /// The place of a word of the board.
     #[inline(always)]
-    pub(crate) fn board_place(self, place: u32) -> usize
+    pub fn board_place(self, place: u32) -> usize
         ensures { result ≡ self.old + (self.shapes + (self.old + place)) }
     {
         self.old as usize + (self.shapes as usize + (self.old as usize + place as usize))

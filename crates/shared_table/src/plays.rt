@@ -61,6 +61,15 @@ impl Play<Vec<u64>, View> for LeavesColour {
     ghost then = { tells_left shade_event };
 }
 
+/// A cell that is black is made black: its colour stays.
+pub(crate) struct LeavesBlack;
+
+impl Play<Vec<u64>, View> for LeavesBlack {
+    ghost use Rattle.shared_table.specs.Told.{tells_left, blacken_event};
+
+    ghost then = { tells_left blacken_event };
+}
+
 /// A cell turns black.
 pub(crate) struct Blackens;
 
@@ -77,6 +86,15 @@ impl Play<Vec<u64>, View> for MakesBlack {
     ghost use Rattle.shared_table.specs.Told.{tells_event, new_event};
 
     ghost then = { tells_event new_event };
+}
+
+/// A cell is given to the board.
+pub(crate) struct PutsCell;
+
+impl Play<Vec<u64>, View> for PutsCell {
+    ghost use Rattle.shared_table.specs.Told.{tells_found, give_event};
+
+    ghost then = { tells_found give_event };
 }
 
 /// A cell is taken from the board.

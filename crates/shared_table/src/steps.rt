@@ -1,9 +1,11 @@
 //! The main seat's steps in an open cycle, each one event of marking.
-ghost use Rattle.std.specs.Prelude.{◌≡◌, ◌+◌, ◌<◌, true, Contains, IfSome, IsNone, length, slice_index};
+ghost use Rattle.std.specs.Prelude.{◌≡◌, ◌+◌, ◌<◌, true, false, Contains, IfSome, IsNone, length, slice_index};
 ghost use Rattle.tagged_word.specs.Readings.{reference_in};
+ghost use Rattle.core_parts.specs.Boards.{IsBoardWord};
 ghost use Rattle.mark_laws.specs.PageWords.{MainSound};
 ghost use Rattle.mark_laws.specs.Runs.{IsSoundAndBorn};
 ghost use Rattle.mark_world.specs.declared.event.Event.TheVariants as event;
+ghost use Rattle.mark_world.specs.Steps.{black};
 ghost use Rattle.shared_table.specs.declared.colour.Colour.TheVariants.{Black};
 ghost use Rattle.shared_table.specs.declared.phase.Phase.TheVariants.{Mark};
 ghost use Rattle.shared_table.specs.Changes.{MayDo, told};
@@ -14,8 +16,8 @@ ghost use Rattle.shared_table.specs.Worlds.{world_at_home};
 use crate::colour::Colour;
 use crate::main_side::MainSide;
 use crate::plays::{
-    AddsLayout, Blackens, IsSound, IsWhole, LeavesColour, MakesBlack, SeesColour, Shades,
-    StoresHeader, StoresOwned, StoresSlot, TakesCell,
+    AddsLayout, Blackens, IsSound, IsWhole, LeavesBlack, LeavesColour, MakesBlack, SeesColour,
+    Shades, StoresHeader, StoresOwned, StoresSlot, TakesCell,
 };
 
 impl MainSide {
@@ -148,6 +150,43 @@ impl MainSide {
         ensures home { self.old.main.home ≡ true → number_of result ≡ slice_index self.old.main.colours a }
         ensures mine { Contains self.old.main.view.mine a → result ≡ Black }
     {
+        if self.blacken_seen(a) {
+            Colour::Black
+        } else {
+            self.blacken_unseen(a)
+        }
+    }
+
+    /// Whether a cell is seen to be black. If so, the load of its colour is the whole step, since it stays.
+    #[inline(always)]
+    fn blacken_seen(&mut self, a: u32) -> bool
+        requires mark { self.old.main.phase ≡ Mark }
+        requires within { a < self.old.main.old }
+        requires may { MayDo self.old.main (event.Blacken a) }
+        ensures blackened { result ≡ true →
+            self.new ≡ record self.old { main = told self.old.main (event.Blacken a) black } }
+        ensures home { result ≡ true → self.old.main.home ≡ true → black ≡ slice_index self.old.main.colours a }
+        ensures other { result ≡ false → self.new ≡ self.old }
+    {
+        let place = self.counts.colour_place(a);
+        let found = self
+            .shared
+            .table
+            .shared
+            .load::<LeavesBlack>(&mut self.seat, place);
+        found == 2
+    }
+
+    /// Makes a cell black by an exchange.
+    fn blacken_unseen(&mut self, a: u32) -> Colour
+        requires mark { self.old.main.phase ≡ Mark }
+        requires within { a < self.old.main.old }
+        requires may { MayDo self.old.main (event.Blacken a) }
+        ensures blackened { let found = number_of result in
+            self.new ≡ record self.old { main = told self.old.main (event.Blacken a) found } }
+        ensures home { self.old.main.home ≡ true → number_of result ≡ slice_index self.old.main.colours a }
+        ensures mine { Contains self.old.main.view.mine a → result ≡ Black }
+    {
         let place = self.counts.colour_place(a);
         let found = self
             .shared
@@ -177,6 +216,7 @@ impl MainSide {
         requires may { MayDo self.old.main (event.TakeMain place) }
         ensures taken { self.new ≡ record self.old { main = told self.old.main (event.TakeMain place) result } }
         ensures home { self.old.main.home ≡ true → result ≡ slice_index self.old.main.board place }
+        ensures word { IsBoardWord result }
         ensures born { IfSome (reference_in result) (λ at. Contains self.old.main.view.born at) }
     {
         let place = self.counts.board_place(place);

@@ -4,7 +4,7 @@ use Rattle.std.proofs.Common.{ap, subst, arith}
 use Rattle.std.proofs.lemmas.Bool.{cases_lt}
 use Rattle.page_space.specs.Extents.{Space}
 use Rattle.remembered_set.specs.Recorded.{Recorded}
-use Rattle.heap_table.specs.declared.phase.Phase.TheVariants.{Quiet}
+use Rattle.heap_table.specs.Phases.{Quiet}
 use Rattle.heap_table.specs.Seats.{Seat, RestStays, heap_words}
 use Rattle.heap_model.specs.Types.{Run}
 use Rattle.heap_model.specs.Changes.{Patch}

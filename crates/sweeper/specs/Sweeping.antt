@@ -10,7 +10,7 @@ use Rattle.page_space.specs.RegionLaws.{IsSpace}
 use Rattle.cell_layout.specs.Cells.{IsRow}
 use Rattle.free_runs.specs.FreeRuns.{LiesIn, IsBehind, row_of}
 use Rattle.remembered_set.specs.Recorded.{Recorded}
-use Rattle.heap_table.specs.declared.phase.Phase.TheVariants.{Quiet}
+use Rattle.heap_table.specs.Phases.{Quiet}
 use Rattle.heap_table.specs.Seats.{RestStays, heap_words}
 use Rattle.heap_model.specs.Types.{Cell, Run}
 use Rattle.heap_model.specs.Heaps.{Heap, Row, HasCell}

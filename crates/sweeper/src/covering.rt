@@ -1,7 +1,7 @@
 //! Making words free: a free cell over them, and a free run of the page in which they are.
 ghost use Rattle.std.specs.Prelude.{◌≡◌, ◌-◌, ◌/◌, ◌<◌, ◌≤◌, length};
 ghost use Rattle.page_space.specs.Extents.{marks_start};
-ghost use Rattle.heap_table.specs.declared.phase.Phase.TheVariants.{Quiet};
+ghost use Rattle.heap_table.specs.Phases.{Quiet};
 ghost use Rattle.sweeper.specs.Sweeping.{Covers, IsCleared, IsRoomy, page_of};
 
 use page_space::{PAGE_WORDS, Run};

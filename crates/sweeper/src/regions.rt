@@ -1,7 +1,7 @@
 //! The sweep of all regions of cells, one after another.
 ghost use Rattle.std.specs.Prelude.{◌≡◌, length};
 ghost use Rattle.page_space.specs.Extents.{roots_start};
-ghost use Rattle.heap_table.specs.declared.phase.Phase.TheVariants.{Quiet};
+ghost use Rattle.heap_table.specs.Phases.{Quiet};
 ghost use Rattle.heap_model.specs.Wholeness.{Whole};
 ghost use Rattle.write_barrier.specs.MutatorState.{Mutator, heap_of};
 ghost use Rattle.sweeper.specs.Swept.{IsSweepable, Sweeps};

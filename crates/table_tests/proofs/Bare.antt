@@ -21,7 +21,7 @@ use Rattle.shared_table.specs.Changes.{opened}
 use Rattle.table_tests.specs.OneCell.{IsBare, no_cells}
 
 -- a list of 0 has 0 everywhere
-zero_at : (n at : ℕ) → slice_index (replicate n 0) at ≡ 0
+pub zero_at : (n at : ℕ) → slice_index (replicate n 0) at ≡ 0
 zero_at n at = elim (cases_lt at n) [
   | inl inside ↦ get_or-replicate n at 0 0 inside
   | inr past ↦ get_or_past (replicate n 0) at 0 (omega (arith, length-replicate {A = ℕ} n 0, past))

@@ -1,1 +1,4 @@
 mod Bare
+mod BareSeats
+mod OneCell
+mod Paired

@@ -1,1 +1,3 @@
 pub mod OneCell
+pub mod BareSeats
+pub mod TwoCells

@@ -10,7 +10,7 @@ use std::test::Fail;
 use tagged_word::NoMemory;
 
 /// The cycle in which no cell is published so far.
-struct Empty;
+pub(crate) struct Empty;
 
 impl Choice for Empty {
     ghost use Rattle.table_tests.specs.OneCell.{IsEmpty};
@@ -28,7 +28,7 @@ impl Choice for Same {
 }
 
 /// A table with whole pages and all shapes.
-fn bare(alloc: Global, counts: Counts) -> Result<MainSide, NoMemory>
+pub(crate) fn bare(alloc: Global, counts: Counts) -> Result<MainSide, NoMemory>
     requires pages { counts.old % page_words ≡ 0 }
     requires shapes { counts.shapes ≡ shapes_most }
     ensures { IfOk result (λ side. IsBare side.main) }
@@ -37,7 +37,7 @@ fn bare(alloc: Global, counts: Counts) -> Result<MainSide, NoMemory>
 }
 
 /// Opens a cycle, and makes a black cell in it.
-fn begin(side: &mut MainSide, words: &Vec<u64>, at: u32)
+pub(crate) fn begin(side: &mut MainSide, words: &Vec<u64>, at: u32)
     requires bare { IsBare side.old.main }
     requires within { at < side.old.main.old }
     ensures { HasOneCell side.new.main at }

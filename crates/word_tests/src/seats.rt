@@ -1,10 +1,10 @@
 //! A table of one page and a nursery of 64 words, with one variable: the heap words are 2,048, 64,
 //! twice 64, 2 and 8,200 (`heap_table`).
-ghost use Rattle.std.specs.Prelude.{◌≡◌, ◌≢◌};
-ghost use Rattle.heap_table.specs.declared.phase.Phase.TheVariants.{Quiet, Scavenge};
+ghost use Rattle.std.specs.Prelude.{◌≡◌, None};
+ghost use Rattle.heap_table.specs.Phases.{Quiet};
 
 use cell_layout::cell_at;
-use heap_table::{HeapTable, MainSeat, Phase};
+use heap_table::{HeapTable, MainSeat, OwnWords, Phase};
 use page_space::{Regions, Sizes};
 use std::test::Fail;
 use word_store::{Reads, copy};
@@ -23,8 +23,9 @@ fn one_page() -> Regions {
 
 /// Puts a word of the heap, if it stands before the marks.
 fn put_at(seat: &mut MainSeat, a: u32, word: u64)
-    requires { seat.old.phase ≡ Quiet }
-    ensures { seat.new.phase ≡ Quiet }
+    requires quiet { seat.old.phase ≡ Quiet }
+    ensures phase { seat.new.phase ≡ Quiet }
+    ensures shared { seat.new.shared ≡ seat.old.shared }
 {
     let _regions = seat.regions();
     if a < seat.count() {
@@ -33,9 +34,7 @@ fn put_at(seat: &mut MainSeat, a: u32, word: u64)
 }
 
 /// The word at an address, as commands read it; none from the marks on, where the table has no words.
-fn word_at(seat: &MainSeat, a: u32) -> Option<u64>
-    requires { seat.now.phase ≢ Scavenge }
-{
+fn word_at(seat: &MainSeat, a: u32) -> Option<u64> {
     let _regions = seat.regions();
     if a < seat.count() {
         Some(seat.word(a))
@@ -44,11 +43,11 @@ fn word_at(seat: &MainSeat, a: u32) -> Option<u64>
     }
 }
 
-/// Copies the three words at 3 to 1,000 while no other thread runs. Answers how many words the
-/// table has, and the size of the cell at 1,000.
+/// Copies the three words at 3 to 1,000 among all words. Returns how many words the seat has, and the size of the cell
+/// at 1,000.
 fn while_paused(seat: &mut MainSeat) -> (u32, u32)
-    requires { seat.old.phase ≡ Quiet }
-    ensures { seat.new.phase ≡ Quiet }
+    requires { seat.old.shared ≡ None }
+    ensures { seat.new.phase ≡ seat.old.phase }
 {
     let mut paused = seat.paused();
     let count = paused.count();
@@ -67,7 +66,8 @@ fn may_be_shared_and_sent<T: Sync, S: Send>() {}
 #[test]
 fn a_new_table_is_0_and_what_is_put_and_copied_is_read_again(rt: HostRuntime) -> Result<(), Fail> {
     may_be_shared_and_sent::<HeapTable, MainSeat>();
-    let mut seat = HeapTable::open(rt.alloc(), one_page())?;
+    may_be_shared_and_sent::<OwnWords, MainSeat>();
+    let mut seat = HeapTable::open(rt.alloc(), one_page(), false)?;
     assert!(rt; matches!(seat.phase(), Phase::Quiet));
     assert!(rt; seat.count() == HEAP_WORDS);
     for a in 0..HEAP_WORDS {

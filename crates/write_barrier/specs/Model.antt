@@ -1,4 +1,5 @@
 -- What the mutator keeps in its fields.
+use Rattle.std.specs.Prelude.{◌≡◌, None}
 use Rattle.write_barrier.specs.declared.main_side.Main.TheInside.{Inside}
 use Rattle.write_barrier.specs.MutatorState.{Mutator}
 
@@ -11,3 +12,7 @@ mutator_of main = record {
   free = main.free;
   recorded = main.remembered;
 }
+
+-- no helper reads the words of the heap: there is no table that is shared
+abbrev pub IsUnshared : Inside → Type 0
+IsUnshared main = main.seat.shared ≡ None

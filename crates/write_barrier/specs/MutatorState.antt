@@ -14,7 +14,7 @@ use Rattle.handle_roots.specs.Roots.{with_root}
 use Rattle.nursery.specs.Young.{Young, new_young, next_of, bumped, other_half}
 use Rattle.free_runs.specs.FreeRuns.{whole_rows}
 use Rattle.remembered_set.specs.Recorded.{Recorded, noted, forgotten}
-use Rattle.heap_table.specs.declared.phase.Phase.TheVariants.{Quiet}
+use Rattle.heap_table.specs.Phases.{Quiet}
 use Rattle.heap_table.specs.Seats.{Seat, RestStays, fresh, heap_words}
 use Rattle.heap_model.specs.Heaps.{Heap}
 use Rattle.heap_model.specs.Showing.{Shows}

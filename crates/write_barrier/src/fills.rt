@@ -2,7 +2,7 @@
 ghost use Rattle.std.specs.Prelude.{◌≡◌, ℕ, ◌+◌, ◌<◌, ◌≤◌, Contains, replicate};
 ghost use Rattle.page_space.specs.Extents.{marks_start};
 ghost use Rattle.word_store.specs.Copies.{AreDisjoint, copied};
-ghost use Rattle.heap_table.specs.declared.phase.Phase.TheVariants.{Quiet};
+ghost use Rattle.heap_table.specs.Phases.{Quiet};
 ghost use Rattle.heap_table.specs.Seats.{RestStays, heap_words};
 ghost use Rattle.heap_model.specs.Slots.{hole_word};
 ghost use Rattle.heap_model.specs.Remembered.{Touch};

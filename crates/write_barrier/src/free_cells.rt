@@ -5,7 +5,7 @@ ghost use Rattle.page_space.specs.Sizes.{page_words};
 ghost use Rattle.page_space.specs.Extents.{marks_start};
 ghost use Rattle.free_runs.specs.FreeRuns.{AreFree, FitsNowhere, IsBehind, LiesIn, TakesFront, longest_of, row_of};
 ghost use Rattle.remembered_set.specs.Recorded.{HasNoneFrom, IsNextRecorded};
-ghost use Rattle.heap_table.specs.declared.phase.Phase.TheVariants.{Quiet};
+ghost use Rattle.heap_table.specs.Phases.{Quiet};
 ghost use Rattle.heap_table.specs.Seats.{RestStays, heap_words};
 ghost use Rattle.heap_model.specs.Remembered.{Touch};
 ghost use Rattle.write_barrier.specs.FreeCells.{with_free_cell};

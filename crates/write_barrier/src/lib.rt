@@ -3,8 +3,9 @@
 //! Model: a `Mutator` of `specs/MutatorState.antt`: the seat with its words, the field paths, the young
 //! generation, the free runs of pages, and which slots of pages are recorded. `heap_of` is the heap that
 //! stands in the words.
-//! Invariant: none over its parts, which it lends. `MainShows` of `specs/MutatorState.antt` is what holds
-//! between two commands; each call here says what it changes, in the middle of a change too.
+//! Invariant: the seat has no shared table. There is none over the parts that are lent. `MainShows` of
+//! `specs/MutatorState.antt` is what holds between two commands; each call here says what it changes, in
+//! the middle of a change too.
 #![tactic(auto)]
 
 mod fills;

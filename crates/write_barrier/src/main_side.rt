@@ -41,9 +41,11 @@ impl Model for Main {
 
     ghost Value = { Mutator };
 
-    ghost use Rattle.write_barrier.specs.Model.{mutator_of};
+    ghost use Rattle.write_barrier.specs.Model.{mutator_of, IsUnshared};
 
     ghost view = { mutator_of };
+
+    ghost invariant = { IsUnshared };
 }
 
 impl Main {

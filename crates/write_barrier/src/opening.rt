@@ -4,7 +4,7 @@ ghost use Rattle.page_space.specs.Sizes.{page_words};
 ghost use Rattle.page_space.specs.Extents.{eden_start, roots_start, layouts_start, marks_start};
 ghost use Rattle.object_graph.specs.Graphs.{start};
 ghost use Rattle.handle_roots.specs.Roots.{root_at};
-ghost use Rattle.heap_table.specs.declared.phase.Phase.TheVariants.{Quiet};
+ghost use Rattle.heap_table.specs.Phases.{Quiet};
 ghost use Rattle.heap_table.specs.Seats.{fresh, heap_words};
 ghost use Rattle.write_barrier.specs.MutatorState.{IsOneGap, MainShows, IsOpened};
 ghost use Rattle.write_barrier.specs.Opening.{ChangesWithin, AreZero, AreGaps, AreUnbound};

@@ -1,7 +1,6 @@
 //! What the variables hold.
-ghost use Rattle.std.specs.Prelude.{◌≡◌, ◌≢◌, ◌↔◌, ◌<◌, ℕ, ℤ, IsTrue, IfSome, IsNone, false};
+ghost use Rattle.std.specs.Prelude.{◌≡◌, ◌≢◌, ◌↔◌, ◌<◌, ℕ, ℤ, IsTrue, IfSome, IsNone, None, false};
 ghost use Rattle.tagged_word.specs.Words.{small};
-ghost use Rattle.heap_table.specs.declared.phase.Phase.TheVariants.{Quiet};
 ghost use Rattle.heap_table.specs.Seats.{heap_words};
 ghost use Rattle.handle_roots.specs.declared.held.Held.TheVariants.{Unbound, Int, Ref};
 ghost use Rattle.handle_roots.specs.Givens.{IsGivenFor, GivesHeld};
@@ -16,7 +15,7 @@ use tagged_word::Word;
 /// Both root words of a variable become those of a value.
 #[inline(always)]
 fn hold_in(seat: &mut MainSeat, variable: u32, value: Held)
-    requires quiet { seat.old.phase ≡ Quiet }
+    requires unshared { seat.old.shared ≡ None }
     requires known { variable < seat.old.space.variables }
     ensures held { let words = with_root seat.old.space seat.old.table variable value in
         seat.new ≡ record seat.old { table = words } }
@@ -30,7 +29,7 @@ fn hold_in(seat: &mut MainSeat, variable: u32, value: Held)
 /// The root words of a variable that holds a small integer become those of another one.
 #[inline(always)]
 fn replace_small_in(seat: &mut MainSeat, variable: u32, v: i64)
-    requires quiet { seat.old.phase ≡ Quiet }
+    requires unshared { seat.old.shared ≡ None }
     requires known { variable < seat.old.space.variables }
     requires was { (was : ℤ) × IsTrue (small was) × Holds seat.old.space seat.old.table variable (Int was) }
     requires small { IsTrue (small v) }
@@ -46,7 +45,7 @@ fn replace_small_in(seat: &mut MainSeat, variable: u32, v: i64)
 /// The root words of a variable that holds an integer in the second become those of another one.
 #[inline(always)]
 fn replace_wide_in(seat: &mut MainSeat, variable: u32, v: i64)
-    requires quiet { seat.old.phase ≡ Quiet }
+    requires unshared { seat.old.shared ≡ None }
     requires known { variable < seat.old.space.variables }
     requires was { (was : ℤ) × (small was ≡ false) × Holds seat.old.space seat.old.table variable (Int was) }
     requires wide { small v ≡ false }
@@ -61,7 +60,7 @@ fn replace_wide_in(seat: &mut MainSeat, variable: u32, v: i64)
 
 /// Both root words of a variable become those of another one.
 fn copy_in(seat: &mut MainSeat, from: u32, to: u32)
-    requires quiet { seat.old.phase ≡ Quiet }
+    requires unshared { seat.old.shared ≡ None }
     requires known { from < seat.old.space.variables }
     requires target_known { to < seat.old.space.variables }
     requires root { IsRoot seat.old.space seat.old.table from }

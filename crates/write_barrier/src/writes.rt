@@ -23,7 +23,7 @@ impl Main {
         ensures heap { let words = heap_words self.old.seat in
             heap_words self.new.seat ≡ slice_set words a word }
     {
-        self.seat.put(a, word);
+        self.seat.put_own(a, word);
     }
 
     /// Puts a word at an offset of a cell, before the marks. Nothing is recorded.
@@ -35,7 +35,7 @@ impl Main {
         ensures heap { let words = heap_words self.old.seat in
             heap_words self.new.seat ≡ slice_set words (cell + offset) word }
     {
-        self.seat.put_slot(cell, offset, word);
+        self.seat.put_own_slot(cell, offset, word);
     }
 
     /// Forgets what is recorded of the words from an address up to, not including, another: no slot is

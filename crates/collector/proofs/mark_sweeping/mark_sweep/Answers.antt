@@ -1,27 +1,27 @@
--- What each step needs of those before it, and what all of them come to.
-use Rattle.collector.proofs.ClearedHeap.{are_maps, marked_by, sweepable}
-use Rattle.collector.proofs.Collected.{bare_shows, collected}
+-- The live cells are marked, from no other starts than variables; so just these are kept.
+use Rattle.std.proofs.Common.{[]}
+use Rattle.heap_model.proofs.BoundHeaps.{none_in}
+use Rattle.ephemeron_mark.proofs.LiveAgain.{live_from_roots, live_with_none}
 use Rattle.collector.proofs.mark_sweeping.mark_sweep.Goals as goal
 
-pub clear-requires-clause-maps : goal.clear-requires-clause-maps
-clear-requires-clause-maps c =
-    are_maps (marked_by c.mark_live.new.marking (bare_shows c.requires.shown.1 c.ungrant.ensures)
-    c.cells-marked.ensures.cells c.maps.ensures c.mark_live.ensures.marked c.mark_live.ensures.maps)
-
-pub sweep-requires-clause-closed : goal.sweep-requires-clause-closed
-sweep-requires-clause-closed c =
-    sweepable c.addresses_fit.ensures.within
-    (marked_by c.mark_live.new.marking (bare_shows c.requires.shown.1 c.ungrant.ensures) c.cells-marked.ensures.cells
-    c.maps.ensures c.mark_live.ensures.marked c.mark_live.ensures.maps) c.clear.ensures.cleared
+pub sweep_marked-requires-clause-marked : goal.sweep_marked-requires-clause-marked
+sweep_marked-requires-clause-marked c =
+    let found = c.mark_live.ensures in (
+      [],
+      record {
+        tables = λ cell words has there. absurd (none_in cell.at there);
+        used = λ cell words has there of_page. absurd (none_in cell.at there);
+        live = λ at. (
+          λ among. live_with_none at ((found.marked at).0 among),
+          λ live. (found.marked at).1 (live_from_roots at live),
+        );
+        maps = λ at. (
+          λ there. let both = (found.maps at).0 there in (live_with_none at both.0, both.1),
+          λ both. (found.maps at).1 (live_from_roots at both.0, both.1),
+        );
+        once = found.maps_once;
+      },
+    )
 
 pub returns-clause-collected : goal.returns-clause-collected
-returns-clause-collected c graph shows =
-    collected (record {
-      shown = shows;
-      within = c.addresses_fit.ensures.within;
-      ungrants = c.ungrant.ensures;
-      is_marked = marked_by c.mark_live.new.marking (bare_shows shows c.ungrant.ensures) c.cells-marked.ensures.cells
-          c.maps.ensures c.mark_live.ensures.marked c.mark_live.ensures.maps;
-      clears = c.clear.ensures.cleared;
-      sweeps = c.sweep.ensures.swept;
-    })
+returns-clause-collected c graph shows = c.sweep_marked.ensures.exact graph shows c.mark_live.ensures.marked

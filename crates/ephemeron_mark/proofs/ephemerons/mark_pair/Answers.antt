@@ -4,7 +4,7 @@ use Rattle.std.proofs.lemmas.Bool.{false≢true}
 use Rattle.write_barrier.specs.MutatorState.{heap_of}
 use Rattle.ephemeron_mark.specs.Pairs.{WaitsFor}
 use Rattle.ephemeron_mark.proofs.LiveStands.{refers_as_read, refers_to_one, before_marks}
-use Rattle.ephemeron_mark.proofs.GrownLists.{pushed_is_marked}
+use Rattle.ephemeron_mark.proofs.GrownLists.{grows_nothing, pushed_is_marked}
 use Rattle.ephemeron_mark.proofs.WaitingKeys.{waiting_stays, waits_for_one}
 use Rattle.ephemeron_mark.proofs.ReadPairs.{read_pair, no_key, no_value}
 use Rattle.ephemeron_mark.proofs.ephemerons.mark_pair.Goals as goal
@@ -106,3 +106,12 @@ returns-else-contains-clause-done c key value refers value_refers =
       waits_for = subst (λ (one : ℕ). WaitsFor c.add.new.self one (c.args.at + 1)) same c.add.ensures.waits;
       refers = value_refers;
     })
+
+pub returns-in_default-clause-grown : goal.returns-in_default-clause-grown
+returns-in_default-clause-grown c = grows_nothing c.requires.marking
+
+pub returns-in_default-address-clause-grown : goal.returns-in_default-address-clause-grown
+returns-in_default-address-clause-grown c = grows_nothing c.requires.marking
+
+pub returns-else-contains-clause-grown : goal.returns-else-contains-clause-grown
+returns-else-contains-clause-grown c = grows_nothing c.requires.marking

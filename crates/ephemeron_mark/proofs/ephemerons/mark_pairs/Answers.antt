@@ -5,17 +5,28 @@ use Rattle.heap_model.specs.Types.{Cell}
 use Rattle.heap_model.proofs.CellsApart.{one_at}
 use Rattle.write_barrier.specs.MutatorState.{heap_of}
 use Rattle.ephemeron_mark.specs.Progress.{HoldsReference}
-use Rattle.ephemeron_mark.proofs.GrownLists.{grows_again, stays_marked}
+use Rattle.ephemeron_mark.proofs.GrownLists.{grows_nothing, grows_again, stays_marked}
 use Rattle.ephemeron_mark.proofs.KindTests.{is_kind, is_no_kind}
 use Rattle.ephemeron_mark.proofs.PairSlots.{key_at, value_at, pairs_fit, pair_of_table, entry_at}
-use Rattle.ephemeron_mark.proofs.WaitingKeys.{waits_again, next_pair}
+use Rattle.ephemeron_mark.proofs.WaitingKeys.{waits_no_more, waits_again, next_pair}
 use Rattle.ephemeron_mark.proofs.ephemerons.mark_pairs.Goals as goal
+
+pub returns-then-ne-clause-grown : goal.returns-then-ne-clause-grown
+returns-then-ne-clause-grown c = grows_nothing c.requires.marking
 
 pub returns-then-ne-clause-pairs : goal.returns-then-ne-clause-pairs
 returns-then-ne-clause-pairs c key value entry =
     let same : entry.cell ≡ c.args.cell.now = one_at entry.has c.requires.stands.1 entry.stands in
     absurd (is_no_kind c.args.cell.now.layout.kind kind.Table (sym c.if-ne.true ∙ c.ne.ensures)
     (subst (λ (one : Cell). one.layout.kind ≡ kind.Table) same entry.of_kind))
+
+pub loop-pair-init : goal.loop-pair-init
+loop-pair-init c = record {
+  grown = grows_nothing c.requires.marking;
+  waits = c.requires.waits;
+  more = waits_no_more;
+  pairs = λ place key value below at. absurd (omega (arith, below));
+}
 
 pub overflow_cast-pair-end : goal.overflow_cast-pair-end
 overflow_cast-pair-end c =

@@ -2,15 +2,15 @@
 use Rattle.std.proofs.Common.{◌≡◌, ℕ, ◌+◌, ◌-◌, subst, arith}
 use Rattle.std.proofs.lemmas.Option.{slice_get_within}
 use Rattle.write_barrier.specs.MutatorState.{heap_of}
-use Rattle.ephemeron_mark.proofs.LiveStands.{before_marks, live_below}
-use Rattle.ephemeron_mark.proofs.GrownLists.{grows_nothing, grows_again}
-use Rattle.ephemeron_mark.proofs.WaitingKeys.{value_is_live, AreWoken, woken_behind, woken_before}
+use Rattle.ephemeron_mark.proofs.LiveStands.{before_marks, stands_below}
+use Rattle.ephemeron_mark.proofs.GrownLists.{grows_nothing, grows_again, stays_marked}
+use Rattle.ephemeron_mark.proofs.WaitingKeys.{waiting_stays, value_is_live, AreWoken, woken_behind, woken_before}
 use Rattle.ephemeron_mark.proofs.ephemerons.wake.Goals as goal
 
 pub last-left-requires : goal.last-left-requires
 last-left-requires c =
-    let live = c.requires.marking.live c.args.key c.requires.marked in
-    omega (arith, live_below c.requires.marking.whole c.args.key live, c.requires.waits.bound)
+    let stands = c.requires.marking.stand c.args.key c.requires.marked in
+    omega (arith, stands_below c.requires.marking.whole c.args.key stands, c.requires.waits.bound)
 
 pub loop-left-init : goal.loop-left-init
 loop-left-init c = record {
@@ -38,10 +38,11 @@ pub mark_target-requires-clause-live : goal.mark_target-requires-clause-live
 mark_target-requires-clause-live c value refers =
     let place : ℕ = c.loop-left.left - 1 in
     let there = c.loop-left.invariant.found place (omega (arith, c.loop-left-test.true)) in
-    let one = c.requires.waits.each c.args.key c.slot.result
+    let grown = c.loop-left.invariant.grown in
+    let one = (waiting_stays grown c.requires.waits).each c.args.key c.slot.result
     (record { place = place; of_key = there; of_slot = c.slot.ensures }) in
-    value_is_live one.of_key c.slot.result c.args.key value c.requires.marking one.pair one.refers refers
-    c.requires.marked
+    value_is_live one.of_key c.slot.result c.args.key value one.pair one.refers refers
+    (stays_marked c.args.key grown c.requires.marked)
 
 pub earlier-left-requires : goal.earlier-left-requires
 earlier-left-requires c =

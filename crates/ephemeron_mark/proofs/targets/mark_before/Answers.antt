@@ -3,7 +3,8 @@ use Rattle.std.proofs.Common.{sym, ◌∙◌, arith}
 use Rattle.std.proofs.lemmas.Bool.{false≢true}
 use Rattle.tagged_word.specs.Cells.{tagged_offsets}
 use Rattle.live_cells.specs.Live.{IsLive}
-use Rattle.ephemeron_mark.proofs.GrownLists.{grows_nothing, grows_again}
+use Rattle.ephemeron_mark.proofs.GrownLists.{grows_nothing, grows_again, stays_marked}
+use Rattle.ephemeron_mark.proofs.LiveAgain.{live_at_once}
 use Rattle.ephemeron_mark.proofs.CellSlots.{slot_behind, slot_within, word_below, slot_to, next_slot}
 use Rattle.ephemeron_mark.proofs.CellSlots.{passes_offset, all_slots}
 use Rattle.ephemeron_mark.proofs.targets.mark_before.Goals as goal
@@ -34,7 +35,8 @@ mark_target-requires-clause-within c =
 
 pub mark_target-requires-clause-live : goal.mark_target-requires-clause-live
 mark_target-requires-clause-live c at refers =
-    IsLive.slot c.args.cell.now.at at c.requires.live
+    let marked = stays_marked c.args.cell.now.at c.loop-offset.invariant.grown c.requires.marked in
+    IsLive.slot c.args.cell.now.at at (live_at_once c.args.cell.now.at marked)
     (slot_to c.requires.stands.1 c.loop-offset.offset at (c.is_tagged.ensures.0 c.if-is_tagged.true) refers)
 
 pub loop-offset-preserved : goal.loop-offset-preserved

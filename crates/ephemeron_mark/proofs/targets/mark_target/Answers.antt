@@ -2,7 +2,7 @@
 use Rattle.std.proofs.Common.{arith, subst, sym, ◌∙◌, ◌<◌, ◌^◌, Contains}
 use Rattle.write_barrier.specs.MutatorState.{heap_of}
 use Rattle.ephemeron_mark.proofs.LiveStands.{refers_as_read, refers_to_none, refers_to_one, before_marks, live_below}
-use Rattle.ephemeron_mark.proofs.GrownLists.{pushed_is_marked}
+use Rattle.ephemeron_mark.proofs.GrownLists.{grows_nothing, pushed_is_marked}
 use Rattle.ephemeron_mark.proofs.targets.mark_target.Goals as goal
 
 pub push-requires : goal.push-requires
@@ -13,7 +13,7 @@ push-requires c =
     omega (
       arith,
       c.requires.marking.bound,
-      live_below c.requires.marking.whole c.in-Some.at (c.requires.live c.in-Some.at refers),
+      live_below c.requires.marking.whole c.requires.marking.stand c.in-Some.at (c.requires.live c.in-Some.at refers),
     )
 
 pub returns-in-Some-clause-grown : goal.returns-in-Some-clause-grown
@@ -36,8 +36,11 @@ returns-in-Some-clause-marked c at refers =
 
 pub returns-in_default-clause-marked : goal.returns-in_default-clause-marked
 returns-in_default-clause-marked c at refers =
-    let below = live_below c.requires.marking.whole at (c.requires.live at refers) in
+    let below = live_below c.requires.marking.whole c.requires.marking.stand at (c.requires.live at refers) in
     let fits : at < 2 ^ 32 =
     omega (arith, before_marks c.args.main.now.seat.space at below, c.addresses_fit.ensures.fit) in
     absurd (refers_to_none (heap_of c.args.main.now) c.args.slot c.word.result at c.word.ensures.of_heap
     (sym c.address.ensures ∙ c.in_default.is) refers fits)
+
+pub returns-in_default-clause-grown : goal.returns-in_default-clause-grown
+returns-in_default-clause-grown c = grows_nothing c.requires.marking

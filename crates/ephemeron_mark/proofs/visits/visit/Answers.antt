@@ -15,6 +15,10 @@ wake-requires-clause-marked c =
     stays_marked c.args.cell.now.at (grows_again c.mark_slots.ensures.grown c.mark_pairs.ensures.grown)
     c.requires.marked
 
+pub returns-clause-grown : goal.returns-clause-grown
+returns-clause-grown c =
+    grows_again (grows_again c.mark_slots.ensures.grown c.mark_pairs.ensures.grown) c.wake.ensures.grown
+
 pub returns-clause-waits : goal.returns-clause-waits
 returns-clause-waits c = waiting_stays c.wake.ensures.grown c.mark_pairs.ensures.waits
 

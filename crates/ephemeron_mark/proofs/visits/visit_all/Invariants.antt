@@ -1,12 +1,12 @@
 -- The cells before the next one are visited, and the maps among them are listed.
 use Rattle.std.proofs.Common.{◌≤◌, ◌-◌, length, vec_capacity}
 use Rattle.write_barrier.specs.MutatorState.{heap_of}
-use Rattle.ephemeron_mark.specs.Progress.{HasGrown, AreWaiting, AreVisited, AreMapsAmong}
+use Rattle.ephemeron_mark.specs.Progress.{HasMore, AreWaiting, AreVisited, AreMapsAmong}
 use Rattle.ephemeron_mark.proofs.visits.visit_all.Given as goal
 
 abbrev pub invariant-loop-next : goal.invariant-loop-next
 invariant-loop-next l = record {
-  grown : HasGrown l.main l.initial.cells l.cells;
+  more : HasMore l.main l.initial.cells l.cells;
   waits : AreWaiting (heap_of l.main) l.cells l.waiting;
   visited : AreVisited (heap_of l.main) l.cells l.waiting l.next;
   maps : AreMapsAmong (heap_of l.main) l.cells l.maps.items l.next;

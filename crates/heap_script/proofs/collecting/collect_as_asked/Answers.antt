@@ -1,7 +1,8 @@
-use Rattle.std.proofs.Common.{[], append-nil, sym, subst}
+use Rattle.std.proofs.Common.{[], append-nil, sym, ap, subst}
 use Rattle.object_graph.specs.Reach.{reached_objects, reached_entries}
 use Rattle.object_graph.specs.Texts.{line, census_text}
 use Rattle.write_barrier.specs.MutatorState.{Mutator, MainShows}
+use Rattle.collector.specs.States.{HeapState}
 use Rattle.heap_script.proofs.Asking.{asked_scavenge, asked_mark_by, asked_finish_by, asked_gc, asked_census}
 use Rattle.heap_script.proofs.collecting.collect_as_asked.Goals as goal
 
@@ -18,8 +19,8 @@ returns-in-Mark-clause-carried c = λ names graph shown.
     let begun = c.begin_cycle.ensures in (
       [],
       rw c.in-Mark.is
-          (asked_mark_by c.args.heap.now.rest.in_cycle (λ none. begun.begun none graph shown) begun.stays
-          (begun.shows graph shown).main),
+          (asked_mark_by c.args.heap.now.rest.in_cycle (λ none. (begun.begun none graph shown).0)
+          (λ is. ap (λ (heap : HeapState). heap.main) (begun.stays is)) (begun.shows graph shown).main),
       sym (append-nil c.args.out.now),
     )
 

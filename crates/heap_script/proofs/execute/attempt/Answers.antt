@@ -47,5 +47,6 @@ returns-in-Some c =
       carried = λ graph shown made.
           ([], did.tries c.args.script.now.fields graph shown made, written_nothing (is_ok c.in-Some.told.came) c.args.out.now);
       rest = did.rest;
+      noted = did.noted;
       counted = did.counted;
     }

@@ -26,20 +26,20 @@ attempt-requires c =
 pub make_room_for-requires-clause-servable : goal.make_room_for-requires-clause-servable
 make_room_for-requires-clause-servable c =
     let now = c.tries.invariant in
-    servable c.args.script.now.fields c.attempt.new.heap now.ready now.objects c.in-Err.ensures.rest c.requires.shown
+    servable c.args.script.now.fields c.attempt.new.heap now.ready now.objects c.in-Err.ensures.rest c.in-Err.ensures.noted c.requires.shown
     c.in-Err.ensures.carried c.requires.within
 
 pub make_room_for-requires-clause-clearable : goal.make_room_for-requires-clause-clearable
 make_room_for-requires-clause-clearable c =
     let now = c.tries.invariant in
-    clearable c.args.script.now.fields c.attempt.new.heap now.ready now.objects c.in-Err.ensures.rest
+    clearable c.args.script.now.fields c.attempt.new.heap now.ready now.objects c.in-Err.ensures.rest c.in-Err.ensures.noted
     c.requires.shown c.in-Err.ensures.carried
 
 pub make_room_for-requires-clause-shown : goal.make_room_for-requires-clause-shown
 make_room_for-requires-clause-shown c =
     let now = c.tries.invariant in
     let (graph, shown, made) = c.requires.shown in
-    let same = unchanged c.args.script.now.fields c.attempt.new.heap now.ready now.objects c.in-Err.ensures.rest
+    let same = unchanged c.args.script.now.fields c.attempt.new.heap now.ready now.objects c.in-Err.ensures.rest c.in-Err.ensures.noted
     c.requires.shown c.in-Err.ensures.carried in
     (graph, rw same (now.ready.shows graph shown))
 
@@ -57,7 +57,7 @@ tries-preserved c =
     let (text, tries, out-is) =
     c.in-Err.ensures.carried graph (now.ready.shows graph shown) (now.objects ∙ made) in
     record {
-      ready = ready_next c.args.script.now.fields c.attempt.new.heap now.ready now.objects c.in-Err.ensures.rest
+      ready = ready_next c.args.script.now.fields c.attempt.new.heap now.ready now.objects c.in-Err.ensures.rest c.in-Err.ensures.noted
           c.requires.shown c.in-Err.ensures.carried c.make_room_for.ensures.shows c.make_room_for.ensures.rest
           c.in-Some.ensures.way;
       objects = c.in-Err.ensures.counted ∙ now.objects;
@@ -70,7 +70,7 @@ returns-in_default-make_room_for-clause-carried c = λ graph shown made.
     let (text, tries, out-is) =
     c.in-Err.ensures.carried graph (now.ready.shows graph shown) (now.objects ∙ made) in (
       text,
-      stops c.args.script.now.fields c.attempt.new.heap now.ready now.objects c.in-Err.ensures.rest c.requires.shown
+      stops c.args.script.now.fields c.attempt.new.heap now.ready now.objects c.in-Err.ensures.rest c.in-Err.ensures.noted c.requires.shown
           c.in-Err.ensures.carried c.make_room_for.ensures.shows c.make_room_for.ensures.rest c.laws_of_counts.ensures.full
           c.laws_of_fitting.ensures.nowhere c.in_default-make_room_for.ensures.way graph shown made,
       out-is ∙ now.out,

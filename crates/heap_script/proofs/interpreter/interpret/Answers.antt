@@ -1,35 +1,39 @@
-use Rattle.std.proofs.Common.{◌≡◌, ◌∙◌, ℕ, ◌+◌, ◌<◌, List, ◌++◌, Ok, Err, refl, sym, ap, subst, get_or, arith}
-use Rattle.page_space.specs.Extents.{Space}
+use Rattle.std.proofs.Common.{◌≡◌, ◌∙◌, ◌<◌, Ok, Err, refl, ap, get_or, arith}
 use Rattle.std.proofs.lemmas.Option.{slice_get_past}
-use Rattle.std.specs.Prelude.{slice_get, None}
+use Rattle.std.specs.Prelude.{slice_get, None, Some}
 use Rattle.object_graph.specs.Run.{lines_most}
 use Rattle.script_text.specs.Unrolled.{executed_lines}
 use Rattle.script_text.proofs.Left.{at_most_four}
 use Rattle.write_barrier.specs.MutatorState.{Mutator, heap_of}
-use Rattle.heap_script.specs.Stages.{uncollected, stage_of}
+use Rattle.heap_script.specs.Stages.{stage_of}
 use Rattle.heap_script.proofs.Ways.{goes_on, is_inside, past_end}
 use Rattle.heap_script.specs.Runs.{OutputHolds, IsDue}
 use Rattle.heap_script.proofs.Handing.{CutsOff-handed}
 use Rattle.heap_script.proofs.Passing.{as_taken, as_handed}
 use Rattle.heap_script.proofs.Running.{next-drop, Running-start, Running-handed}
-use Rattle.heap_script.proofs.LineCarried.{Running-line, TellsAt-line}
+use Rattle.heap_script.proofs.LineCarried.{Running-line, OutputHolds-line}
 use Rattle.heap_script.proofs.Ending.{EndsRun-end, EndsRun-limit, Stopped-line, Pauses-stopped}
 use Rattle.heap_script.proofs.LineSpaces.{line_space}
-use Rattle.heap_script.specs.Progress.{command_in}
+use Rattle.heap_script.specs.Progress.{command_in, how_of}
+use Rattle.heap_script.specs.declared.finished.How.TheVariants as ways
+use Rattle.heap_script.specs.Found.{PausesFound}
+use Rattle.heap_script.specs.Inspecting.{HasInspected}
 use Rattle.heap_script.proofs.Judging.{is_for, Running-judged, Pauses-judged}
+use Rattle.heap_script.proofs.Inspected.{inspected_after, paused_found, paused_here}
 use Rattle.heap_script.proofs.interpreter.interpret.Goals as goal
 
 pub loop-at-init : goal.loop-at-init
 loop-at-init g c =
     let taken = g.K.Sink.HasTaken c.args.sink.now in
-    let lines = c.lines-lines.ensures in
     record {
       running = rw (c.requires.empty, c.new-turns.ensures)
-          (Running-start c.args.script.now c.args.heap.now taken (rw lines.all at lines.placed) c.requires.shown
+          (Running-start c.args.script.now c.args.heap.now taken (rw c.lines-lines.ensures.all at c.lines-lines.ensures.placed) c.requires.shown
           c.requires.opened c.requires.closed c.requires.variables);
       holds = rw c.requires.empty OutputHolds.nothing;
       space = refl;
+      inspected = HasInspected.nothing;
       same = refl;
+      taken = λ none. none;
       steady = refl;
     }
 
@@ -56,20 +60,16 @@ returns-then-executed-eq-LINES_MOST-clause-pauses g c =
     let script = c.args.script.now in
     let goes = goes_on lines script.lines c.loop-at.at c.loop-at.turns _ c.lines-lines.ensures.all c.loop-at-test.true
     r.left in
-    rw c.after.ensures
-    (record {
-      reached = r.reached;
-      collections = uncollected;
-      opened = r.opened;
-      spends = r.spends;
-      shown = r.shown;
-      halts = (
+    rw c.after.ensures (
+      None,
+      c.loop-at.invariant.inspected,
+      paused_here ways.LineLimit line.number r (
         EndsRun-limit script (stage_of c.loop-at.heap.main) _ c.loop-at.executed line.number _ _ r.reached goes
             c.if-executed-eq-LINES_MOST.true,
         r.handed,
         c.loop-at.invariant.steady,
-      );
-    })
+      ),
+    )
 
 pub returns-clause-pauses : goal.returns-clause-pauses
 returns-clause-pauses g c =
@@ -77,20 +77,16 @@ returns-clause-pauses g c =
     let lines = c.lines-lines.result.now in
     let past : slice_get c.args.script.now.lines c.loop-at.at ≡ None =
     rw (← c.lines-lines.ensures.all) (slice_get_past lines c.loop-at.at c.loop-at-test.false) in
-    rw c.after-2.ensures
-    (record {
-      reached = r.reached;
-      collections = uncollected;
-      opened = r.opened;
-      spends = r.spends;
-      shown = r.shown;
-      halts = (
+    rw c.after-2.ensures (
+      None,
+      c.loop-at.invariant.inspected,
+      paused_here ways.End 0 r (
         EndsRun-end c.args.script.now (stage_of c.loop-at.heap.main) c.loop-at.at c.loop-at.executed c.loop-at.turns
             r.reached r.left past,
         r.handed,
         c.loop-at.invariant.steady,
-      );
-    })
+      ),
+    )
 
 pub returns-in_default : goal.returns-in_default
 returns-in_default g c =
@@ -109,20 +105,18 @@ returns-in_default g c =
       few = omega (arith, r.reached.few);
     } in
     record {
-      pauses = rw c.after-in_default.ensures (record {
-        reached = r.reached;
-        collections = uncollected;
-        opened = r.opened;
-        spends = r.spends;
-        shown = r.shown;
-        halts = (
+      pauses = rw c.after-in_default.ensures (
+        None,
+        c.loop-at.invariant.inspected,
+        paused_here (ways.SinkFault 0) 0 r (
           (refl, refl, refl, due),
           CutsOff-handed r.handed c.in_default.ensures.stopped,
           rw c.loop-at.invariant.steady at c.in_default.ensures.failed,
-        );
-      });
+        ),
+      );
       space = c.loop-at.invariant.space;
       same = c.loop-at.invariant.same;
+      taken = c.loop-at.invariant.taken;
     }
 
 pub stopped-how-requires : goal.stopped-how-requires
@@ -168,12 +162,20 @@ returns-in-Err g c =
     let paused =
     Pauses-stopped c.in-Err.stop stopped (c.in-Ok.ensures.steady ∙ c.loop-at.invariant.steady) in
     let judged = c.stopped-how.ensures in
+    let (found, answered, how-is) = judged.judged in
     record {
-      pauses = rw (out-is, c.after-in-Err.ensures, judged.how) (Pauses-judged paused judged.main judged.shows);
+      pauses = rw (out-is, c.after-in-Err.ensures, how-is) (
+        found,
+        inspected_after after.collected after.main c.loop-at.inspection c.stopped-how.new.inspection found
+            c.loop-at.invariant.inspected answered,
+        paused_found found (how_of c.in-Err.stop) (c.in-Ok.ensures.steady ∙ c.loop-at.invariant.steady)
+            (Pauses-judged paused judged.main judged.shows),
+      );
       space = ap (λ (main : Mutator). main.seat.space) judged.main
           ∙ line_space script.fields heap.rest.in_cycle heap.main after.main r.reached.so_far.graph
           (command_in line.what) text (Err c.in-Err.stop) carries ∙ c.loop-at.invariant.space;
       same = judged.same ∙ c.loop-at.invariant.same;
+      taken = λ none. judged.taken;
     }
 
 pub flaw_behind-requires : goal.flaw_behind-requires
@@ -200,8 +202,8 @@ flaw_behind-requires g c =
           c.requires.for_heap;
     }
 
-pub run_lines-ran-requires-clause-runs : goal.run_lines-ran-requires-clause-runs
-run_lines-ran-requires-clause-runs g c =
+pub run_lines-ran-requires : goal.run_lines-ran-requires
+run_lines-ran-requires g c =
     let script = c.args.script.now in
     let before = c.loop-at.invariant.running in
     let n = c.loop-at.executed in
@@ -218,10 +220,18 @@ run_lines-ran-requires-clause-runs g c =
     c.loop-at.at _ c.loop-at.turns _ n line.number _ text r below goes ran.rest carries in
     let judged = c.flaw_behind.ensures in
     let on = Running-judged running judged.main judged.cycle judged.shows in
-    (on.handed.handed, rw (ran.place, ran.turned, ran.counted, out-is) (as_taken on))
+    record {
+      runs = (on.handed.handed, rw (ran.place, ran.turned, ran.counted, out-is) (as_taken on));
+      variables = on.reached.variables;
+      fields = c.requires.fields;
+    }
 
-pub run_lines-ran-requires-clause-variables : goal.run_lines-ran-requires-clause-variables
-run_lines-ran-requires-clause-variables g c =
+pub loop-at-smaller : goal.loop-at-smaller
+loop-at-smaller g c =
+    omega (arith, c.run_lines-ran.ensures.further, c.loop-at.invariant.running.reached.few)
+
+pub returns-in-Some : goal.returns-in-Some
+returns-in-Some g c =
     let script = c.args.script.now in
     let before = c.loop-at.invariant.running in
     let n = c.loop-at.executed in
@@ -236,14 +246,22 @@ run_lines-ran-requires-clause-variables g c =
     let (text, carries, out-is) = ran.carried r.reached.so_far.graph r.shown r.made in
     let running = Running-line script heap c.execute_line.new.heap c.loop-at.objects c.flush_if_full.new.out _ _
     c.loop-at.at _ c.loop-at.turns _ n line.number _ text r below goes ran.rest carries in
-    let space = ap (λ (main : Mutator). main.seat.space) c.flaw_behind.ensures.main
-    ∙ line_space script.fields heap.rest.in_cycle heap.main c.execute_line.new.heap.main
-    r.reached.so_far.graph (command_in line.what) text (Ok tt) carries ∙ c.loop-at.invariant.space in
-    ap (λ (space : Space). space.variables) space ∙ c.requires.variables
-
-pub loop-at-smaller : goal.loop-at-smaller
-loop-at-smaller g c =
-    omega (arith, c.run_lines-ran.ensures.further, c.loop-at.invariant.running.reached.few)
+    let judged = c.flaw_behind.ensures in
+    let on = Running-judged running judged.main judged.cycle judged.shows in
+    record {
+      pauses = rw c.after-in-Some.ensures (
+        Some c.in-Some.flaw,
+        inspected_after c.execute_line.new.heap.collected c.execute_line.new.heap.main c.loop-at.inspection
+            c.flaw_behind.new.inspection (Some c.in-Some.flaw) c.loop-at.invariant.inspected c.in-Some.ensures.judged,
+        PausesFound.flawed c.in-Some.flaw on.reached.so_far.graph refl on.shown
+            (c.in-Ok.ensures.steady ∙ c.loop-at.invariant.steady),
+      );
+      space = ap (λ (main : Mutator). main.seat.space) judged.main
+          ∙ line_space script.fields heap.rest.in_cycle heap.main c.execute_line.new.heap.main
+          r.reached.so_far.graph (command_in line.what) text (Ok tt) carries ∙ c.loop-at.invariant.space;
+      same = judged.same ∙ c.loop-at.invariant.same;
+      taken = λ none. judged.taken;
+    }
 
 pub loop-at-preserved : goal.loop-at-preserved
 loop-at-preserved g c =
@@ -263,10 +281,8 @@ loop-at-preserved g c =
     c.loop-at.at _ c.loop-at.turns _ n line.number _ text r below goes ran.rest carries in
     let judged = c.flaw_behind.ensures in
     let on = Running-judged running judged.main judged.cycle judged.shows in
-    let tells = TellsAt-line script (heap_of heap.main) _ _ _ _ n line.number _ text _ r.reached goes carries in
-    let holds : OutputHolds script (n + 1) (c.flush_if_full.new.out ++ text) =
-    subst (λ (waiting : List ℕ). OutputHolds script (n + 1) (waiting ++ text)) (sym c.in-Ok.ensures.waits)
-    (OutputHolds.one_more n c.loop-at.out text c.loop-at.invariant.holds tells) in
+    let holds = OutputHolds-line script (heap_of heap.main) _ _ _ _ n line.number _ text _ r.reached goes carries
+    c.in-Ok.ensures.waits c.loop-at.invariant.holds in
     let lines_ran = c.run_lines-ran.ensures in
     let runs = lines_ran.runs on.handed.handed
     (rw (ran.place, ran.turned, ran.counted, out-is) (as_taken on)) in
@@ -276,6 +292,10 @@ loop-at-preserved g c =
       space = lines_ran.space ∙ ap (λ (main : Mutator). main.seat.space) judged.main
           ∙ line_space script.fields heap.rest.in_cycle heap.main c.execute_line.new.heap.main
           r.reached.so_far.graph (command_in line.what) text (Ok tt) carries ∙ c.loop-at.invariant.space;
+      inspected = inspected_after c.execute_line.new.heap.collected c.execute_line.new.heap.main
+          c.loop-at.inspection c.flaw_behind.new.inspection None c.loop-at.invariant.inspected
+          c.in_default-flaw_behind.ensures.judged;
       same = judged.same ∙ c.loop-at.invariant.same;
+      taken = λ none. lines_ran.noted ∙ judged.taken;
       steady = c.in-Ok.ensures.steady ∙ c.loop-at.invariant.steady;
     }

@@ -1,7 +1,8 @@
-use Rattle.std.proofs.Common.{◌≡◌, ◌-◌}
+use Rattle.std.proofs.Common.{◌≡◌, ◌-◌, false, None}
 use Rattle.object_graph.specs.Run.{lines_most}
 use Rattle.heap_script.specs.Stages.{uncollected}
 use Rattle.heap_script.specs.Runs.{OutputHolds}
+use Rattle.heap_script.specs.Inspecting.{HasInspected, plan_of}
 use Rattle.heap_script.specs.Between.{Running}
 use Rattle.heap_script.proofs.interpreter.interpret.Given as goal
 
@@ -11,7 +12,9 @@ invariant-loop-at g l = record {
       l.at l.turns l.executed uncollected;
   holds : OutputHolds l.script l.executed l.out;
   space : l.heap.main.seat.space ≡ l.initial.heap.main.seat.space;
-  same : l.inspection ≡ l.initial.inspection;
+  inspected : HasInspected g.J.Judge.Judged l.initial.inspection l.inspection None;
+  same : plan_of g.J.Judge.regions l.inspection ≡ plan_of g.J.Judge.regions l.initial.inspection;
+  taken : l.initial.heap.collected ≡ false → l.heap.collected ≡ false;
   steady : g.K.Sink.faults l.sink ≡ g.K.Sink.faults l.initial.sink;
 }
 

@@ -13,6 +13,7 @@ loop-command-init g c = record {
   runs = λ script out taken ts spare last start. start;
   holds = λ script out taken ts spare last start room held. held;
   space = refl;
+  noted = refl;
   fewer = omega arith;
 }
 
@@ -49,6 +50,7 @@ returns-then-not-unwrap_or g c =
           rw (still, uncounted) (kept.runs script out taken ts spare last start);
       holds = kept.holds;
       space = ap (λ (heap : HeapState). heap.main.seat.space) still ∙ kept.space;
+      noted = ap (λ (heap : HeapState). heap.collected) still ∙ kept.noted;
       fewer = kept.fewer;
       begins = tt;
     }
@@ -83,6 +85,7 @@ loop-command-preserved g c =
           holds_command (kept.runs script out taken ts spare last start) command does after next on did.rest
           did.tries room (kept.holds script out taken ts spare last start room held);
       space = carried_space [] r.shown.main tries.carries ∙ kept.space;
+      noted = did.noted ∙ kept.noted;
       fewer = omega (arith, kept.fewer, ap length on, length-drop 1 rest);
     }
 
@@ -95,6 +98,7 @@ returns-in_default g c =
       runs = kept.runs;
       holds = kept.holds;
       space = kept.space;
+      noted = kept.noted;
       fewer = kept.fewer;
       begins = record { first = first_does rest _ some refl; none = no_command _ c.in_default.not-Run };
     }
@@ -104,6 +108,7 @@ returns g c = record {
   runs = c.loop-command.invariant.runs;
   holds = c.loop-command.invariant.holds;
   space = c.loop-command.invariant.space;
+  noted = c.loop-command.invariant.noted;
   fewer = c.loop-command.invariant.fewer;
   begins = tt;
 }

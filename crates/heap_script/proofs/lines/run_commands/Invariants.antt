@@ -15,6 +15,7 @@ invariant-loop-command g l = record {
       → length out + ROOM ≤ OUTPUT_BYTES → OutputHolds script (last - (spare + length l.fn.lines)) out
       → OutputHolds script (last - (spare + length l.rest)) out;
   space : l.heap.main.seat.space ≡ l.initial.heap.main.seat.space;
+  noted : l.heap.collected ≡ l.initial.heap.collected;
   fewer : length l.rest ≤ length l.fn.lines;
 }
 

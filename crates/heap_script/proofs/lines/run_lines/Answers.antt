@@ -1,4 +1,4 @@
-use Rattle.std.proofs.Common.{◌≡◌, ◌∙◌, ◌-◌, ◌≤◌, ℕ, List, length, drop, refl, sym, ap, subst, arith, rules}
+use Rattle.std.proofs.Common.{◌≡◌, ◌∙◌, ◌-◌, ◌≤◌, ℕ, suc, List, length, drop, refl, sym, ap, subst, arith, rules}
 use Rattle.std.proofs.lemmas.List.{length-drop}
 use Rattle.object_graph.specs.Run.{lines_most}
 use Rattle.script_text.specs.declared.script.Line.{Line}
@@ -33,6 +33,7 @@ loop-spare-init g c =
       most = omega (arith, enough);
       further = subst (λ (m : ℕ). n ≤ m) (sym whole) (omega arith);
       space = refl;
+      noted = refl;
       within = omega (arith, long);
     }
 
@@ -51,15 +52,15 @@ run_commands-requires g c =
       );
     }
 
-pub next-next-requires : goal.next-next-requires
-next-next-requires g c =
+pub jump-after-requires : goal.jump-after-requires
+jump-after-requires g c =
     let (taken, start) = c.requires.runs in
     let all = c.lines-lines.ensures.all in
     let ran = c.run_commands.ensures in
     let r = ran.runs c.args.script.now c.args.out.now taken c.loop-spare.turns c.loop-spare.spare c.min-last.result
     (c.loop-spare.invariant.runs taken start) in
     let begins = rw c.in-Some.is at ran.begins in
-    record { small = search rules; inside = stands_inside r _ begins.first; deep = deep_jump r begins all }
+    record { small = search rules; jumps = begins.none; inside = stands_inside r _ begins.first; deep = deep_jump r begins all }
 
 pub overflow_add-spare : goal.overflow_add-spare
 overflow_add-spare g c =
@@ -70,7 +71,7 @@ overflow_add-spare g c =
     (c.loop-spare.invariant.runs taken start) in
     let begins = rw c.in-Some.is at ran.begins in
     let within = within_jump r begins all in
-    omega (arith, within, c.next-next.ensures.place, c.loop-spare-test.true, r.most)
+    omega (arith, within, c.jump-after.ensures.place, c.loop-spare-test.true, r.most)
 
 pub lines_from-rest-requires-in-loop-spare : goal.lines_from-rest-requires-in-loop-spare
 lines_from-rest-requires-in-loop-spare g c =
@@ -81,7 +82,9 @@ lines_from-rest-requires-in-loop-spare g c =
     (c.loop-spare.invariant.runs taken start) in
     let begins = rw c.in-Some.is at ran.begins in
     let within = within_jump r begins all in
-    record { within = subst (λ (n : ℕ). n ≤ length c.lines-lines.result.now) (sym c.next-next.ensures.place) within }
+    let last : suc c.jump-after.result ≤ length c.lines-lines.result.now =
+    subst (λ (n : ℕ). n ≤ length c.lines-lines.result.now) (sym c.jump-after.ensures.place) within in
+    record { within = omega (arith, last) }
 
 pub loop-spare-smaller : goal.loop-spare-smaller
 loop-spare-smaller g c =
@@ -91,7 +94,7 @@ loop-spare-smaller g c =
     let r = ran.runs c.args.script.now c.args.out.now taken c.loop-spare.turns c.loop-spare.spare c.min-last.result
     (c.loop-spare.invariant.runs taken start) in
     let begins = rw c.in-Some.is at ran.begins in
-    let count = count_jump r begins all c.loop-spare-test.true c.next-next.ensures.place
+    let count = count_jump r begins all c.loop-spare-test.true c.jump-after.ensures.place
     c.lines_from-rest-in-loop-spare.ensures in
     omega (arith, count, ran.fewer)
 
@@ -106,15 +109,15 @@ loop-spare-preserved g c =
     let kept = c.loop-spare.invariant in
     let room = c.if-is_full.ensures refl in
     let enough = c.loop-spare-test.true in
-    let goes = c.next-next.ensures.place in
-    let turned = c.next-next.ensures.turns in
+    let goes = c.jump-after.ensures.place in
+    let turned = c.jump-after.ensures.turns in
     let from = c.lines_from-rest-in-loop-spare.ensures in
-    let now = RunsLines-jump r begins all enough goes from c.next-next.new.self turned in
+    let now = RunsLines-jump r begins all enough goes from c.jump-after.new.self turned in
     record {
       runs = λ taken start.
           RunsLines-jump
           (ran.runs c.args.script.now c.args.out.now taken c.loop-spare.turns c.loop-spare.spare c.min-last.result
-          (kept.runs taken start)) begins all enough goes from c.next-next.new.self turned;
+          (kept.runs taken start)) begins all enough goes from c.jump-after.new.self turned;
       holds = λ held.
           holds_jump r begins all enough goes from room
           (ran.holds c.args.script.now c.args.out.now taken c.loop-spare.turns c.loop-spare.spare c.min-last.result
@@ -122,6 +125,7 @@ loop-spare-preserved g c =
       most = now.most;
       further = omega (arith, count_jump r begins all enough goes from, kept.most, kept.further, ran.fewer);
       space = ran.space ∙ kept.space;
+      noted = ran.noted ∙ kept.noted;
       within = omega (arith, now.is.within, ap length all);
     }
 
@@ -155,6 +159,14 @@ returns-clause-space g c =
       | else-loop-spare-test w ↦ rw w.heap-is c.loop-spare.invariant.space
       | then-loop-spare-test+in_default w ↦
           rw w.heap-is (w.run_commands.ensures.space ∙ c.loop-spare.invariant.space)
+    ]
+
+pub returns-clause-noted : goal.returns-clause-noted
+returns-clause-noted g c =
+    elim c.loop-spare-test.branch [
+      | else-loop-spare-test w ↦ rw w.heap-is c.loop-spare.invariant.noted
+      | then-loop-spare-test+in_default w ↦
+          rw w.heap-is (w.run_commands.ensures.noted ∙ c.loop-spare.invariant.noted)
     ]
 
 pub returns-clause-further : goal.returns-clause-further

@@ -15,6 +15,7 @@ invariant-loop-spare g l = record {
   most : l.spare + length l.rest ≤ l.last;
   further : l.fn.from.executed ≤ l.last - (l.spare + length l.rest);
   space : l.heap.main.seat.space ≡ l.initial.heap.main.seat.space;
+  noted : l.heap.collected ≡ l.initial.heap.collected;
   within : length l.rest ≤ length l.lines;
 }
 

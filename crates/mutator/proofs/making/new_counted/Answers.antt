@@ -1,10 +1,15 @@
 -- The new list or weak map: its cell is put and bound, or there is no room for it.
-use Rattle.std.proofs.Common.{refl, sym, subst, arith}
+use Rattle.std.proofs.Common.{◌≡◌, ℕ, length, refl, sym, ap, subst, arith}
+use Rattle.page_space.specs.Extents.{segments_start, marks_start}
+use Rattle.page_space.proofs.Starts.{roots_start_is}
+use Rattle.handle_roots.specs.Roots.{root_at}
 use Rattle.heap_model.specs.Types.{Header}
+use Rattle.write_barrier.specs.MutatorState.{Mutator, reserved}
 use Rattle.mutator.specs.declared.stop.Stop.TheVariants.{NoRoom}
+use Rattle.mutator.proofs.BoundFirst.{BindsFirst, makes_first}
 use Rattle.mutator.proofs.EmptyCounted.{IsCountedKind, counted_cell, kind_of_counted, object_of_counted, is_counted}
 use Rattle.mutator.proofs.MadeCells.{counted_making, counted_made}
-use Rattle.mutator.proofs.MadeHeaps.{MakesObject, binds_made}
+use Rattle.mutator.proofs.MadeHeaps.{binds_made}
 use Rattle.mutator.proofs.MadeObjects.{making_carried, making_stopped}
 use Rattle.mutator.proofs.StoppedBy.{stopped_with}
 use Rattle.mutator.specs.Making.{making_of}
@@ -13,17 +18,37 @@ use Rattle.mutator.proofs.making.new_counted.Goals as goal
 pub returns : goal.returns
 returns g c =
     let header : Header = record { shape = c.shape.result; object = c.args.object } in
-    let makes : MakesObject c.args.main.now c.reserve.new.self c.fill_counted.new.main c.hold.new.self c.args.x
-    c.in_ok-run.run'.at (counted_cell (kind_of_counted g.C.Counted.which) header) = record {
-      run = c.in_ok-run.ensures.run.at;
-      taken = c.in_ok-run.ensures.reserved;
+    let old = c.args.main.now in
+    let at : ℕ = c.in_ok-run.run'.at in
+    let cell = counted_cell (kind_of_counted g.C.Counted.which) header in
+    let (known, shows, counted) = c.requires.shown in
+    let run = c.in_ok-run.ensures.run in
+    let same : c.reserve.new.self ≡ reserved old 3 = c.in_ok-run.ensures.reserved in
+    let root : root_at c.reserve.new.self.seat.space c.args.x ≡ root_at old.seat.space c.args.x =
+    ap (λ (main : Mutator). root_at main.seat.space c.args.x) same in
+    let roots = roots_start_is old.seat.space in
+    let cells = ap segments_start shows.tied.space in
+    let marks = ap marks_start shows.tied.space in
+    let binds : BindsFirst old c.reserve.new.self c.hold.new.self c.fill_counted.new.main c.args.x at cell = record {
+      run = run.at;
+      taken = same;
+      held = c.hold.ensures.held;
       put = c.fill_counted.ensures.filled;
-      heap = c.fill_counted.ensures.heap;
       paths = c.fill_counted.ensures.paths;
       young = c.fill_counted.ensures.young;
       touches = c.fill_counted.ensures.touches;
-      holds = record { held = c.hold.ensures.held; heap = c.hold.ensures.heap };
+      within = omega (
+        arith,
+        run.words,
+        run.before_marks,
+        marks,
+        shows.shows.whole.sized.words,
+        ap (λ (main : Mutator). length main.seat.table) same,
+      );
+      behind = omega (arith, run.words, run.in_cells, cells, root, roots);
+      pages = omega (arith, shows.bounded, root, roots, ap (λ (main : Mutator). main.recorded.bound) same);
     } in
+    let makes = makes_first binds in
     let is = subst (λ shape. IsCountedKind (kind_of_counted g.C.Counted.which) shape (object_of_counted g.C.Counted.which))
     (sym c.shape.ensures) (is_counted g.C.Counted.which) in
     record {

@@ -84,7 +84,11 @@ returns-in-InStore-clause-plain o c =
     let (found, field, same, at) = c.in-InStore.ensures in
     (λ _. word_field_shape field, λ _. refl)
 
-pub returns-else-header-lt-PATHS-clause-held : goal.returns-else-header-lt-PATHS-clause-held
-returns-else-header-lt-PATHS-clause-held o c well graph plain shows is =
-    held_none shows is c.requires.headed c.hold.new.self c.args.variable c.args.name
-    (c.in-Absent.ensures (omega (arith, c.if-header-lt-PATHS.false))).1 c.hold.ensures.held c.hold.ensures.heap
+pub hold_undefined-requires-clause-may_store : goal.hold_undefined-requires-clause-may_store
+hold_undefined-requires-clause-may_store o c plain = (shown_whole (c.requires.plain plain).shows).quiet
+
+pub returns-in-Absent-clause-held : goal.returns-in-Absent-clause-held
+returns-in-Absent-clause-held o c well graph plain shows is =
+    let by = c.hold_undefined.ensures in
+    held_none shows is c.requires.headed c.hold_undefined.new.main c.args.variable c.args.name
+    (c.in-Absent.ensures (omega (arith, by.plain.0 well))).1 (by.held well) (by.heap well)

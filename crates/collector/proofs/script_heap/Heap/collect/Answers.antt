@@ -1,4 +1,4 @@
-use Rattle.std.proofs.Common.{◌≡◌, ◌≤◌, ◌∙◌, ℕ, sym, ap, subst}
+use Rattle.std.proofs.Common.{◌≡◌, ◌≤◌, ◌∙◌, ℕ, refl, sym, ap, subst}
 use Rattle.std.specs.Vec.{vec_capacity}
 use Rattle.collector.specs.States.{Rest}
 use Rattle.collector.proofs.Keeping.{still_shows}
@@ -33,4 +33,5 @@ returns c =
           (done.keeps.shows graph shown.main);
       rooms = done.keeps;
       rest = rest;
+      noted = refl;
     })

@@ -12,9 +12,9 @@ split_seat-seat-requires c =
     let s = c.self.inside in
     let inv = c.self.invariant in
     let marks : (overview_of s.seat.me.0).phase ≡ Mark =
-    ap (λ (v : Side). v.main.phase) c.self.view_is ∙ c.requires.mark in
+    ap (λ (v : Side). v.main.phase) (c.self.view_is ∙ c.sound.ensures.same) ∙ c.requires.mark in
     let few : (overview_of s.seat.me.0).out < helpers_most =
-    omega (arith, ap (λ (v : Side). v.main.out) c.self.view_is, c.requires.few) in (
+    omega (arith, ap (λ (v : Side). v.main.out) (c.self.view_is ∙ c.sound.ensures.same), c.requires.few) in (
       search rules,
       omega (arith, ap (λ t. t.table.shared.table_id.words) c.deref.ensures, inv.counted),
       lend_may _ s.counts _ s.seat.me (overview_of s.seat.me.0) (search rules) inv.id inv.me marks few,

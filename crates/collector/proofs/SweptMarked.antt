@@ -1,0 +1,238 @@
+-- Of a heap whose cells are marked, from any starts, clearing and sweeping keep just the marked ones.
+use Rattle.std.proofs.Common.{◌≡◌, ℕ, ◌<◌, ◌↔◌, false, List, Contains, IsTrue, sym, ◌∙◌, ap, subst, arith}
+use Rattle.tagged_word.specs.Cells.{is_free_kind}
+use Rattle.page_space.specs.Sizes.{AreWithin}
+use Rattle.page_space.specs.Extents.{Space, eden_start}
+use Rattle.free_runs.specs.Laws.{IsFreeWord}
+use Rattle.nursery.specs.Young.{Young, no_run, other_half, with_granted}
+use Rattle.object_graph.specs.Graphs.{Graph}
+use Rattle.heap_table.specs.Seats.{RestStays}
+use Rattle.heap_table.specs.Staying.{rest_stays_again}
+use Rattle.heap_model.specs.Types.{Cell, Run}
+use Rattle.heap_model.specs.Heaps.{Heap, HasCell, words_of_cell}
+use Rattle.heap_model.specs.Rooms.{RoomsAreNoFuller}
+use Rattle.heap_model.specs.Showing.{Shows}
+use Rattle.heap_model.specs.Collectable.{IsCollectable}
+use Rattle.heap_model.specs.Remembered.{AreRemembered}
+use Rattle.heap_model.proofs.CellsApart.{cells_apart}
+use Rattle.heap_model.proofs.RememberedSlots.{ends_in_page}
+use Rattle.heap_moves.specs.Standing.{Stays}
+use Rattle.heap_moves.proofs.AllStands.{shows_for}
+use Rattle.heap_moves.proofs.MovedGraphs.{moves_show}
+use Rattle.live_cells.specs.Exact.{IsWordOf}
+use Rattle.live_cells.specs.Live.{IsLive, IsRootTarget}
+use Rattle.write_barrier.specs.MutatorState.{Mutator, heap_of, IsTied, AvoidsFree, MainShows}
+use Rattle.object_cells.proofs.TakenRuns.{bumped_none}
+use Rattle.ephemeron_clear.specs.Clearing.{Clears}
+use Rattle.sweeper.specs.Swept.{Sweeps, IsOfMarked, place_if_marked}
+use Rattle.collector.specs.Born.{FreeIsRun}
+use Rattle.collector.specs.MarkSwept.{Ungrants}
+use Rattle.collector.specs.MarkSwept.{MarkedCellsStay, WasMarked, SweepsMarked}
+use Rattle.collector.proofs.Ungranted.{heap_stays, ungranted_remembered}
+use Rattle.collector.proofs.ClearedHeap.{IsMarked, roots_are_marked, reached_is_marked, marked_is_used}
+use Rattle.collector.proofs.ClearedHeap.{still_collectable, still_shown}
+use Rattle.collector.proofs.SweptObjects.{SweptAfter, marked_cells_stay, used_were_marked, rooms_no_fuller}
+
+-- From a heap that shows a graph, nothing was granted any more; of cells that were marked, from any starts, dead
+-- entries were cleared; and what was not marked was made free.
+pub record Steps (old bare cleared new : Mutator) (graph : Graph) (given maps marked : List ℕ) : Type 0 where
+  pub shown : MainShows old graph
+  pub within : AreWithin bare.seat.space.sizes bare.seat.space.variables
+  pub ungrants : Ungrants old bare
+  pub is_marked : IsMarked (heap_of bare) graph given maps marked
+  pub clears : Clears bare cleared maps marked
+  pub sweeps : Sweeps cleared new marked
+
+-- A heap that shows a graph shows it where nothing is granted any more.
+pub bare_shows : {old bare : Mutator} {graph : Graph} → MainShows old graph → Ungrants old bare
+    → Shows (heap_of bare) graph
+bare_shows {graph = graph} shown ungrants =
+    subst (λ (heap : Heap). Shows heap graph) (sym (heap_stays ungrants)) shown.shows
+
+-- where no word is granted, no free run begins in what is
+none_avoids : (rows : List (List Run)) → AvoidsFree no_run rows
+none_avoids rows row one there among above below = omega (arith, below)
+
+module _ {old bare cleared new : Mutator} {graph : Graph} {given maps marked : List ℕ}
+    (steps : Steps old bare cleared new graph given maps marked) where
+  -- the graph is shown at the end
+  shows : Shows (heap_of new) graph
+  shows =
+      moves_show (heap_of cleared) (heap_of new) (place_if_marked marked) graph
+      (shows_for (Stays (place_if_marked marked)) (still_shown steps.within steps.is_marked steps.clears))
+      steps.sweeps.moved
+
+  -- what is left of objects
+  pub after : SweptAfter bare cleared (heap_of new) graph maps marked
+  after = record {
+    shown = steps.is_marked.shows;
+    takes = steps.clears.takes;
+    marks = reached_is_marked steps.is_marked;
+    moved = steps.sweeps.moved;
+    shows = shows;
+  }
+
+  -- the words of marked cells are those that they had
+  of_marked : (at : ℕ) → IsOfMarked (heap_of cleared) marked at ↔ IsOfMarked (heap_of bare) marked at
+  of_marked at = (
+    λ is. record {
+      cell = is.cell;
+      words = words_of_cell (heap_of bare) is.cell;
+      has = steps.clears.takes.cells.stood is.cell is.words is.has;
+      among = is.among;
+      from = is.from;
+      below = is.below;
+    },
+    λ is. record {
+      cell = is.cell;
+      words = words_of_cell (heap_of cleared) is.cell;
+      has = steps.clears.takes.cells.stays is.cell is.words is.has;
+      among = is.among;
+      from = is.from;
+      below = is.below;
+    },
+  )
+
+  -- so free runs have all other words of pages
+  pub swept_words : (at : ℕ) → at < eden_start bare.seat.space
+      → IsFreeWord new.free at ↔ (IsOfMarked (heap_of bare) marked at → ⊥)
+  swept_words at below =
+      let space = steps.clears.takes.uses.beside.space in
+      let in_page = subst (λ (one : Space). at < eden_start one) (sym space) below in
+      let filled = steps.sweeps.filled at in_page in (
+        λ free is. filled.0 free ((of_marked at).1 is),
+        λ none. filled.1 (λ is. none ((of_marked at).0 is)),
+      )
+
+  -- a free cell that has a word of a marked cell is that cell
+  unused_were_marked : (cell : Cell) (words : List ℕ) (at : ℕ) → HasCell (heap_of new) cell words
+      → IsTrue (is_free_kind cell.layout.kind) → IsWordOf cell at → IsOfMarked (heap_of bare) marked at
+      → WasMarked (heap_of bare) marked cell
+  unused_were_marked cell words at has free word is =
+      let stood = marked_cells_stay after is.cell is.words is.has is.among in
+      let same : is.cell ≡ cell = cells_apart at shows.whole.rows stood.1 has
+      (record { from = is.from; below = is.below }) (record { from = word.from; below = word.below }) in
+      record {
+        words = is.words;
+        had = subst (λ (one : Cell). HasCell (heap_of bare) one is.words) same is.has;
+        among = subst (λ (one : Cell). Contains marked one.at) same is.among;
+      }
+
+  -- so a free cell of a page has none
+  free_is_unmarked : (cell : Cell) (words : List ℕ) (at : ℕ) → HasCell (heap_of new) cell words
+      → IsTrue (is_free_kind cell.layout.kind) → cell.at < eden_start new.seat.space → IsWordOf cell at
+      → IsOfMarked (heap_of bare) marked at → ⊥
+  free_is_unmarked cell words at has free of_page word is =
+      let was = unused_were_marked cell words at has free word is in
+      let space : new.seat.space ≡ bare.seat.space =
+      steps.sweeps.seat.space ∙ steps.clears.takes.uses.beside.space in
+      marked_is_used steps.is_marked was.had was.among
+      (subst (λ (one : Space). cell.at < eden_start one) space of_page) free
+
+  -- so each word of it is in a free run
+  filled : FreeIsRun (heap_of new) new.free
+  filled cell words at has free of_page word =
+      let space : new.seat.space ≡ bare.seat.space =
+      steps.sweeps.seat.space ∙ steps.clears.takes.uses.beside.space in
+      let below : at < eden_start new.seat.space = omega (arith, ends_in_page has of_page, word.below) in
+      (swept_words at (subst (λ (one : Space). at < eden_start one) space below)).1
+      (free_is_unmarked cell words at has free of_page word)
+
+  -- the heap was as it is once nothing is granted
+  pub same_heap : heap_of bare ≡ heap_of old
+  same_heap = heap_stays steps.ungrants
+
+  -- the young generation is as it was, but nothing is granted
+  pub young_is : new.young ≡ with_granted old.young no_run
+  young_is =
+      steps.sweeps.young ∙ steps.clears.takes.uses.young ∙ bumped_none bare.young ∙ steps.ungrants.young
+
+  -- so no free run begins in what is granted
+  apart : AvoidsFree new.young.granted new.free
+  apart = subst (λ (young : Young). AvoidsFree young.granted new.free) (sym young_is) (none_avoids new.free)
+
+  -- regions and phase are the same
+  pub rest : RestStays old.seat new.seat
+  rest =
+      rest_stays_again old.seat cleared.seat new.seat
+      (rest_stays_again old.seat bare.seat cleared.seat steps.ungrants.beside steps.clears.takes.uses.beside)
+      steps.sweeps.seat
+
+  -- the parts agree
+  tied : IsTied new
+  tied = record {
+    space = ap (λ (young : Young). young.space) steps.sweeps.young ∙ steps.clears.takes.tied.space
+        ∙ sym steps.sweeps.seat.space;
+    granted = λ some.
+        let none : new.young.granted.words ≡ 0 = ap (λ (young : Young). young.granted.words) young_is in
+        absurd (omega (arith, some, none));
+  }
+
+  -- the other half is empty
+  collectable : IsCollectable (heap_of new) (other_half new.young.half)
+  collectable =
+      let half : ℕ = other_half old.young.half in
+      let was : IsCollectable (heap_of bare) half =
+      subst (λ (heap : Heap). IsCollectable heap half) (sym same_heap) steps.shown.collectable in
+      subst (λ (young : Young). IsCollectable (heap_of new) (other_half young.half)) (sym young_is)
+      (steps.sweeps.collectable half (still_collectable steps.within steps.is_marked steps.clears half was))
+
+  -- recorded are addresses of pages, where nothing is granted
+  bounded_bare : bare.recorded.bound ≡ eden_start bare.seat.space
+  bounded_bare =
+      steps.ungrants.touches.bound ∙ steps.shown.bounded
+      ∙ ap (λ (space : Space). eden_start space) (sym steps.ungrants.beside.space)
+
+  -- where dead entries are cleared
+  bounded_cleared : cleared.recorded.bound ≡ eden_start cleared.seat.space
+  bounded_cleared =
+      steps.clears.takes.bound ∙ bounded_bare
+      ∙ ap (λ (space : Space). eden_start space) (sym steps.clears.takes.uses.beside.space)
+
+  -- and at the end
+  bounded : new.recorded.bound ≡ eden_start new.seat.space
+  bounded =
+      steps.sweeps.bound ∙ bounded_cleared ∙ ap (λ (space : Space). eden_start space) (sym steps.sweeps.seat.space)
+
+  -- and they are those that are to be
+  remembered : AreRemembered (heap_of new) new.recorded.slots
+  remembered =
+      steps.sweeps.remembered bounded_cleared (steps.clears.takes.remembered bounded_bare
+      (ungranted_remembered steps.ungrants steps.shown.bounded steps.shown.remembered))
+
+  -- So the graph is shown.
+  pub still_shows : MainShows new graph
+  still_shows = record {
+    tied = tied;
+    is_graph = steps.shown.is_graph;
+    quiet = steps.sweeps.seat.phase ∙ steps.clears.takes.whole.quiet;
+    shows = shows;
+    collectable = collectable;
+    free = steps.sweeps.free;
+    apart = apart;
+    bounded = bounded;
+    remembered = remembered;
+  }
+
+  -- And marked cells alone are kept.
+  pub swept_marked : SweepsMarked old new marked graph
+  swept_marked = record {
+    shows = still_shows;
+    cells = subst (λ (heap : Heap). MarkedCellsStay heap (heap_of new) marked) same_heap (marked_cells_stay after);
+    live = subst (λ (heap : Heap). (at : ℕ) → IsLive heap (IsRootTarget heap) at → Contains marked at) same_heap
+        (roots_are_marked steps.is_marked);
+    used = subst (λ (heap : Heap). (cell : Cell) (words : List ℕ) → HasCell (heap_of new) cell words
+        → is_free_kind cell.layout.kind ≡ false → WasMarked heap marked cell) same_heap (used_were_marked after);
+    unused = subst (λ (heap : Heap). (cell : Cell) (words : List ℕ) (at : ℕ) → HasCell (heap_of new) cell words
+        → IsTrue (is_free_kind cell.layout.kind) → IsWordOf cell at → IsOfMarked heap marked at
+        → WasMarked heap marked cell) same_heap unused_were_marked;
+    swept = subst (λ (heap : Heap). (at : ℕ) → at < eden_start heap.space
+        → IsFreeWord new.free at ↔ (IsOfMarked heap marked at → ⊥)) same_heap swept_words;
+    apart = steps.sweeps.apart;
+    filled = filled;
+    rows = steps.sweeps.rows ∙ ap (λ (space : Space). space.sizes.pages) (sym steps.sweeps.seat.space);
+    rooms = subst (λ (heap : Heap). RoomsAreNoFuller heap (heap_of new) graph) same_heap (rooms_no_fuller after);
+    seat = rest;
+    paths = steps.sweeps.paths ∙ steps.clears.takes.paths ∙ steps.ungrants.paths;
+    young = young_is;
+  }

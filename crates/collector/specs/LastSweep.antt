@@ -1,0 +1,44 @@
+-- When what is left of a marking with a head start is what a collection has to leave that ends a cycle.
+use Rattle.std.specs.Prelude.{◌≡◌, ◌<◌, ◌≤◌, ◌⊎◌, ℕ, false, List, Contains, IsTrue, length}
+use Rattle.tagged_word.specs.Cells.{is_free_kind}
+use Rattle.page_space.specs.Extents.{eden_start}
+use Rattle.object_graph.specs.Graphs.{Graph}
+use Rattle.object_graph.specs.Reach.{is_marked, reach}
+use Rattle.heap_model.specs.Types.{Cell}
+use Rattle.heap_model.specs.Heaps.{Heap, HasCell}
+use Rattle.heap_model.specs.Slots.{IsPlace}
+use Rattle.live_cells.specs.Exact.{IsWordOf}
+use Rattle.live_cells.specs.Laws.{BelongsToReached}
+use Rattle.write_barrier.specs.MutatorState.{Mutator, heap_of}
+use Rattle.sweeper.specs.Swept.{IsOfMarked}
+use Rattle.collector.specs.Born.{Opening, WasDead, LeavesBorn}
+use Rattle.collector.specs.MarkSwept.{SweepsMarked}
+
+-- each object whose cell is marked could be reached when the cycle began, or was made since
+abbrev pub MarksBorn : Opening → Heap → List ℕ → Type 0
+MarksBorn opening heap marked =
+    (number at : ℕ) → IsPlace heap number at → Contains marked at
+    → IsTrue (is_marked (reach opening.graph) number) ⊎ (length opening.graph.objects ≤ number)
+
+-- a cell of a page that is marked, is not free, and belongs to nothing that can be reached in the end, has no word that
+-- was dead when the cycle began
+abbrev pub MarksNoDeadWord : Opening → (old new : Heap) → List ℕ → Graph → Type 0
+MarksNoDeadWord opening old new marked graph =
+    (cell : Cell) (words : List ℕ) (at : ℕ) → HasCell old cell words → is_free_kind cell.layout.kind ≡ false
+    → cell.at < eden_start old.space → Contains marked cell.at → (BelongsToReached new graph cell.at → ⊥)
+    → IsWordOf cell at → WasDead opening at → ⊥
+
+-- each cell of the young generation begins in a word of a marked cell
+abbrev pub YoungIsMarked : (old new : Heap) → List ℕ → Type 0
+YoungIsMarked old new marked =
+    (cell : Cell) (words : List ℕ) → HasCell new cell words → eden_start new.space ≤ cell.at
+    → IsOfMarked old marked cell.at
+
+-- Where cells were marked from any starts, and these are born, have no word that was dead, and have all words of the young
+-- generation, the sweep leaves all that the end of a cycle has to leave.
+abbrev pub SweptIsBorn : Type 0
+SweptIsBorn =
+    (opening : Opening) (old new : Mutator) (marked : List ℕ) (graph : Graph) → SweepsMarked old new marked graph
+    → MarksBorn opening (heap_of old) marked → MarksNoDeadWord opening (heap_of old) (heap_of new) marked graph
+    → YoungIsMarked (heap_of old) (heap_of new) marked
+    → LeavesBorn opening (heap_of old) (heap_of new) new.free graph

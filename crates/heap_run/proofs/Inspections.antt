@@ -1,0 +1,35 @@
+-- How the heap of a run is inspected that is ready to begin.
+use Rattle.std.proofs.Common.{◌≡◌, ◌∙◌, refl, sym, ap, subst}
+use Rattle.page_space.specs.Extents.{Space}
+use Rattle.collector.specs.States.{HeapState}
+use Rattle.heap_script.specs.declared.inspecting.Inspection.{Inspection}
+use Rattle.heap_script.specs.Inspecting.{counts_at_end, plan_of, IsFor}
+use Rattle.heap_script.specs.Inspectors.{same_space}
+use Rattle.heap_run.specs.declared.opened.Inspects.{Inspects}
+use Rattle.heap_run.specs.declared.opened.Inspects.TheVariants.{Nothing, Counts, Checks}
+use Rattle.heap_run.specs.Opening.{is_counted, inspection_for}
+
+-- it is counted at the end just where that was asked for
+counts_as_asked : (inspects : Inspects) (space : Space)
+    → counts_at_end (inspection_for inspects space) ≡ is_counted inspects
+counts_as_asked Nothing space = refl
+counts_as_asked Counts space = refl
+counts_as_asked Checks space = refl
+
+-- so is each heap of which it is known
+pub counts_asked : (inspects : Inspects) (space : Space) (inspection : Inspection Space)
+    → inspection ≡ inspection_for inspects space → counts_at_end inspection ≡ is_counted inspects
+counts_asked inspects space inspection is = ap counts_at_end is ∙ counts_as_asked inspects space
+
+-- a checker, if there is one, is for the regions of the heap
+is_for_space : (heap : HeapState) (inspects : Inspects)
+    → IsFor heap (plan_of same_space (inspection_for inspects heap.main.seat.space))
+is_for_space heap Nothing = tt
+is_for_space heap Counts = tt
+is_for_space heap Checks = refl
+
+-- so is that of each inspection of which this is known
+pub is_for_heap : (heap : HeapState) (inspects : Inspects) (inspection : Inspection Space)
+    → inspection ≡ inspection_for inspects heap.main.seat.space → IsFor heap (plan_of same_space inspection)
+is_for_heap heap inspects inspection is =
+    subst (λ (one : Inspection Space). IsFor heap (plan_of same_space one)) (sym is) (is_for_space heap inspects)

@@ -1,0 +1,13 @@
+use Rattle.heap_script.proofs.Judged.{finishes_unflawed}
+use Rattle.heap_run.proofs.Inspections.{is_for_heap}
+use Rattle.heap_run.proofs.opened.Opened.run.Goals as goal
+
+pub run_script-finished-requires-clause-for_heap : goal.run_script-finished-requires-clause-for_heap
+run_script-finished-requires-clause-for_heap g c κs within =
+    let (inspects, sizes, ready) = c.requires in
+    is_for_heap c.args.self.heap inspects c.args.self.inspection ready.inspected
+
+pub returns-clause-finishes : goal.returns-clause-finishes
+returns-clause-finishes g c =
+    let (found, inspected, told) = c.run_script-finished.ensures.finishes in
+    finishes_unflawed found c.args.self.inspection c.run_script-finished.new.inspection inspected told

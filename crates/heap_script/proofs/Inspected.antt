@@ -1,0 +1,266 @@
+-- A run whose judge answered: with a flaw, to which it comes, or with none.
+use Rattle.std.proofs.Common.{◌≡◌, ◌≢◌, ◌⊎◌, ◌∙◌, ℕ, Bool, true, false, List, Option, Some, None, inl, inr, refl, sym, ap}
+use Rattle.std.proofs.Common.{subst, Result, Ok, Err, IfOk}
+use Rattle.object_graph.specs.Graphs.{Graph}
+use Rattle.page_space.specs.Extents.{Space}
+use Rattle.script_text.specs.Scripts.{ScriptText}
+use Rattle.write_barrier.specs.MutatorState.{Mutator}
+use Rattle.collector.specs.States.{HeapState, HeapShows}
+use Rattle.byte_ends.specs.Faults.{Rose}
+use Rattle.byte_ends.specs.Sink.{Appends}
+use Rattle.heap_check.specs.declared.counts.Counts.{Counts}
+use Rattle.heap_check.specs.declared.flaw.Flaw.{Flaw}
+use Rattle.heap_script.specs.declared.finished.How.{How}
+use Rattle.heap_script.specs.declared.finished.How.TheVariants as ways
+use Rattle.heap_script.specs.declared.finished.Finished.{Finished}
+use Rattle.heap_script.specs.declared.inspecting.Inspection.{Inspection}
+use Rattle.heap_script.specs.declared.inspecting.Inspection.TheVariants.{Nothing, Counts as ByCensus, Checks}
+use Rattle.heap_script.specs.Found.{PausesFound, FinishesFound}
+use Rattle.heap_script.specs.Inspecting.{HasInspected, JudgesAfter, InspectsEnd, EndsJudged}
+use Rattle.heap_script.specs.Inspecting.{counts_at_end, plan_of, how_found, how_judged}
+use Rattle.heap_script.specs.Between.{Running}
+use Rattle.heap_script.specs.Progress.{Pauses, Halts}
+use Rattle.heap_script.specs.Runs.{HasCounts, CutsOff, need_at}
+use Rattle.heap_script.specs.Stages.{uncollected, stage_of}
+use Rattle.heap_script.proofs.Finishing.{finished_by, Finishes-cut, Finishes-written, Finishes-failed}
+use Rattle.heap_script.proofs.Judging.{pauses_alike, pauses_counted}
+
+-- how judges answer
+abbrev pub Answering : Type 0 → Type 1
+Answering J = J → J → Mutator → Result Counts Flaw → Type 0
+
+-- what was judged after a line was judged too
+pub inspected_after : {J : Type 0} {Judged : Answering J} {before : Inspection J} (collected : Bool) (main : Mutator)
+    (mid later : Inspection J) (found : Option Flaw) → HasInspected Judged before mid None
+    → JudgesAfter Judged collected main mid later found → HasInspected Judged before later found
+inspected_after true main Nothing later found begun (same, none) = rw (same, none) begun
+inspected_after true main ByCensus later found begun (same, none) = rw (same, none) begun
+inspected_after {Judged = Judged} {before} true main (Checks judge) later found begun (next, is, finds) =
+    subst (λ (one : Inspection _). HasInspected Judged before one found) (sym is)
+    (HasInspected.one_more judge next main found begun finds)
+inspected_after false main mid later found begun (same, none) = rw (same, none) begun
+
+-- a run that stopped, while the sink did not fail, comes to that, or to a flaw
+pub paused_found : (found : Option Flaw) (how : How) {script : ScriptText} {heap : HeapState} {waiting : List ℕ}
+    {line n : ℕ} {old new : List ℕ → Type 0} {fo fn : ℕ} → fn ≡ fo
+    → Pauses false script heap waiting (finished_by how line n) old new fo fn
+    → PausesFound false script heap waiting (finished_by (how_found found how) line n) old new fo fn found
+paused_found None how steady p = PausesFound.unflawed p
+paused_found (Some flaw) how steady p = PausesFound.flawed flaw p.reached.so_far.graph refl p.shown steady
+
+-- a run that goes no further between two lines, where no collection came since the last one, pauses there
+pub paused_here : {script : ScriptText} {heap : HeapState} {objects : ℕ} {waiting kept : List ℕ}
+    {old new last : List ℕ → Type 0} {at : ℕ} {ts : List ℕ} {n : ℕ} {fo fn : ℕ} (how : How) (line : ℕ)
+    → (r : Running script heap objects waiting old new at ts n uncollected)
+    → Halts false script (stage_of heap.main) uncollected kept (finished_by how line n) r.reached.so_far old last fo fn
+    how
+    → PausesFound false script heap kept (finished_by how line n) old last fo fn None
+paused_here how line r halts =
+    PausesFound.unflawed
+    (record {
+      reached = r.reached;
+      collections = uncollected;
+      opened = r.opened;
+      spends = r.spends;
+      shown = r.shown;
+      halts = halts;
+    })
+
+-- the heap of a run shows a graph, whatever was found
+pub shown_found : {found : Option Flaw} {counted : Bool} {script : ScriptText} {heap : HeapState} {waiting : List ℕ}
+    {finished : Finished} {old new : List ℕ → Type 0} {fo fn : ℕ}
+    → PausesFound counted script heap waiting finished old new fo fn found → (graph : Graph) × HeapShows heap graph
+shown_found (PausesFound.unflawed p) = (p.reached.so_far.graph, p.shown)
+shown_found (PausesFound.flawed flaw graph is shown steady) = (graph, shown)
+
+-- a run came to the end of its script, or to something else
+ends_or : (how : How) → (how ≡ ways.End) ⊎ (how ≢ ways.End)
+ends_or ways.End = inl refl
+ends_or (ways.Counted counts) = inr (λ e. cc)
+ends_or (ways.Fault word) = inr (λ e. cc)
+ends_or (ways.HeapFull need) = inr (λ e. cc)
+ends_or (ways.SinkFault need) = inr (λ e. cc)
+ends_or ways.LineLimit = inr (λ e. cc)
+ends_or (ways.Flawed flaw) = inr (λ e. cc)
+
+-- where it is something else, nothing is inspected
+unended : {J : Type 0} (Judged : Answering J) (inspection later : Inspection J) (old new : HeapState) (graph : Graph)
+    (how came : How) → how ≢ ways.End → InspectsEnd Judged inspection later old new graph how came
+    → (later ≡ inspection) × (came ≡ how) × (new ≡ old)
+unended Judged Nothing later old new graph how came other e = e
+unended Judged ByCensus later old new graph ways.End came other e = absurd (other refl)
+unended Judged ByCensus later old new graph (ways.Counted counts) came other e = e
+unended Judged ByCensus later old new graph (ways.Fault word) came other e = e
+unended Judged ByCensus later old new graph (ways.HeapFull need) came other e = e
+unended Judged ByCensus later old new graph (ways.SinkFault need) came other e = e
+unended Judged ByCensus later old new graph ways.LineLimit came other e = e
+unended Judged ByCensus later old new graph (ways.Flawed flaw) came other e = e
+unended Judged (Checks judge) later old new graph ways.End came other e = absurd (other refl)
+unended Judged (Checks judge) later old new graph (ways.Counted counts) came other e = e
+unended Judged (Checks judge) later old new graph (ways.Fault word) came other e = e
+unended Judged (Checks judge) later old new graph (ways.HeapFull need) came other e = e
+unended Judged (Checks judge) later old new graph (ways.SinkFault need) came other e = e
+unended Judged (Checks judge) later old new graph ways.LineLimit came other e = e
+unended Judged (Checks judge) later old new graph (ways.Flawed flaw) came other e = e
+
+-- the regions of the heap stay at the end of a script
+ended_space : {J : Type 0} (Judged : Answering J) (inspection later : Inspection J) (heap after : HeapState)
+    (graph : Graph) (came : How) → InspectsEnd Judged inspection later heap after graph ways.End came
+    → after.main.seat.space ≡ heap.main.seat.space
+ended_space Judged Nothing later heap after graph came (kept, is, same) =
+    ap (λ (one : HeapState). one.main.seat.space) same
+ended_space Judged ByCensus later heap after graph came (kept, counted) = counted.collects.seat.space
+ended_space Judged (Checks judge) later heap after graph came (next, kept, judged) = judged.collects.seat.space
+
+-- and wherever a run came to
+pub inspected_space : {J : Type 0} (Judged : Answering J) (inspection later : Inspection J) (heap after : HeapState)
+    (graph : Graph) (how came : How) → InspectsEnd Judged inspection later heap after graph how came
+    → after.main.seat.space ≡ heap.main.seat.space
+inspected_space Judged inspection later heap after graph how came e = elim (ends_or how) [
+  | inl is ↦
+      ended_space Judged inspection later heap after graph came
+      (subst (λ one. InspectsEnd Judged inspection later heap after graph one came) is e)
+  | inr other ↦
+      let (kept, was, same) = unended Judged inspection later heap after graph how came other e in
+      ap (λ (one : HeapState). one.main.seat.space) same
+]
+
+-- What a run came to before its last bytes are handed on, once its end was inspected.
+pub record IsInspected {J : Type 0} (Judged : Answering J) (before later : Inspection J) (counted : Bool)
+    (script : ScriptText) (heap : HeapState) (waiting : List ℕ) (finished : Finished) (old new : List ℕ → Type 0)
+    (fo fn : ℕ) : Type 0 where
+  pub found : Option Flaw
+  pub inspected : HasInspected Judged before later found
+  pub paused : PausesFound counted script heap waiting finished old new fo fn found
+
+module _ {J : Type 0} (Judged : Answering J) (regions : J → Space) (before : Inspection J) (script : ScriptText)
+    (heap after : HeapState) (waiting : List ℕ) (line n : ℕ) (old new : List ℕ → Type 0) (fo fn : ℕ) where
+  -- what is inspected of a run that came to this, by its inspection before and after
+  abbrev pub Inspects : Inspection J → Inspection J → How → Type 0
+  Inspects mid later came =
+      IsInspected Judged before later (counts_at_end (plan_of regions mid)) script after waiting
+      (finished_by came line n) old new fo fn
+
+  -- a judge answered at the end of the script
+  judged_end : (judge next : J) (later : Inspection J) (came : How) (answer : Result Counts Flaw)
+      → HasInspected Judged before (Checks judge) None
+      → (p : Pauses false script heap waiting (finished_by ways.End line n) old new fo fn) → later ≡ Checks next
+      → (e : EndsJudged Judged judge next heap after p.reached.so_far.graph came) → e.answer ≡ answer
+      → Inspects (Checks judge) later came
+  judged_end judge next later came (Ok counts) begun p kept e is =
+      rw kept
+      (record {
+        found = None;
+        inspected = HasInspected.one_more judge next after.main None begun
+            (Ok counts, subst (Judged judge next after.main) is e.judged, refl);
+        paused = PausesFound.unflawed
+            (pauses_counted came p
+            (record {
+              collects = e.collects;
+              shows = e.shows;
+              counts = counts;
+              is = e.is ∙ ap how_judged is;
+              counted = subst (λ (one : Result Counts Flaw). IfOk one (HasCounts p.reached.so_far.graph)) is e.counted;
+            }));
+      })
+  judged_end judge next later came (Err flaw) begun p kept e is =
+      let (ends, handed, steady) = p.halts in
+      rw kept
+      (record {
+        found = Some flaw;
+        inspected = HasInspected.one_more judge next after.main (Some flaw) begun
+            (Err flaw, subst (Judged judge next after.main) is e.judged, refl);
+        paused = PausesFound.flawed flaw p.reached.so_far.graph (e.is ∙ ap how_judged is) e.shows steady;
+      })
+
+  -- the run came to the end of its script
+  inspected_end : (mid later : Inspection J) (came : How) → HasInspected Judged before mid None
+      → (p : Pauses false script heap waiting (finished_by ways.End line n) old new fo fn)
+      → InspectsEnd Judged mid later heap after p.reached.so_far.graph ways.End came → Inspects mid later came
+  inspected_end Nothing later came begun p (kept, is, same) =
+      rw (kept, is, same) (record { found = None; inspected = begun; paused = PausesFound.unflawed p })
+  inspected_end ByCensus later came begun p (kept, counted) =
+      rw kept (record { found = None; inspected = begun; paused = PausesFound.unflawed (pauses_counted came p counted) })
+  inspected_end (Checks judge) later came begun p (next, kept, e) =
+      judged_end judge next later came e.answer begun p kept e refl
+
+  -- it came to something else
+  inspected_else : (mid later : Inspection J) (how came : How) → how ≢ ways.End → HasInspected Judged before mid None
+      → (p : Pauses false script heap waiting (finished_by how line n) old new fo fn)
+      → (later ≡ mid) × (came ≡ how) × (after ≡ heap) → Inspects mid later came
+  inspected_else mid later how came other begun p (kept, is, same) =
+      rw kept
+      (record {
+        found = None;
+        inspected = begun;
+        paused = PausesFound.unflawed (pauses_alike (counts_at_end (plan_of regions mid)) how came other p (is, same));
+      })
+
+  -- so it is wherever it came to, if no flaw was found before
+  inspected_none : (mid later : Inspection J) (how came : How) → HasInspected Judged before mid None
+      → (how ≡ ways.End) ⊎ (how ≢ ways.End)
+      → (p : Pauses false script heap waiting (finished_by how line n) old new fo fn)
+      → InspectsEnd Judged mid later heap after p.reached.so_far.graph how came → Inspects mid later came
+  inspected_none mid later how came begun (inl is) =
+      subst
+      (λ one. (p : Pauses false script heap waiting (finished_by one line n) old new fo fn)
+      → InspectsEnd Judged mid later heap after p.reached.so_far.graph one came → Inspects mid later came) (sym is)
+      (inspected_end mid later came begun)
+  inspected_none mid later how came begun (inr other) = λ p e.
+      inspected_else mid later how came other begun p
+      (unended Judged mid later heap after p.reached.so_far.graph how came other e)
+
+  -- so a run is inspected that paused anywhere
+  pub pauses_inspected : {found : Option Flaw} (mid later : Inspection J) (how came : How)
+      → HasInspected Judged before mid found
+      → PausesFound false script heap waiting (finished_by how line n) old new fo fn found
+      → ((graph : Graph) → HeapShows heap graph → InspectsEnd Judged mid later heap after graph how came)
+      → Inspects mid later came
+  pauses_inspected mid later how came begun (PausesFound.unflawed p) ends =
+      inspected_none mid later how came begun (ends_or how) p (ends p.reached.so_far.graph p.shown)
+  pauses_inspected mid later how came begun (PausesFound.flawed flaw graph is shown steady) ends =
+      let other : how ≢ ways.End = λ ended. cc in
+      let (kept, was, same) = unended Judged mid later heap after graph how came other (ends graph shown) in
+      rw kept
+      (record {
+        found = Some flaw;
+        inspected = begun;
+        paused = PausesFound.flawed flaw graph (was ∙ is) (subst (λ one. HeapShows one graph) (sym same) shown)
+            steady;
+      })
+
+module _ (counted : Bool) (script : ScriptText) (heap : HeapState) (waiting : List ℕ) where
+  -- the sink failed between two lines
+  pub found_cut : {found : Option Flaw} (how : How) (line n need : ℕ) (old new : List ℕ → Type 0) (fo fn : ℕ) → how ≡ ways.SinkFault need
+      → PausesFound counted script heap waiting (finished_by how line n) old new fo fn found
+      → FinishesFound counted script (stage_of heap.main) (finished_by how line n) old new fo fn found
+  found_cut how line n need old new fo fn is (PausesFound.unflawed p) =
+      FinishesFound.unflawed (Finishes-cut counted script heap waiting how line n need old new fo fn is p)
+  found_cut how line n need old new fo fn is (PausesFound.flawed flaw graph other shown steady) =
+      FinishesFound.flawed flaw other steady
+
+  -- what waited was written
+  pub found_written : {found : Option Flaw} (how : How) (line n : ℕ) (old mid new : List ℕ → Type 0) (fo fm last : ℕ)
+      → ((need : ℕ) → how ≡ ways.SinkFault need → ⊥)
+      → PausesFound counted script heap waiting (finished_by how line n) old mid fo fm found
+      → Appends mid new waiting → last ≡ fm
+      → FinishesFound counted script (stage_of heap.main) (finished_by how line n) old new fo last found
+  found_written how line n old mid new fo fm last other (PausesFound.unflawed p) wrote same =
+      FinishesFound.unflawed
+      (Finishes-written counted script heap waiting how line n old mid new fo fm last other p wrote same)
+  found_written how line n old mid new fo fm last other (PausesFound.flawed flaw graph is shown steady) wrote same =
+      FinishesFound.flawed flaw is (same ∙ steady)
+
+  -- writing what waited failed
+  pub found_failed : {found : Option Flaw} (how : How) (line n : ℕ) (old mid new : List ℕ → Type 0) (fo fm last : ℕ)
+      → ((need : ℕ) → how ≡ ways.SinkFault need → ⊥)
+      → PausesFound counted script heap waiting (finished_by how line n) old mid fo fm found
+      → CutsOff mid new waiting → Rose fm last
+      → FinishesFound counted script (stage_of heap.main) (finished_by (ways.SinkFault (need_at how)) line n) old new
+      fo last found
+  found_failed how line n old mid new fo fm last other (PausesFound.unflawed p) wrote rose =
+      FinishesFound.unflawed
+      (Finishes-failed counted script heap waiting how line n old mid new fo fm last other p wrote rose)
+  found_failed how line n old mid new fo fm last other (PausesFound.flawed flaw graph is shown steady) wrote rose =
+      FinishesFound.cut flaw (ap (λ (one : How). ways.SinkFault (need_at one)) is)
+      (subst (λ before. Rose before last) steady rose)

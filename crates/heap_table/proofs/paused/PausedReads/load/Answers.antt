@@ -1,5 +1,0 @@
-use Rattle.std.proofs.Common.{arith}
-use Rattle.heap_table.proofs.paused.PausedReads.load.Goals as goal
-
-pub word-requires : goal.word-requires
-word-requires c = omega (arith, c.regions-regions.ensures.heap_counted)

@@ -1,0 +1,2 @@
+pub mod SnapNames
+pub mod ReadSlots
