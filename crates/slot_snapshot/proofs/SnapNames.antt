@@ -16,12 +16,13 @@ use Rattle.shared_table.specs.HelperTold.{HasReadShape}
 use Rattle.shared_table.specs.Seats.{Helping}
 use Rattle.slot_snapshot.specs.Loads.{IsLaid, reading, shape_in}
 
--- a test that fails gives nothing, and one that passes its value
+-- where a test gives no shape, nothing is named by it
 given_none : (b : Bool) (shape : ℕ) (name : Named) → given b shape ≡ None → (if b then name else Named.no_cell) ≡
     Named.no_cell
 given_none true shape name e = cc
 given_none false shape name e = refl
 
+-- where it gives one, it passed, and the shape is its value
 given_some : (b : Bool) (value shape : ℕ) → given b value ≡ Some shape → (b ≡ true) × (value ≡ shape)
 given_some true value shape e = (refl, cc)
 given_some false value shape e = cc
@@ -34,6 +35,7 @@ no_shape None start layout long e = refl
 no_shape (Some header) start layout long e =
     given_none (is_shape header) header.shape (named_shaped start long layout) e
 
+-- so does one of a snap that has just begun
 pub unshaped : (cell header : ℕ) → shape_in header ≡ None → named (snap_begun cell header) ≡ Named.no_cell
 unshaped cell header e = no_shape (header_in header) cell None None e
 
@@ -44,6 +46,7 @@ pub record HasShape (o : Option Header) (shape : ℕ) : Type 0 where
   pub known : is_shape header ≡ true
   pub is : header.shape ≡ shape
 
+-- a header whose shape is taken has that shape
 has_shape : (o : Option Header) (shape : ℕ)
     → option_and_then (λ header. given (is_shape header) header.shape) o ≡ Some shape → HasShape o shape
 has_shape None shape e = cc
@@ -51,6 +54,7 @@ has_shape (Some header) shape e =
     let g = given_some (is_shape header) header.shape shape e in
     record { header = header; is_header = refl; known = g.0; is = g.1 }
 
+-- so has the header that a word is
 pub shaped : (word shape : ℕ) → shape_in word ≡ Some shape → HasShape (header_in word) shape
 shaped word shape e = has_shape (header_in word) shape e
 
@@ -91,7 +95,7 @@ long_names start long o layout is by_length =
     ap (named_laid start long) is
     ∙ ap (λ (b : Bool). if b then named_long start layout long else named_slots start layout 0) by_length
 
--- by what a laid snap names, its length may be loaded where it may lie in the page
+-- a snap of which the header and the layout word are read names what is named where the length is not read
 pub laid_unread : (view : HelperView) (cell : ℕ) (layout : LayoutWord) (is : IsLaid view cell layout)
     → named is.snap ≡ named_unread cell layout
 laid_unread view cell layout is =
@@ -100,6 +104,7 @@ laid_unread view cell layout is =
     ∙ (ap (λ (o : Option ℕ). named_long is.snap.cell layout o) is.unread
     ∙ ap (λ (at : ℕ). named_unread at layout) is.of))
 
+-- so its length may be loaded, if the shortest such cell ends in the page
 pub may_measure : (view : HelperView) (cell : ℕ) (layout : LayoutWord) (is : IsLaid view cell layout)
     → IsTrue (is_in_page cell (known_size layout 0)) → MayHelper view (event.LoadLength 0)
 may_measure view cell layout is inside =

@@ -42,6 +42,7 @@ opened_overview space seat fresh =
     let side : Side = record { table = fresh.0; main = beginning (counts_of space) } in
     overview_is (zeros space) side seat (sym fresh.1) (zeros_agree space)
 
+-- it has a shared table, and no cell
 pub opened_bare : (space : Space) (seat : Seat) → AreWithin space.sizes space.variables → IsFresh space true seat
     → IsBareSeat seat
 opened_bare space seat within fresh = record {
@@ -49,6 +50,7 @@ opened_bare space seat within fresh = record {
   bare = subst IsBare (sym (opened_overview space seat fresh)) (beginning_bare space within);
 }
 
+-- no shape 17 is in use there
 pub opened_layouts : (space : Space) (seat : Seat) → IsFresh space true seat → HasNoLayout seat 17
 opened_layouts space seat fresh =
     ap (λ (main : Overview). slice_get main.layouts 17) (opened_overview space seat fresh)
@@ -59,6 +61,7 @@ opened_layouts space seat fresh =
 abbrev pub one_page_space : Space
 one_page_space = record { sizes = record { pages = 1; young = 64; helpers = 0 }; variables = 1 }
 
+-- they are within the limits
 pub one_page : AreWithin one_page_space.sizes one_page_space.variables
 one_page = record {
   some_page = omega arith;
@@ -69,6 +72,7 @@ one_page = record {
   of_variables = omega arith;
 }
 
+-- a seat that was opened with them has all words of the page
 pub opened_page : (space : Space) (seat : Seat) → space ≡ one_page_space → IsFresh space true seat
     → 2047 < eden_start seat.space
 opened_page space seat is fresh =

@@ -63,10 +63,11 @@ no_start start other apart free =
       | inr rest ↦ apart (sym (one_in 3 start rest))
     ]
 
--- what holds of one holds of a list of one, and so of two
+-- what holds of a number holds of the list of it alone
 all_one : (P : ℕ → Type 0) (x : ℕ) → P x → All P (x ∷ [])
 all_one P x is = All-push P [] x (All-nil P) is
 
+-- what holds of both cells holds of the list of both
 all_two : (P : ℕ → Type 0) → P 0 → P 3 → All P (0 ∷ 3 ∷ [])
 all_two P first second = All-push P (0 ∷ []) 3 (all_one P 0 first) second
 
@@ -84,7 +85,7 @@ module _ (main : Overview) (two : HasTwoCells main) where
   abbrev begun : World
   begun = world_at_home (opened main two_cells)
 
-  -- the two cells read
+  -- the list reads as a cell
   pub list_reads : cell_of begun 0 ≡ Some the_list
   list_reads = cell_to main.words main.layouts 0 (min main.old (page_end 0)) the_list (record {
     is_header = record { shape = omega arith; object = omega arith };
@@ -98,6 +99,7 @@ module _ (main : Overview) (two : HasTwoCells main) where
     there = omega (arith, two.page, two.bare.words);
   })
 
+  -- the store of the list reads too
   store_reads : cell_of begun 3 ≡ Some the_store
   store_reads = cell_to main.words main.layouts 3 (min main.old (page_end 3)) the_store (record {
     is_header = record { shape = omega arith; object = omega arith };
@@ -132,6 +134,7 @@ module _ (main : Overview) (two : HasTwoCells main) where
       (some_from (λ (to : ℕ). Contains begun.main.born to) (target main.old 13) (λ to e.
       let t = target_of main.old to e in subst (Contains begun.main.born) t (1, omega arith, refl)))
 
+  -- a seat that came back has nothing
   returned_lists : HasViewLists begun returned
   returned_lists = record {
     grey = All-nil (IsMarked begun);
@@ -140,6 +143,7 @@ module _ (main : Overview) (two : HasTwoCells main) where
     in_hand = λ none. record { snap = refl; last = refl; visit = refl; grey = refl; log = refl };
   }
 
+  -- so the world is fresh
   pub paired_fresh : Fresh begun
   paired_fresh = record {
     sound = record {
