@@ -11,7 +11,7 @@ use Rattle.shape_tree.specs.Shapes.{AreShapes}
 use Rattle.shape_tree.specs.ShapeLayouts.{layout_word}
 use Rattle.cell_layout.specs.Cells.{IsRow}
 use Rattle.cell_layout.proofs.OneCell.{cells_have_words}
-use Rattle.heap_table.specs.Seats.{heap_words}
+use Rattle.write_barrier.specs.Seats.{heap_words}
 use Rattle.heap_model.specs.Heaps.{Heap}
 use Rattle.heap_model.specs.Kinds.{HasNoNumber, count_offset}
 use Rattle.heap_model.specs.Remembered.{Touch}

@@ -8,7 +8,7 @@ use Rattle.object_graph.specs.Graphs.{Graph, ListObject}
 use Rattle.page_space.specs.Sizes.{AreWithin}
 use Rattle.page_space.specs.Extents.{layouts_start}
 use Rattle.heap_model.specs.Types.{Cell}
-use Rattle.heap_table.specs.Seats.{heap_words}
+use Rattle.write_barrier.specs.Seats.{heap_words}
 use Rattle.heap_model.specs.Heaps.{Heap, words_of_cell}
 use Rattle.heap_model.specs.Slots.{RefersTo}
 use Rattle.heap_model.specs.Needs.{capacity_at}

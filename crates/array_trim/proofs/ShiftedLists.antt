@@ -11,7 +11,7 @@ use Rattle.object_graph.specs.Graphs.{Graph, ListObject}
 use Rattle.page_space.specs.Sizes.{AreWithin}
 use Rattle.cell_layout.specs.Cells.{IsCell}
 use Rattle.cell_layout.proofs.Rows.{rows_join}
-use Rattle.heap_table.specs.Seats.{heap_words}
+use Rattle.write_barrier.specs.Seats.{heap_words}
 use Rattle.heap_model.specs.Kinds.{count_offset}
 use Rattle.heap_model.specs.Remembered.{Touch}
 use Rattle.heap_model.proofs.Rewrites.{row_of_one}

@@ -13,7 +13,7 @@ use Rattle.page_space.specs.Sizes.{AreWithin}
 use Rattle.shape_tree.specs.ShapeLayouts.{layout_word}
 use Rattle.cell_layout.specs.Cells.{IsCell, IsRow}
 use Rattle.cell_layout.proofs.Rows.{rows_join}
-use Rattle.heap_table.specs.Seats.{heap_words}
+use Rattle.write_barrier.specs.Seats.{heap_words}
 use Rattle.heap_model.specs.Heaps.{words_of_cell}
 use Rattle.heap_model.specs.Remembered.{Touch}
 use Rattle.heap_model.specs.Slots.{reference_word}

@@ -11,7 +11,7 @@ use Rattle.page_space.proofs.Addresses.{start_of_is}
 use Rattle.page_space.proofs.CellEnds.{before_end, end_before_roots}
 use Rattle.page_space.proofs.Starts.{layouts_start_is}
 use Rattle.page_space.proofs.Standing.{pages, eden, words_in-pages}
-use Rattle.heap_table.specs.Seats.{heap_words}
+use Rattle.write_barrier.specs.Seats.{heap_words}
 use Rattle.heap_model.specs.Heaps.{Heap}
 use Rattle.heap_model.specs.Changes.{written}
 use Rattle.heap_model.specs.RegionRows.{StandsBetween}

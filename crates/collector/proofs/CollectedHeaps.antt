@@ -6,7 +6,7 @@ use Rattle.page_space.specs.Extents.{Space, eden_start}
 use Rattle.nursery.specs.Young.{Young, in_eden}
 use Rattle.free_runs.specs.Laws.{IsFreeWord}
 use Rattle.object_graph.specs.Graphs.{Graph}
-use Rattle.heap_table.specs.Staying.{rest_stays_again}
+use Rattle.write_barrier.specs.Staying.{rest_stays_again}
 use Rattle.heap_model.specs.Types.{Cell, Run}
 use Rattle.heap_model.specs.Heaps.{HasCell}
 use Rattle.heap_model.specs.Reaching.{IsTight}

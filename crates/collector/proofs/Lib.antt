@@ -16,6 +16,7 @@ pub mod BesideMaps
 pub mod TakenPairs
 pub mod ClearedHeap
 pub mod SweptObjects
+mod MarkedWords
 pub mod SweptMarked
 pub mod Collected
 pub mod CollectedHeaps

@@ -1,5 +1,6 @@
 -- What a sweep of marked cells leaves is what the end of a cycle has to leave.
-use Rattle.std.proofs.Common.{◌≡◌, ℕ, ◌<◌, Bool, true, false, inl, inr, List, Contains, refl, ap, subst, arith}
+use Rattle.std.proofs.Common.{◌≡◌, ℕ, zero, suc, ◌+◌, ◌<◌, ◌≤◌, ◌⊎◌, Bool, true, false, inl, inr, List, Contains}
+use Rattle.std.proofs.Common.{IsTrue, refl, ap, subst, arith}
 use Rattle.std.proofs.lemmas.Bool.{cases_lt, false_from_ne_true}
 use Rattle.tagged_word.specs.Cells.{is_free_kind}
 use Rattle.page_space.specs.Extents.{Space, eden_start}
@@ -7,25 +8,74 @@ use Rattle.nursery.specs.Young.{Young}
 use Rattle.object_graph.specs.Graphs.{Graph}
 use Rattle.heap_model.specs.Types.{Cell}
 use Rattle.heap_model.specs.Heaps.{HasCell}
-use Rattle.heap_model.proofs.CellsApart.{first_of_cell}
 use Rattle.heap_model.proofs.StaysCollectable.{object_not_free}
+use Rattle.heap_moves.proofs.MovedWords.{contains_or_not}
 use Rattle.live_cells.specs.Exact.{IsWordOf}
 use Rattle.write_barrier.specs.MutatorState.{Mutator, heap_of}
-use Rattle.collector.specs.Born.{MayStand}
-use Rattle.collector.specs.LastSweep.{YoungIsMarked, SweptIsBorn}
-use Rattle.collector.specs.MarkSwept.{SweepsMarked}
+use Rattle.sweeper.specs.Swept.{IsCellWord}
+use Rattle.collector.specs.Born.{WasUseless, MayStand}
+use Rattle.collector.specs.LastSweep.{SweptIsBorn}
+use Rattle.collector.specs.MarkSwept.{WasMarked, SweepsMarked}
 
-module _ {old new : Mutator} {marked : List ℕ} {graph : Graph} (sweeps : SweepsMarked old new marked graph)
-    (young_marked : YoungIsMarked (heap_of old) (heap_of new) marked) where
-  -- a free cell is of a page, or stood there before
+module _ {old new : Mutator} {marked : List ℕ} {graph : Graph} (sweeps : SweepsMarked old new marked graph) where
+  -- where a free cell has a word of a marked cell, it stood there
+  free_stood : {cell : Cell} {words : List ℕ} {at : ℕ} → HasCell (heap_of new) cell words
+      → IsTrue (is_free_kind cell.layout.kind) → IsWordOf cell at → (was : IsCellWord (heap_of old) at)
+      → Contains marked was.cell.at → WasMarked (heap_of old) marked cell
+  free_stood {cell} {words} {at} has free word was among = sweeps.unused cell words at has free word (record {
+    cell = was.cell;
+    words = was.words;
+    has = was.has;
+    among = among;
+    from = was.from;
+    below = was.below;
+  })
+
+  -- a word of a cell was one of a cell
+  was_of_cell : {cell : Cell} {words : List ℕ} {at : ℕ} → HasCell (heap_of new) cell words → IsWordOf cell at
+      → IsCellWord (heap_of old) at
+  was_of_cell {cell} {words} {at} has word =
+      sweeps.of_cells at (record { cell = cell; words = words; has = has; from = word.from; below = word.below })
+
+  -- where that was not marked, it was not live
+  was_useless : {at : ℕ} (was : IsCellWord (heap_of old) at) → (Contains marked was.cell.at → ⊥)
+      → WasUseless (heap_of old) at
+  was_useless was out = record {
+    cell = was.cell;
+    words = was.words;
+    has = was.has;
+    of_cell = record { from = was.from; below = was.below };
+    dead = λ live. out (sweeps.live was.cell.at live);
+  }
+
+  -- a free cell stood there before, or its first words are of cells that were not live
+  stood_or_freed : {cell : Cell} {words : List ℕ} → HasCell (heap_of new) cell words
+      → IsTrue (is_free_kind cell.layout.kind) → (n : ℕ) → n ≤ cell.size
+      → WasMarked (heap_of old) marked cell
+      ⊎ ((at : ℕ) → cell.at ≤ at → at < cell.at + n → WasUseless (heap_of old) at)
+  stood_or_freed {cell} has free zero within = inr (λ at from below. absurd (omega (arith, from, below)))
+  stood_or_freed {cell} has free (suc n) within = elim (stood_or_freed has free n (omega (arith, within))) [
+    | inl stood ↦ inl stood
+    | inr freed ↦
+        let word : IsWordOf cell (cell.at + n) = record { from = omega arith; below = omega (arith, within) } in
+        let was = was_of_cell has word in
+        elim (contains_or_not marked was.cell.at) [
+          | inl among ↦ inl (free_stood has free word was among)
+          | inr out ↦ inr (λ at from below. elim (cases_lt at (cell.at + n)) [
+            | inl earlier ↦ freed at from earlier
+            | inr last ↦
+                let same : cell.at + n ≡ at = omega (arith, last, below) in
+                subst (WasUseless (heap_of old)) same (was_useless was out)
+          ])
+        ]
+  ]
+
+  -- so it may stand
   free_may_stand : (cell : Cell) (words : List ℕ) → HasCell (heap_of new) cell words
       → is_free_kind cell.layout.kind ≡ true → MayStand (heap_of old) (heap_of new) graph cell
-  free_may_stand cell words has free = elim (cases_lt cell.at (eden_start new.seat.space)) [
-    | inl of_page ↦ MayStand.free free of_page
-    | inr young ↦
-        let first : IsWordOf cell cell.at = record { from = omega arith; below = omega (arith, (first_of_cell has).below) } in
-        let was = sweeps.unused cell words cell.at has free first (young_marked cell words has (omega (arith, young))) in
-        MayStand.stood was.words was.had
+  free_may_stand cell words has free = elim (stood_or_freed has free cell.size (omega arith)) [
+    | inl was ↦ MayStand.stood was.words was.had
+    | inr freed ↦ MayStand.freed free (λ at word. freed at word.from word.below)
   ]
 
   -- and one that is not free stood there
@@ -37,7 +87,7 @@ module _ {old new : Mutator} {marked : List ℕ} {graph : Graph} (sweeps : Sweep
 
 -- so it is
 pub swept_is_born : SweptIsBorn
-swept_is_born opening old new marked graph sweeps born no_dead young_marked = record {
+swept_is_born opening old new marked graph sweeps born no_dead = record {
   space = sweeps.seat.space;
   shows = sweeps.shows.shows;
   born = λ number at place.
@@ -56,7 +106,7 @@ swept_is_born opening old new marked graph sweeps born no_dead young_marked = re
       let was = sweeps.used cell words has used in
       no_dead cell was.words at was.had used
       (subst (λ (space : Space). cell.at < eden_start space) sweeps.seat.space of_page) was.among lost word dead;
-  stands = λ cell words has. may_stand sweeps young_marked cell words has (is_free_kind cell.layout.kind) refl;
+  stands = λ cell words has. may_stand sweeps cell words has (is_free_kind cell.layout.kind) refl;
   filled = sweeps.filled;
   free = sweeps.shows.free;
   apart = sweeps.apart;

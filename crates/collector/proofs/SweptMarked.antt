@@ -1,16 +1,19 @@
 -- Of a heap whose cells are marked, from any starts, clearing and sweeping keep just the marked ones.
-use Rattle.std.proofs.Common.{◌≡◌, ℕ, ◌<◌, ◌↔◌, false, List, Contains, IsTrue, sym, ◌∙◌, ap, subst, arith}
+use Rattle.std.proofs.Common.{◌≡◌, ℕ, ◌<◌, ◌↔◌, inr, false, List, Contains, IsTrue, slice_get, sym, ◌∙◌, ap, subst}
+use Rattle.std.proofs.Common.{arith}
 use Rattle.tagged_word.specs.Cells.{is_free_kind}
 use Rattle.page_space.specs.Sizes.{AreWithin}
 use Rattle.page_space.specs.Extents.{Space, eden_start}
 use Rattle.free_runs.specs.Laws.{IsFreeWord}
 use Rattle.nursery.specs.Young.{Young, no_run, other_half, with_granted}
 use Rattle.object_graph.specs.Graphs.{Graph}
-use Rattle.heap_table.specs.Seats.{RestStays}
-use Rattle.heap_table.specs.Staying.{rest_stays_again}
+use Rattle.write_barrier.specs.Seats.{RestStays, heap_words}
+use Rattle.write_barrier.specs.Staying.{rest_stays_again}
 use Rattle.heap_model.specs.Types.{Cell, Run}
 use Rattle.heap_model.specs.Heaps.{Heap, HasCell, words_of_cell}
+use Rattle.heap_model.specs.Kinds.{Pair}
 use Rattle.heap_model.specs.Rooms.{RoomsAreNoFuller}
+use Rattle.heap_model.specs.Slots.{IsWeakCellAt}
 use Rattle.heap_model.specs.Showing.{Shows}
 use Rattle.heap_model.specs.Collectable.{IsCollectable}
 use Rattle.heap_model.specs.Remembered.{AreRemembered}
@@ -23,14 +26,16 @@ use Rattle.live_cells.specs.Exact.{IsWordOf}
 use Rattle.live_cells.specs.Live.{IsLive, IsRootTarget}
 use Rattle.write_barrier.specs.MutatorState.{Mutator, heap_of, IsTied, AvoidsFree, MainShows}
 use Rattle.object_cells.proofs.TakenRuns.{bumped_none}
+use Rattle.weak_pairs.specs.Pairs.{HasPairsAt}
 use Rattle.ephemeron_clear.specs.Clearing.{Clears}
-use Rattle.sweeper.specs.Swept.{Sweeps, IsOfMarked, place_if_marked}
+use Rattle.sweeper.specs.Swept.{Sweeps, IsOfMarked, IsCellWord, place_if_marked}
 use Rattle.collector.specs.Born.{FreeIsRun}
 use Rattle.collector.specs.MarkSwept.{Ungrants}
-use Rattle.collector.specs.MarkSwept.{MarkedCellsStay, WasMarked, SweepsMarked}
+use Rattle.collector.specs.MarkSwept.{MarkedCellsStay, IsBesideMarkedMaps, LeavesMarkedPairs, WasMarked, SweepsMarked}
+use Rattle.collector.proofs.MarkedWords.{pairs_are_kept}
 use Rattle.collector.proofs.Ungranted.{heap_stays, ungranted_remembered}
 use Rattle.collector.proofs.ClearedHeap.{IsMarked, roots_are_marked, reached_is_marked, marked_is_used}
-use Rattle.collector.proofs.ClearedHeap.{still_collectable, still_shown}
+use Rattle.collector.proofs.ClearedHeap.{sweepable, still_collectable, still_shown}
 use Rattle.collector.proofs.SweptObjects.{SweptAfter, marked_cells_stay, used_were_marked, rooms_no_fuller}
 
 -- From a heap that shows a graph, nothing was granted any more; of cells that were marked, from any starts, dead
@@ -93,6 +98,17 @@ module _ {old bare cleared new : Mutator} {graph : Graph} {given maps marked : L
     },
   )
 
+  -- a word of a cell was one of a cell
+  cell_words_were : (at : ℕ) → IsCellWord (heap_of new) at → IsCellWord (heap_of bare) at
+  cell_words_were at is =
+      let was = steps.sweeps.cells at is in record {
+        cell = was.cell;
+        words = words_of_cell (heap_of bare) was.cell;
+        has = steps.clears.takes.cells.stood was.cell was.words was.has;
+        from = was.from;
+        below = was.below;
+      }
+
   -- so free runs have all other words of pages
   pub swept_words : (at : ℕ) → at < eden_start bare.seat.space
       → IsFreeWord new.free at ↔ (IsOfMarked (heap_of bare) marked at → ⊥)
@@ -103,6 +119,41 @@ module _ {old bare cleared new : Mutator} {graph : Graph} {given maps marked : L
         λ free is. filled.0 free ((of_marked at).1 is),
         λ none. filled.1 (λ is. none ((of_marked at).0 is)),
       )
+
+  -- a marked weak map was listed
+  map_is_listed : (map : ℕ) → Contains marked map → IsWeakCellAt (heap_of bare) map → Contains maps map
+  map_is_listed map among there =
+      (steps.is_marked.told map).1 ((steps.is_marked.live map).0 among, there)
+
+  -- words of marked cells are as they were, but counts and pairs of marked weak maps
+  words_are_kept : (at : ℕ) → IsOfMarked (heap_of bare) marked at → IsBesideMarkedMaps (heap_of bare) marked at
+      → slice_get (heap_words new.seat) at ≡ slice_get (heap_words bare.seat) at
+  words_are_kept at is beside =
+      steps.sweeps.outside at (inr ((of_marked at).1 is))
+      ∙ steps.clears.takes.stay at (λ map listed.
+      let told = (steps.is_marked.told map).0 listed in beside map ((steps.is_marked.live map).1 told.0) told.1)
+
+  -- and of these pairs those with marked keys are left
+  pairs_are_left : (map : ℕ) (before : List Pair) → Contains marked map → HasPairsAt (heap_of bare) map before
+      → LeavesMarkedPairs (heap_of new) map marked before
+  pairs_are_left map before among had =
+      let left = steps.clears.takes.left map before had in
+      let there : IsWeakCellAt (heap_of bare) map = record {
+        cell = had.cell;
+        words = had.words;
+        has = had.has;
+        stands = had.stands;
+        of_kind = had.of_kind;
+      } in
+      record {
+        has = record {
+          after = left.after;
+          are = pairs_are_kept steps.sweeps map left.after (sweepable steps.within steps.is_marked steps.clears) among
+              left.are;
+          left = left.left;
+        };
+        keys = steps.clears.cleared map left.after (map_is_listed map among there) left.are;
+      }
 
   -- a free cell that has a word of a marked cell is that cell
   unused_were_marked : (cell : Cell) (words : List ℕ) (at : ℕ) → HasCell (heap_of new) cell words
@@ -223,9 +274,15 @@ module _ {old bare cleared new : Mutator} {graph : Graph} {given maps marked : L
         (roots_are_marked steps.is_marked);
     used = subst (λ (heap : Heap). (cell : Cell) (words : List ℕ) → HasCell (heap_of new) cell words
         → is_free_kind cell.layout.kind ≡ false → WasMarked heap marked cell) same_heap (used_were_marked after);
+    words = subst (λ (heap : Heap). (at : ℕ) → IsOfMarked heap marked at → IsBesideMarkedMaps heap marked at
+        → slice_get (heap_words new.seat) at ≡ slice_get heap.words at) same_heap words_are_kept;
+    pairs = subst (λ (heap : Heap). (map : ℕ) (before : List Pair) → Contains marked map → HasPairsAt heap map before
+        → LeavesMarkedPairs (heap_of new) map marked before) same_heap pairs_are_left;
     unused = subst (λ (heap : Heap). (cell : Cell) (words : List ℕ) (at : ℕ) → HasCell (heap_of new) cell words
         → IsTrue (is_free_kind cell.layout.kind) → IsWordOf cell at → IsOfMarked heap marked at
         → WasMarked heap marked cell) same_heap unused_were_marked;
+    of_cells = subst (λ (heap : Heap). (at : ℕ) → IsCellWord (heap_of new) at → IsCellWord heap at) same_heap
+        cell_words_were;
     swept = subst (λ (heap : Heap). (at : ℕ) → at < eden_start heap.space
         → IsFreeWord new.free at ↔ (IsOfMarked heap marked at → ⊥)) same_heap swept_words;
     apart = steps.sweeps.apart;

@@ -7,7 +7,7 @@ use Rattle.tagged_word.proofs.Members.{one_in}
 use Rattle.page_space.specs.Sizes.{AreWithin}
 use Rattle.cell_layout.proofs.OneCell.{slots_lie_within}
 use Rattle.handle_roots.specs.Roots.{root_at}
-use Rattle.heap_table.specs.Seats.{heap_words}
+use Rattle.write_barrier.specs.Seats.{heap_words}
 use Rattle.heap_model.specs.Types.{Cell}
 use Rattle.heap_model.specs.Heaps.{Heap, HasCell, words_of_cell}
 use Rattle.heap_model.specs.Slots.{reference_word, IsWeakCellAt}

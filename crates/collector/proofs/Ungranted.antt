@@ -2,7 +2,7 @@
 use Rattle.std.proofs.Common.{◌≡◌, ◌<◌, inl, inr, sym, subst, arith}
 use Rattle.std.proofs.lemmas.Bool.{cases_lt}
 use Rattle.page_space.specs.Extents.{eden_start}
-use Rattle.heap_table.specs.Seats.{heap_words}
+use Rattle.write_barrier.specs.Seats.{heap_words}
 use Rattle.heap_model.specs.Heaps.{Heap}
 use Rattle.heap_model.specs.Remembered.{Touch, IsRecordedBy, AreRemembered}
 use Rattle.heap_model.proofs.RememberedSlots.{page_slot_below}

@@ -55,10 +55,20 @@ FreeIsRun heap rows =
     (cell : Cell) (words : List ℕ) (at : ℕ) → HasCell heap cell words → IsTrue (is_free_kind cell.layout.kind)
     → cell.at < eden_start heap.space → IsWordOf cell at → IsFreeWord rows at
 
--- A cell may stand in what a collection leaves of a heap that shows a graph: it is free and of a page, or it stood there
--- before, or it belongs to an object that can be reached.
+-- the word was one of a cell that was not live
+pub record WasUseless (old : Heap) (at : ℕ) : Type 0 where
+  pub cell : Cell
+  pub words : List ℕ
+  pub has : HasCell old cell words
+  pub of_cell : IsWordOf cell at
+  pub dead : IsLive old (IsRootTarget old) cell.at → ⊥
+
+-- A cell may stand in what a collection leaves of a heap that shows a graph: it is free, and of a page or in the place
+-- of cells that were not live; or it stood there before; or it belongs to an object that can be reached.
 pub data MayStand (old new : Heap) (graph : Graph) (cell : Cell) : Type 0 where
   free : IsTrue (is_free_kind cell.layout.kind) → cell.at < eden_start new.space → MayStand old new graph cell
+  freed : IsTrue (is_free_kind cell.layout.kind) → ((at : ℕ) → IsWordOf cell at → WasUseless old at)
+      → MayStand old new graph cell
   stood : (words : List ℕ) → HasCell old cell words → MayStand old new graph cell
   reached : BelongsToReached new graph cell.at → MayStand old new graph cell
 
@@ -88,7 +98,7 @@ pub record LeavesBorn (opening : Opening) (old new : Heap) (rows : List (List Ru
   pub no_dead_word : (cell : Cell) (words : List ℕ) → HasCell new cell words
       → is_free_kind cell.layout.kind ≡ false → cell.at < eden_start new.space
       → (BelongsToReached new graph cell.at → ⊥) → (at : ℕ) → IsWordOf cell at → WasDead opening at → ⊥
-  -- no cell is made that nothing needs
+  -- no cell is made that nothing needs; and of the young generation only words of cells that were not live become free
   pub stands : (cell : Cell) (words : List ℕ) → HasCell new cell words → MayStand old new graph cell
   -- what is free in pages is in free runs; these are single free cells that neither overlap nor touch
   pub filled : FreeIsRun new rows

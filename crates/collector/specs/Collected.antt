@@ -4,7 +4,7 @@ use Rattle.page_space.specs.Extents.{eden_start}
 use Rattle.nursery.specs.Young.{in_eden}
 use Rattle.free_runs.specs.FreeRuns.{AreFree}
 use Rattle.object_graph.specs.Graphs.{Graph}
-use Rattle.heap_table.specs.Seats.{RestStays}
+use Rattle.write_barrier.specs.Seats.{RestStays}
 use Rattle.heap_model.specs.Types.{Cell, Run}
 use Rattle.heap_model.specs.Heaps.{Heap, HasCell}
 use Rattle.heap_model.specs.Collectable.{AreFreeRuns}
@@ -42,8 +42,9 @@ pub record LeavesExact (old new : Heap) (rows : List (List Run)) (graph : Graph)
   pub tight : IsTight new
   pub few : new.survivors ≤ old.survivors + old.used
 
--- The mutator's side after a full collection of a heap that shows a graph: it leaves such a heap, nothing is granted,
--- and the other words of the table are as they were.
+-- The mutator after a full collection of a heap that shows a graph. The heap is such as a full collection leaves, and
+-- the graph is shown. Regions, phase, field paths, the number of words, and that of rows of free runs are the same.
+-- Nothing is granted.
 pub record CollectsAll (old new : Mutator) (graph : Graph) : Type 0 where
   pub leaves : LeavesExact (heap_of old) (heap_of new) new.free graph
   pub shows : MainShows new graph

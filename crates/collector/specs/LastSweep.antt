@@ -10,7 +10,6 @@ use Rattle.heap_model.specs.Slots.{IsPlace}
 use Rattle.live_cells.specs.Exact.{IsWordOf}
 use Rattle.live_cells.specs.Laws.{BelongsToReached}
 use Rattle.write_barrier.specs.MutatorState.{Mutator, heap_of}
-use Rattle.sweeper.specs.Swept.{IsOfMarked}
 use Rattle.collector.specs.Born.{Opening, WasDead, LeavesBorn}
 use Rattle.collector.specs.MarkSwept.{SweepsMarked}
 
@@ -28,17 +27,12 @@ MarksNoDeadWord opening old new marked graph =
     → cell.at < eden_start old.space → Contains marked cell.at → (BelongsToReached new graph cell.at → ⊥)
     → IsWordOf cell at → WasDead opening at → ⊥
 
--- each cell of the young generation begins in a word of a marked cell
-abbrev pub YoungIsMarked : (old new : Heap) → List ℕ → Type 0
-YoungIsMarked old new marked =
-    (cell : Cell) (words : List ℕ) → HasCell new cell words → eden_start new.space ≤ cell.at
-    → IsOfMarked old marked cell.at
-
--- Where cells were marked from any starts, and these are born, have no word that was dead, and have all words of the young
--- generation, the sweep leaves all that the end of a cycle has to leave.
+-- A sweep that keeps marked cells leaves all that the end of a cycle has to leave. Two things are asked of these cells,
+-- which may have been marked from any starts. Objects' cells are born. Cells of pages that belong to nothing that can be
+-- reached have no word that was dead. Nothing is asked of young cells: one that is not marked is free then, as a table
+-- that its map outgrew.
 abbrev pub SweptIsBorn : Type 0
 SweptIsBorn =
     (opening : Opening) (old new : Mutator) (marked : List ℕ) (graph : Graph) → SweepsMarked old new marked graph
     → MarksBorn opening (heap_of old) marked → MarksNoDeadWord opening (heap_of old) (heap_of new) marked graph
-    → YoungIsMarked (heap_of old) (heap_of new) marked
     → LeavesBorn opening (heap_of old) (heap_of new) new.free graph

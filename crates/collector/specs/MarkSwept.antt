@@ -1,14 +1,15 @@
 -- What marking, clearing and sweeping come to, as one call.
-use Rattle.std.specs.Prelude.{◌≡◌, ◌≢◌, ◌<◌, ◌↔◌, ℕ, false, List, AllPairs, Contains, IsTrue, length}
+use Rattle.std.specs.Prelude.{◌≡◌, ◌≢◌, ◌+◌, ◌<◌, ◌↔◌, ℕ, false, List, AllPairs, Contains, IsTrue, length, slice_get}
 use Rattle.tagged_word.specs.Cells.{is_free_kind}
 use Rattle.page_space.specs.Extents.{eden_start}
 use Rattle.free_runs.specs.FreeRuns.{AreFree}
 use Rattle.free_runs.specs.Laws.{IsFreeWord}
 use Rattle.nursery.specs.Young.{no_run, with_granted}
 use Rattle.object_graph.specs.Graphs.{Graph}
-use Rattle.heap_table.specs.Seats.{RestStays, heap_words}
+use Rattle.write_barrier.specs.Seats.{RestStays, heap_words}
 use Rattle.heap_model.specs.Types.{Cell}
 use Rattle.heap_model.specs.Heaps.{Heap, HasCell}
+use Rattle.heap_model.specs.Kinds.{Pair, count_offset}
 use Rattle.heap_model.specs.Rooms.{RoomsAreNoFuller}
 use Rattle.heap_model.specs.Slots.{IsWeakCellAt}
 use Rattle.live_cells.specs.Exact.{KeepsNoOther, IsWordOf}
@@ -16,8 +17,11 @@ use Rattle.live_cells.specs.Fitting.{DeadIsFree}
 use Rattle.live_cells.specs.Live.{IsLive, IsRootTarget, IsStart, AreNoTables, AreLiveFrom}
 use Rattle.write_barrier.specs.MutatorState.{Mutator, heap_of, MainShows}
 use Rattle.write_barrier.specs.Recording.{Touches, untouched}
+use Rattle.weak_pairs.specs.Pairs.{HasPairsAt}
+use Rattle.ephemeron_table.specs.Pairs.{IsNoPairWord}
+use Rattle.ephemeron_clear.specs.Marked.{AreKeysMarked, HasLeft}
 use Rattle.ephemeron_mark.specs.Marked.{Marked, IsLiveFrom}
-use Rattle.sweeper.specs.Swept.{IsOfMarked}
+use Rattle.sweeper.specs.Swept.{IsOfMarked, IsCellWord}
 use Rattle.collector.specs.Born.{FreeIsRun}
 use Rattle.collector.specs.SweptRuns.{AreSwept}
 
@@ -67,11 +71,22 @@ pub record IsMarkedFrom (heap : Heap) (given : List ℕ) (marking : Marked) : Ty
   pub maps : (at : ℕ) → Contains marking.maps at ↔ (IsLiveFrom heap given at × IsWeakCellAt heap at)
   pub once : AllPairs (λ map other. map ≢ other) marking.maps
 
--- Each marked cell stands where it stood. Its words may have changed.
+-- each marked cell stands where it stood; which of its words may have changed is said apart
 abbrev pub MarkedCellsStay : Heap → Heap → List ℕ → Type 0
 MarkedCellsStay old new marked =
     (cell : Cell) (words : List ℕ) → HasCell old cell words → Contains marked cell.at
     → (others : List ℕ) × HasCell new cell others
+
+-- the word is neither the count of a marked weak map nor a word of a pair of its table
+abbrev pub IsBesideMarkedMaps : Heap → List ℕ → ℕ → Type 0
+IsBesideMarkedMaps heap marked word =
+    (map : ℕ) → Contains marked map → IsWeakCellAt heap map
+    → (word ≢ map + count_offset) × IsNoPairWord heap map word
+
+-- Of the pairs that the weak map had those are left whose keys are marked, and no other.
+pub record LeavesMarkedPairs (heap : Heap) (map : ℕ) (marked : List ℕ) (before : List Pair) : Type 0 where
+  pub has : HasLeft heap map marked before
+  pub keys : AreKeysMarked marked has.after
 
 -- the cell stood there, and was marked
 pub record WasMarked (old : Heap) (marked : List ℕ) (cell : Cell) : Type 0 where
@@ -89,10 +104,18 @@ pub record SweepsMarked (old new : Mutator) (marked : List ℕ) (graph : Graph) 
   pub live : (at : ℕ) → IsLive (heap_of old) (IsRootTarget (heap_of old)) at → Contains marked at
   pub used : (cell : Cell) (words : List ℕ) → HasCell (heap_of new) cell words → is_free_kind cell.layout.kind ≡ false
       → WasMarked (heap_of old) marked cell
-  -- so is a free cell that has a word of one of them
+  -- a free cell that has a word of a marked cell is itself one of the marked cells
   pub unused : (cell : Cell) (words : List ℕ) (at : ℕ) → HasCell (heap_of new) cell words
       → IsTrue (is_free_kind cell.layout.kind) → IsWordOf cell at → IsOfMarked (heap_of old) marked at
       → WasMarked (heap_of old) marked cell
+  -- each word of a cell was one of a cell
+  pub of_cells : (at : ℕ) → IsCellWord (heap_of new) at → IsCellWord (heap_of old) at
+  -- each word of a marked cell is as it was, but the counts of marked weak maps and the pairs of their tables; of these
+  -- pairs just those are left whose keys are marked
+  pub words : (at : ℕ) → IsOfMarked (heap_of old) marked at → IsBesideMarkedMaps (heap_of old) marked at
+      → slice_get (heap_words new.seat) at ≡ slice_get (heap_words old.seat) at
+  pub pairs : (map : ℕ) (before : List Pair) → Contains marked map → HasPairsAt (heap_of old) map before
+      → LeavesMarkedPairs (heap_of new) map marked before
   -- free runs have just the words of pages that no marked cell had, in a row for each page; so they have the words of
   -- free cells of pages
   pub swept : (at : ℕ) → at < eden_start old.seat.space

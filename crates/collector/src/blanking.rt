@@ -1,7 +1,7 @@
 //! The words of a heap become those of an image of it, where they stand.
 ghost use Rattle.std.specs.Prelude.{◌≡◌};
 ghost use Rattle.heap_table.specs.Phases.{Quiet};
-ghost use Rattle.heap_table.specs.Seats.{heap_words};
+ghost use Rattle.write_barrier.specs.Seats.{heap_words};
 ghost use Rattle.heap_model.specs.RegionRows.{StandsBetween};
 ghost use Rattle.heap_model.specs.Wholeness.{HasRows, Whole};
 ghost use Rattle.write_barrier.specs.MutatorState.{heap_of, with_table};

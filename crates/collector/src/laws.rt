@@ -39,7 +39,7 @@ pub fn laws_of_cycles()
 {}
 
 /// What is left after marked cells were swept, from any starts, is all that the end of a cycle has to leave, if what is
-/// marked could be reached when the cycle began or was made since, and has the words of all young cells.
+/// marked could be reached when the cycle began or was made since, and has no word that was dead then.
 pub fn laws_of_last_sweeps()
     ensures { SweptIsBorn }
 {}

@@ -4,7 +4,7 @@ ghost use Rattle.std.specs.Prelude.{◌≡◌, IfOk, false};
 ghost use Rattle.std.specs.Borrow.{sem};
 ghost use Rattle.object_graph.specs.Graphs.{start};
 ghost use Rattle.page_space.specs.Extents.{roots_start};
-ghost use Rattle.heap_table.specs.Seats.{fresh};
+ghost use Rattle.heap_table.specs.Seats.{IsFresh};
 ghost use Rattle.write_barrier.specs.MutatorState.{IsOpened};
 
 use ephemeron_mark::Marking;
@@ -63,7 +63,7 @@ impl Heap {
     /// # Errors
     /// Memory was refused.
     pub fn open_new(alloc: Global, seat: MainSeat, regions: Regions) -> Result<Heap, NoMemory>
-        requires { seat ≡ fresh regions }
+        requires { IsFresh regions false seat }
         ensures opened { IfOk result (λ heap. HeapShows heap start × IsOpened heap.main) }
         ensures regions { IfOk result (λ heap. heap.main.seat.space ≡ regions) }
         ensures closed { IfOk result (λ heap. heap.rest.in_cycle ≡ false) }

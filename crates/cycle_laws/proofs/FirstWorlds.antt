@@ -35,7 +35,7 @@ use Rattle.cycle_state.proofs.PageCells.{page_cells_are_read, page_words_are_rea
 use Rattle.cycle_laws.specs.Openings.{Opens, FirstWorldsAreFresh}
 use Rattle.cycle_laws.specs.Steps.{IsPageWord}
 use Rattle.cycle_laws.proofs.KeptTargets.{target_refers}
-use Rattle.cycle_laws.proofs.StepsAllowed.{FreeAgainst, free_against}
+use Rattle.cycle_laws.proofs.FreeStarts.{FreeAgainst, free_against}
 use Rattle.cycle_laws.proofs.WhiteWorlds.{white_fresh}
 
 -- there are as many layout words as shapes

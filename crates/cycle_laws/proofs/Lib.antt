@@ -9,6 +9,7 @@ pub mod CarriedCells
 pub mod ChangedCells
 pub mod BoundKept
 pub mod KeptTargets
+pub mod FreeStarts
 pub mod StepsAllowed
 pub mod WhiteWorlds
 pub mod FirstWorlds
@@ -18,3 +19,4 @@ pub mod MovedPages
 pub mod Restarting
 pub mod RestingAgain
 pub mod DeadWords
+pub mod LostWords

@@ -37,7 +37,7 @@ use Rattle.cycle_laws.specs.Scavenges.{PromotesTo, BlackensPromoted, ScavengesRe
 use Rattle.cycle_laws.specs.Steps.{IsPageWord}
 use Rattle.cycle_laws.proofs.LastMarking.{home}
 use Rattle.cycle_laws.proofs.Lists.{some_decided}
-use Rattle.cycle_laws.proofs.StepsAllowed.{left_alone}
+use Rattle.cycle_laws.proofs.FreeStarts.{left_alone}
 use Rattle.cycle_laws.proofs.MovedPages.{LeavesWord, leaves_word, not_promoted, as_many, same_layouts}
 use Rattle.cycle_laws.proofs.MovedPages.{slot_is_no_head, inside_bounds}
 

@@ -1,6 +1,7 @@
 //! Laws of a cycle of marking, in the order of their use.
 ghost use Rattle.cycle_laws.specs.Changes.{ChangesKeepClosed, BindingsKeepClosed, NewObjectsKeepClosed};
-ghost use Rattle.cycle_laws.specs.DeadWords.{OpensWithNoLostWord, ChangesKeepNoWordOf, ScavengesKeepNoWordOf};
+ghost use Rattle.cycle_laws.specs.DeadWords.{LostWordsAreListed, OpensWithNoLostWord, ChangesKeepNoWordOf};
+ghost use Rattle.cycle_laws.specs.DeadWords.{ScavengesKeepNoWordOf};
 ghost use Rattle.cycle_laws.specs.Ends.{ColouredIsKept, BlackSlotsLeadOn, FreePagesAreWhite};
 ghost use Rattle.cycle_laws.specs.Openings.{CyclesOpen, FirstWorldsAreFresh};
 ghost use Rattle.cycle_laws.specs.Reached.{ReachedIsKept, LiveIsKept};
@@ -61,9 +62,11 @@ pub fn laws_of_scavenges()
     ensures restart { ScavengesRestart }
 {}
 
-/// No store, table or box of a page that a cycle keeps has a word that belonged to nothing that could
-/// be reached when it opened: neither then, nor after commands and scavenges.
+/// No cell of a page that a cycle keeps, and that is not free, has a word that belonged to nothing that
+/// could be reached when it opened: neither then, nor after commands and scavenges. These words of pages
+/// are a list.
 pub fn laws_of_dead_words()
+    ensures lost { LostWordsAreListed }
     ensures open { OpensWithNoLostWord }
     ensures changes { ChangesKeepNoWordOf }
     ensures scavenges { ScavengesKeepNoWordOf }

@@ -1,1 +1,3 @@
 pub mod PageCells
+pub mod GoingOn
+pub mod Claimed

@@ -1,4 +1,6 @@
 pub mod Cycles
 pub mod Keeping
 pub mod Resting
+pub mod Claims
+pub mod ClaimLaws
 pub mod Laws

@@ -9,4 +9,4 @@
 
 mod laws;
 
-pub use laws::laws_of_page_cells;
+pub use laws::{laws_of_claims, laws_of_going_on, laws_of_page_cells};

@@ -2,7 +2,7 @@
 use Rattle.std.proofs.Common.{ℕ, ◌+◌, ◌*◌, ◌≤◌, ◌<◌, ◌⊎◌, List, refl, sym, ◌∙◌, ap, subst, arith}
 use Rattle.page_space.specs.Extents.{Space, eden_start}
 use Rattle.tagged_word.specs.Cells.{store_head, is_object_kind}
-use Rattle.heap_table.specs.Staying.{rest_stays_again}
+use Rattle.write_barrier.specs.Staying.{rest_stays_again}
 use Rattle.heap_model.specs.Heaps.{Heap, words_of_cell}
 use Rattle.heap_model.specs.Slots.{IsPlace}
 use Rattle.heap_model.specs.Kinds.{Pair}

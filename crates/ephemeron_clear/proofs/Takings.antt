@@ -1,6 +1,6 @@
 -- What taking pairs out of the tables of weak maps leaves of other maps, and where nothing is taken.
 use Rattle.std.proofs.Common.{ℕ, List, Contains, refl, subst, arith}
-use Rattle.heap_table.specs.Staying.{rest_stays_itself}
+use Rattle.write_barrier.specs.Staying.{rest_stays_itself}
 use Rattle.heap_model.specs.Heaps.{Heap}
 use Rattle.heap_model.specs.Kinds.{Pair}
 use Rattle.heap_model.specs.Wholeness.{Whole}

@@ -10,7 +10,7 @@ use Rattle.live_cells.proofs.ObjectTargets.{at_is_in}
 use Rattle.live_cells.proofs.MarkedLinks.{element_at}
 use Rattle.cell_list.specs.Listing.{Listing}
 use Rattle.heap_walk.specs.Standing.{StandsAt}
-use Rattle.heap_table.specs.Seats.{heap_words}
+use Rattle.write_barrier.specs.Seats.{heap_words}
 use Rattle.write_barrier.specs.MutatorState.{Mutator, heap_of}
 use Rattle.ephemeron_mark.specs.Pairs.{Waits}
 use Rattle.ephemeron_mark.specs.Progress.{IsMarking, HasGrown, IsCellOf, WaitsMore, IsVisited, IsAmong, AreVisited}

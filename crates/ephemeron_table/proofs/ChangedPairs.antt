@@ -1,7 +1,7 @@
 -- How far the taking of a pair has come, as the pairs are read.
 use Rattle.std.proofs.Common.{ℕ, ◌<◌, inl, length, slice_get, refl, ◌∙◌, ap}
-use Rattle.heap_table.specs.Seats.{heap_words}
-use Rattle.heap_table.specs.Staying.{rest_stays_itself, rest_stays_again}
+use Rattle.write_barrier.specs.Seats.{heap_words}
+use Rattle.write_barrier.specs.Staying.{rest_stays_itself, rest_stays_again}
 use Rattle.heap_model.specs.Kinds.{Pair}
 use Rattle.write_barrier.specs.MutatorState.{Mutator}
 use Rattle.write_barrier.specs.Recording.{Touches, untouched, touched_then}

@@ -9,8 +9,8 @@ use Rattle.object_graph.specs.declared.object.Object.TheVariants.{Weak}
 use Rattle.object_graph.specs.Objects.{entry_value, without_entry}
 use Rattle.object_graph.specs.Graphs.{Graph, WeakObject}
 use Rattle.object_graph.specs.Meaning.{reweave}
-use Rattle.heap_table.specs.Seats.{heap_words}
-use Rattle.heap_table.specs.Staying.{rest_stays_itself}
+use Rattle.write_barrier.specs.Seats.{heap_words}
+use Rattle.write_barrier.specs.Staying.{rest_stays_itself}
 use Rattle.heap_model.specs.Slots.{RefersToPlace}
 use Rattle.heap_model.specs.Kinds.{Pair}
 use Rattle.heap_model.specs.Needs.{capacity_at}

@@ -6,7 +6,7 @@ use Rattle.object_graph.specs.Graphs.{Graph, WeakObject}
 use Rattle.object_graph.specs.Invariants.{IsValue}
 use Rattle.object_graph.specs.Objects.{entry_value}
 use Rattle.object_graph.specs.Reach.{reach}
-use Rattle.heap_table.specs.Seats.{RestStays}
+use Rattle.write_barrier.specs.Seats.{RestStays}
 use Rattle.heap_model.specs.Types.{Value, Entry, Cell, Held}
 use Rattle.heap_model.specs.Heaps.{Heap, words_of_cell}
 use Rattle.heap_model.specs.Kinds.{Pair}

@@ -7,7 +7,7 @@ use Rattle.std.proofs.lemmas.Option.{none-some, same_Some, slice_get-map, slice_
 use Rattle.object_graph.specs.Graphs.{Graph, WeakObject}
 use Rattle.linear_probing.specs.Tables.{place_after, EndsAt, FindsAll, HoldsNumber, IsFree}
 use Rattle.linear_probing.proofs.Findings.{put_is_found}
-use Rattle.heap_table.specs.Seats.{heap_words}
+use Rattle.write_barrier.specs.Seats.{heap_words}
 use Rattle.heap_model.specs.Slots.{reference_word, hole_word, RefersToPlace}
 use Rattle.heap_model.specs.Kinds.{Pair, free_pair}
 use Rattle.heap_model.specs.Needs.{count_at}

@@ -6,7 +6,7 @@ use Rattle.std.proofs.lemmas.Option.{same_Some, slice_get_within}
 use Rattle.linear_probing.proofs.Findings.{comes_everywhere}
 use Rattle.page_space.specs.Sizes.{AreWithin}
 use Rattle.heap_model.specs.Types.{Held}
-use Rattle.heap_table.specs.Seats.{heap_words}
+use Rattle.write_barrier.specs.Seats.{heap_words}
 use Rattle.heap_model.specs.Slots.{hole_word}
 use Rattle.heap_model.specs.Kinds.{Pair, free_pair, is_free_pair}
 use Rattle.heap_model.specs.Needs.{count_at}

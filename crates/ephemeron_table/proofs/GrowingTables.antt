@@ -4,7 +4,7 @@ use Rattle.std.proofs.Common.{◌≡◌, ℕ, ◌+◌, ◌*◌, ◌≤◌, ◌<�
 use Rattle.tagged_word.specs.Cells.{store_head}
 use Rattle.page_space.specs.Extents.{Space, marks_start}
 use Rattle.nursery.specs.Young.{HasRoom}
-use Rattle.heap_table.specs.Seats.{heap_words}
+use Rattle.write_barrier.specs.Seats.{heap_words}
 use Rattle.heap_model.specs.Needs.{grown_table}
 use Rattle.heap_model.specs.Slots.{reference_word}
 use Rattle.write_barrier.specs.MutatorState.{Mutator, heap_of, reserved}

@@ -12,7 +12,7 @@ use Rattle.heap_model.specs.Types.{Value, Cell, Held}
 use Rattle.object_graph.specs.declared.value.Rep.TheVariants as rep
 use Rattle.object_graph.specs.Values.{rep_of}
 use Rattle.object_graph.specs.Invariants.{IsValue}
-use Rattle.heap_table.specs.Seats.{heap_words}
+use Rattle.write_barrier.specs.Seats.{heap_words}
 use Rattle.heap_model.specs.Heaps.{words_of_cell}
 use Rattle.heap_model.specs.Slots.{reference_word, RefersToPlace, IsPlace}
 use Rattle.heap_model.specs.Kinds.{HasWord, Pair, HasTable, IsFilledPair, pairs_in, count_offset}

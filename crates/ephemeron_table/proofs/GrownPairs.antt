@@ -10,7 +10,7 @@ use Rattle.heap_model.specs.Types.{Header, Held}
 use Rattle.tagged_word.specs.Readings.{reference_in, header_in}
 use Rattle.object_graph.proofs.Lists.{slice_get-set_same}
 use Rattle.linear_probing.specs.Tables.{FindsAll}
-use Rattle.heap_table.specs.Seats.{heap_words}
+use Rattle.write_barrier.specs.Seats.{heap_words}
 use Rattle.heap_model.specs.Heaps.{Heap}
 use Rattle.heap_model.specs.Slots.{reference_word}
 use Rattle.heap_model.specs.Kinds.{Pair, free_pair}

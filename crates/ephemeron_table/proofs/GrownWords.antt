@@ -10,8 +10,8 @@ use Rattle.page_space.specs.Extents.{marks_start}
 use Rattle.page_space.proofs.Starts.{marks_start_is}
 use Rattle.object_graph.proofs.Lists.{slice_get-set_same, slice_get-set_other}
 use Rattle.heap_model.specs.Types.{Cell, Held}
-use Rattle.heap_table.specs.Seats.{heap_words, RestStays}
-use Rattle.heap_table.specs.Staying.{rest_stays_again}
+use Rattle.write_barrier.specs.Seats.{heap_words, RestStays}
+use Rattle.write_barrier.specs.Staying.{rest_stays_again}
 use Rattle.heap_model.specs.Slots.{reference_word}
 use Rattle.heap_model.specs.Kinds.{Pair, count_offset}
 use Rattle.heap_model.specs.Needs.{grown_table}

@@ -1,10 +1,11 @@
 -- How many pairs the tables of weak maps have once words of one map's own cells were written.
-use Rattle.std.proofs.Common.{◌≡◌, ℕ, ◌+◌, ◌<◌, ◌^◌, List, Contains, Some, slice_get}
+use Rattle.std.proofs.Common.{◌≡◌, ℕ, ◌+◌, ◌<◌, ◌^◌, List, Contains, Some, slice_get, subst}
 use Rattle.tagged_word.specs.declared.layout.Kind.TheVariants as kind
 use Rattle.tagged_word.specs.Cells.{store_slot}
 use Rattle.cell_layout.specs.Cells.{IsRow}
 use Rattle.heap_model.specs.Types.{Cell}
-use Rattle.heap_model.specs.Heaps.{Heap}
+use Rattle.heap_model.specs.Heaps.{Heap, words_of_cell}
+use Rattle.heap_model.specs.Kinds.{HasWord}
 use Rattle.heap_model.specs.Slots.{reference_word}
 use Rattle.heap_model.specs.Needs.{capacity_at}
 use Rattle.object_cells.specs.Capacities.{ChangesObject, WritesBeside}
@@ -15,12 +16,14 @@ use Rattle.ephemeron_table.specs.PairLaws.{RefillsWeak}
 -- words of a weak map's own cells were so written
 pub of_pairs : {old new : Heap} {cell : Cell} {others made : List Cell} → RefillsWeak old new cell others made
     → WritesBeside kind.Weak kind.Table old new cell cell others made
-of_pairs refills = record {
+of_pairs {new = new} {cell} refills = record {
   owns = weak_owns;
   whole = refills.whole;
   writes = refills.writes;
   belong = refills.pairs.refills.belong;
   kinds = refills.pairs.refills.kinds;
+  stores = λ other among is. subst (HasWord (words_of_cell new cell) store_slot)
+      (refills.pairs.refills.stores other among is).1 refills.pairs.refills.has_store;
 }
 
 module _ {old new : Heap} {cell : Cell} {others made : List Cell} {from to : ℕ}

@@ -13,7 +13,7 @@ use Rattle.linear_probing.specs.Tables as probing
 use Rattle.linear_probing.proofs.Findings.{still_probed}
 use Rattle.nursery.specs.Young.{HasRoom}
 use Rattle.object_graph.specs.Graphs.{Graph, WeakObject}
-use Rattle.heap_table.specs.Seats.{heap_words}
+use Rattle.write_barrier.specs.Seats.{heap_words}
 use Rattle.heap_model.specs.Types.{Kind, Cell}
 use Rattle.heap_model.specs.Heaps.{HasCell, words_of_cell}
 use Rattle.heap_model.specs.Slots.{RefersToPlace, IsWeakCellAt}

@@ -8,7 +8,7 @@ use Rattle.tagged_word.proofs.Members.{first_in, rest_in}
 use Rattle.page_space.specs.Extents.{eden_start}
 use Rattle.cell_layout.specs.Cells.{IsRow}
 use Rattle.nursery.specs.Young.{HasRoom}
-use Rattle.heap_table.specs.Seats.{heap_words}
+use Rattle.write_barrier.specs.Seats.{heap_words}
 use Rattle.heap_model.specs.Types.{Cell, Held}
 use Rattle.heap_model.specs.Heaps.{HasCell, words_of_cell}
 use Rattle.heap_model.specs.Kinds.{count_offset}

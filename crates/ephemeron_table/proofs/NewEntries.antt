@@ -11,7 +11,7 @@ use Rattle.object_graph.specs.Graphs.{Graph, WeakObject}
 use Rattle.object_graph.specs.Meaning.{weak_most}
 use Rattle.object_graph.specs.Invariants.{IsValue}
 use Rattle.page_space.specs.Sizes.{AreWithin}
-use Rattle.heap_table.specs.Seats.{heap_words}
+use Rattle.write_barrier.specs.Seats.{heap_words}
 use Rattle.heap_model.specs.Slots.{reference_word}
 use Rattle.heap_model.specs.Kinds.{Pair}
 use Rattle.heap_model.specs.Needs.{capacity_at, count_at, grown_table, box_need}

@@ -2,7 +2,7 @@
 use Rattle.std.proofs.Common.{◌≡◌, ℕ, ◌+◌, ◌<◌, ◌≤◌, ◌⊎◌, inl, inr, length, sym, ◌∙◌, ap, subst, arith}
 use Rattle.std.proofs.Common.{length-set}
 use Rattle.page_space.specs.Extents.{marks_start}
-use Rattle.heap_table.specs.Seats.{heap_words}
+use Rattle.write_barrier.specs.Seats.{heap_words}
 use Rattle.heap_model.specs.Remembered.{Touch}
 use Rattle.write_barrier.specs.MutatorState.{Mutator, with_slot}
 use Rattle.write_barrier.specs.Recording.{Touches, touched, touched_one, touched_again, touched_then}

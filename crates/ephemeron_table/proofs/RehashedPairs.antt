@@ -4,7 +4,7 @@ use Rattle.std.specs.Prelude.{slice_set, option_map}
 use Rattle.tagged_word.specs.Cells.{store_head}
 use Rattle.tagged_word.specs.Readings.{reference_in}
 use Rattle.linear_probing.specs.Tables.{FindsAll}
-use Rattle.heap_table.specs.Seats.{heap_words}
+use Rattle.write_barrier.specs.Seats.{heap_words}
 use Rattle.heap_model.specs.Heaps.{Heap}
 use Rattle.heap_model.specs.Slots.{reference_word}
 use Rattle.write_barrier.specs.MutatorState.{Mutator, heap_of}

@@ -7,7 +7,7 @@ use Rattle.tagged_word.specs.Cells.{store_head}
 use Rattle.object_graph.proofs.Lists.{slice_get-set_same, slice_get-set_other}
 use Rattle.linear_probing.specs.Tables.{FindsAll}
 use Rattle.page_space.specs.Extents.{Space, marks_start}
-use Rattle.heap_table.specs.Seats.{heap_words}
+use Rattle.write_barrier.specs.Seats.{heap_words}
 use Rattle.heap_model.specs.Kinds.{Pair, free_pair, count_offset}
 use Rattle.heap_model.specs.Needs.{count_at}
 use Rattle.heap_model.specs.Remembered.{Touch}

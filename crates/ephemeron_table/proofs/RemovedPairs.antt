@@ -5,7 +5,7 @@ use Rattle.heap_model.specs.Slots.{reference_word}
 use Rattle.std.proofs.lemmas.Option.{slice_get_within}
 use Rattle.page_space.specs.Sizes.{AreWithin}
 use Rattle.nursery.specs.Young.{Young}
-use Rattle.heap_table.specs.Seats.{heap_words}
+use Rattle.write_barrier.specs.Seats.{heap_words}
 use Rattle.heap_table.specs.Phases.{Quiet}
 use Rattle.heap_model.specs.Types.{Cell}
 use Rattle.heap_model.specs.Heaps.{Heap, words_of_cell}

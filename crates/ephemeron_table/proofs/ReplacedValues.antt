@@ -10,7 +10,7 @@ use Rattle.heap_model.specs.Types.{Value, Cell}
 use Rattle.object_graph.specs.Graphs.{Graph, WeakObject}
 use Rattle.object_graph.proofs.Lists.{slice_get-set_same}
 use Rattle.cell_layout.specs.Cells.{IsRow}
-use Rattle.heap_table.specs.Seats.{heap_words, RestStays}
+use Rattle.write_barrier.specs.Seats.{heap_words, RestStays}
 use Rattle.heap_model.specs.Slots.{reference_word, RefersToPlace}
 use Rattle.heap_model.specs.Kinds.{Pair}
 use Rattle.heap_model.specs.Showing.{ShowsValue}

@@ -10,7 +10,7 @@ use Rattle.tagged_word.proofs.Members.{first_in, rest_in}
 use Rattle.heap_model.specs.Types.{Cell}
 use Rattle.linear_probing.specs.Tables.{FindsAll}
 use Rattle.linear_probing.specs.Tables as probing
-use Rattle.heap_table.specs.Seats.{heap_words}
+use Rattle.write_barrier.specs.Seats.{heap_words}
 use Rattle.heap_model.specs.Heaps.{HasCell, words_of_cell}
 use Rattle.heap_model.specs.Slots.{reference_word, RefersToPlace}
 use Rattle.heap_model.specs.Kinds.{HasWord, Pair, pairs_in, HasTable, IsProbed}

@@ -11,7 +11,7 @@ use Rattle.heap_model.specs.Needs.{capacity_at, count_at, word_at}
 use Rattle.heap_model.specs.Remembered.{AreRemembered}
 use Rattle.heap_model.specs.Showing.{Shows}
 use Rattle.page_space.specs.Extents.{eden_start}
-use Rattle.heap_table.specs.Seats.{heap_words}
+use Rattle.write_barrier.specs.Seats.{heap_words}
 use Rattle.write_barrier.specs.MutatorState.{Mutator, heap_of, IsTied}
 use Rattle.object_cells.specs.CellsAt.{IsQuietWhole}
 use Rattle.object_cells.specs.Uses.{UsesMore}

@@ -5,7 +5,7 @@ use Rattle.tagged_word.specs.Cells.{store_head, length_offset}
 use Rattle.tagged_word.specs.Headers.{header_bits}
 use Rattle.tagged_word.specs.Shapes.{table_shape}
 use Rattle.nursery.specs.Young.{HasRoom}
-use Rattle.heap_table.specs.Seats.{heap_words}
+use Rattle.write_barrier.specs.Seats.{heap_words}
 use Rattle.heap_model.specs.Slots.{reference_word, hole_word}
 use Rattle.heap_model.specs.Kinds.{count_offset}
 use Rattle.heap_model.specs.Remembered.{Touch}

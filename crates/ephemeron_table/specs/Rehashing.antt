@@ -7,7 +7,7 @@ use Rattle.nursery.specs.Young.{HasRoom}
 use Rattle.object_graph.specs.Meaning.{weak_most}
 use Rattle.heap_model.specs.Types.{Held}
 use Rattle.linear_probing.specs.Tables.{FindsAll}
-use Rattle.heap_table.specs.Seats.{heap_words}
+use Rattle.write_barrier.specs.Seats.{heap_words}
 use Rattle.heap_table.specs.Phases.{Quiet}
 use Rattle.heap_model.specs.Slots.{reference_word}
 use Rattle.heap_model.specs.Kinds.{Pair, count_offset}

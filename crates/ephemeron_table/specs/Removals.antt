@@ -1,7 +1,7 @@
 -- How a pair is removed from a table, word by word.
 use Rattle.std.specs.Prelude.{◌≡◌, ◌≢◌, ℕ, ◌+◌, ◌-◌, ◌<◌, ◌⊎◌, length, Some, None, slice_get, slice_set}
 use Rattle.linear_probing.specs.Tables.{FindsAll}
-use Rattle.heap_table.specs.Seats.{heap_words, RestStays}
+use Rattle.write_barrier.specs.Seats.{heap_words, RestStays}
 use Rattle.heap_model.specs.Kinds.{Pair, free_pair, count_offset}
 use Rattle.heap_model.specs.Needs.{count_at}
 use Rattle.heap_model.specs.Remembered.{Touch}

@@ -2,7 +2,7 @@
 ghost use Rattle.std.specs.Prelude.{◌≡◌, ◌+◌, ◌*◌, ◌<◌, ◌≤◌, OnOk, IfErr};
 ghost use Rattle.tagged_word.specs.Cells.{store_head, cell_words_most};
 ghost use Rattle.page_space.specs.Extents.{marks_start};
-ghost use Rattle.heap_table.specs.Seats.{heap_words};
+ghost use Rattle.write_barrier.specs.Seats.{heap_words};
 ghost use Rattle.heap_model.specs.Needs as needs;
 ghost use Rattle.write_barrier.specs.MutatorState.{MayStore, heap_of};
 ghost use Rattle.write_barrier.specs.Recording.{Touches};

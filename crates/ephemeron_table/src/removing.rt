@@ -1,6 +1,6 @@
 //! How a pair is removed from a table.
 ghost use Rattle.std.specs.Prelude.{◌≡◌, ◌+◌, ◌<◌};
-ghost use Rattle.heap_table.specs.Seats.{heap_words};
+ghost use Rattle.write_barrier.specs.Seats.{heap_words};
 ghost use Rattle.linear_probing.specs.Tables.{steps_to};
 ghost use Rattle.page_space.specs.Extents.{marks_start};
 ghost use Rattle.heap_model.specs.Kinds.{count_offset};

@@ -1,13 +1,11 @@
 -- What a variable holds, before and after it is made to hold a value.
 use Rattle.std.proofs.Common.{◌≡◌, ◌≢◌, ℕ, ℤ, ◌+◌, ◌<◌, ◌∙◌, sym, ap, List, length, IsTrue}
-use Rattle.std.proofs.Common.{slice_get, slice_set, Some, false, w64, arith, rules}
-use Rattle.std.specs.Int.{cast_unsigned}
+use Rattle.std.proofs.Common.{slice_get, slice_set, Some, false, arith, rules}
 use Rattle.std.proofs.Math.ListN.{length-set}
 use Rattle.std.proofs.lemmas.List.{set-get_or}
 use Rattle.std.proofs.lemmas.Option.{gets, get_or_from_slice_get}
 use Rattle.std.proofs.lemmas.Grind.{common_steps}
-use Rattle.tagged_word.specs.declared.word.Class.TheVariants.{Small}
-use Rattle.tagged_word.specs.Words.{small, bits_of}
+use Rattle.tagged_word.specs.Words.{small}
 use Rattle.page_space.specs.Extents.{Space}
 use Rattle.handle_roots.specs.declared.held.Held.{Held}
 use Rattle.handle_roots.specs.declared.held.Held.TheVariants.{Int}
@@ -66,11 +64,10 @@ first_alone space words variable held there =
 -- so it is where one small integer replaces another
 pub small_replaced : (space : Space) (words : List ℕ) (variable : ℕ) (was v : ℤ) → IsTrue (small was) →
     IsTrue (small v) → Holds space words variable (Int was) →
-    with_root space words variable (Int v) ≡ slice_set words (root_at space variable) (bits_of (Small v))
-small_replaced space words variable was v is_was is holds =
-    let second = ap (λ b. second_of b was) is_was ∙ sym (ap (λ b. second_of b v) is) in
+    with_root space words variable (Int v) ≡ slice_set words (root_at space variable) (first_word (Int v))
+small_replaced space words variable was v was_is is holds =
+    let second = ap (λ b. second_of b was) was_is ∙ sym (ap (λ b. second_of b v) is) in
     first_alone space words variable (Int v) (holds.second ∙ ap (λ word. Some word) second)
-    ∙ ap (λ b. slice_set words (root_at space variable) (first_of b v)) is
 
 -- where the first root word of a value stands already, only the second one changes
 pub second_alone : (space : Space) (words : List ℕ) (variable : ℕ) (held : Held) →
@@ -86,11 +83,10 @@ second_alone space words variable held there =
 -- so it is where an integer that is not small replaces another
 pub wide_replaced : (space : Space) (words : List ℕ) (variable : ℕ) (was v : ℤ) → small was ≡ false →
     small v ≡ false → Holds space words variable (Int was) →
-    with_root space words variable (Int v) ≡ slice_set words (root_at space variable + 1) (cast_unsigned w64 v)
+    with_root space words variable (Int v) ≡ slice_set words (root_at space variable + 1) (second_word (Int v))
 wide_replaced space words variable was v was_wide wide holds =
     let first = ap (λ b. first_of b was) was_wide ∙ sym (ap (λ b. first_of b v) wide) in
     second_alone space words variable (Int v) (holds.first ∙ ap (λ word. Some word) first)
-    ∙ ap (λ b. slice_set words (root_at space variable + 1) (second_of b v)) wide
 
 -- the first root word of another variable stays
 first_stays : (space : Space) (words : List ℕ) (variable other : ℕ) (held : Held) → other ≢ variable →

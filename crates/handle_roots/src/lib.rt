@@ -5,16 +5,17 @@
 //! Invariant: none. Each call works on any words that a crate above has.
 #![tactic(auto)]
 
+mod both_words;
 mod first_words;
 mod given;
 mod held;
 mod laws;
 mod roots;
 
+pub use both_words::{RootPair, small_word, wide_word, words_of};
 pub use given::Given;
 pub use held::Held;
 pub use laws::laws_of_roots;
 pub use roots::{
-    copy, given_by, held_by, hold, is_bound, referred, replace_small, replace_wide, small_by,
-    small_word_by, wide_by,
+    given_by, held_by, is_bound, referred, root_words, small_by, small_word_by, wide_by,
 };

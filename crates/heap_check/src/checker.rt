@@ -161,7 +161,7 @@ fn flaw_of_sizes(image: &HeapImage) -> Option<Flaw>
         (IsRowsFlaw heap) }
 {
     // Opens the tree: its paths are those of a graph.
-    let _paths = image.shapes.paths();
+    image.shapes.paths_fit();
     if let Some(flaw) = flaw_of_used(image) {
         return Some(flaw);
     }

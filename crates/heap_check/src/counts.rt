@@ -47,7 +47,7 @@ fn with_cell(image: &HeapImage, counts: Counts, cell: Cell) -> Counts
     ensures { CountsTo (image_heap image.now) (cell.at + cell.size) result.objects result.entries }
 {
     // No address of a heap is past 32 bits.
-    let _words_count = image.regions.count();
+    image.regions.sizes_fit();
     if !cell.layout.kind.is_object() {
         return counts;
     }

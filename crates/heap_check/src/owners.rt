@@ -45,7 +45,7 @@ fn mark_beside_cell(image: &HeapImage, starts: &[bool], beside: &mut [bool], cel
     ensures { MarksAt (IsBesideOf (image_heap image.now) cell) beside.old beside.new }
 {
     // No address of a heap is past 32 bits.
-    let _words_count = image.regions.count();
+    image.regions.sizes_fit();
     if !cell.layout.kind.is_object() {
         return;
     }
@@ -115,7 +115,7 @@ fn is_namer(image: &HeapImage, beside: &[bool], cell: Cell) -> bool
     ensures { IsTrue result ↔ IsNamer (image_heap image.now) cell }
 {
     // The image is what the flags are of.
-    let _words_count = image.regions.count();
+    image.regions.sizes_fit();
     if cell.layout.kind.is_object() {
         return true;
     }
@@ -135,7 +135,7 @@ fn flaw_of_names(image: &HeapImage, starts: &[bool], named: &mut [bool], cell: C
     ensures as_many { length named.new ≡ length named.old }
 {
     // No address of a heap is past 32 bits.
-    let _words_count = image.regions.count();
+    image.regions.sizes_fit();
     let mut from = 0;
     while let Some(offset) = next_scavenge_slot(&cell, from) {
         let word = word_of(image, cell, offset);
@@ -162,7 +162,7 @@ fn is_named_again(image: &HeapImage, starts: &[bool], named: &mut [bool], word: 
     ensures as_many { length named.new ≡ length named.old }
 {
     // No address of a heap is past 32 bits.
-    let _words_count = image.regions.count();
+    image.regions.sizes_fit();
     let Some(at) = Word(word).address() else {
         return false;
     };

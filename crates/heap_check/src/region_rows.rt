@@ -22,7 +22,7 @@ pub(crate) fn bound_of(image: &HeapImage, start: u32, end: u32) -> Bound
     ensures { BoundsFrom (image_heap image.now) start end result }
 {
     // Tells that the sizes are within their limits, so that no region is empty.
-    let _words_count = image.regions.count();
+    image.regions.sizes_fit();
     bound_by(image.regions.region(start), start, end, image.used)
 }
 
@@ -55,7 +55,7 @@ pub(crate) fn survivors_at(image: &HeapImage, start: u32, end: u32, row_end: u32
     ensures counted { CountsRowAt (image_heap image.now) start result }
     ensures within { start + result ≤ end }
 {
-    let _words_count = image.regions.count();
+    image.regions.sizes_fit();
     survivors_of_region(image.regions.region(start), row_end - start)
 }
 

@@ -152,7 +152,7 @@ pub(crate) fn mark_rows(image: &HeapImage, starts: &mut [bool]) -> Result<u32, F
     ensures as_many { length starts.new ≡ length starts.old }
 {
     // Tells that the sizes are within their limits, so that no region is empty.
-    let _words_count = image.regions.count();
+    image.regions.sizes_fit();
     let mut at = 0;
     let mut survivors = 0;
     while let Some(end) = image.regions.cells_end(at) {

@@ -54,7 +54,7 @@ keeps-comes words input _ (Comes.no_memory begins read) = tt
 keeps-comes words input _ (Comes.read_fault checks sizes asks rose) = tt
 keeps-comes words input _ (Comes.too_long checks sizes asks many) = tt
 keeps-comes words input _ (Comes.no_script checks sizes bytes stop line asks reads is refusal) = tt
-keeps-comes words input _ (Comes.ended checks sizes bytes script kept came asks reads is keeps comes need) =
+keeps-comes words input _ (Comes.ended checks sizes bytes script kept came asks reads is keeps comes judged need) =
     (sizes, bytes, inl (checks, asks, reads.all), subst (λ r. KeepsGraph sizes r kept) (sym is) keeps)
 keeps-comes words input _ (Comes.cut_short checks sizes bytes script kept asks reads is keeps line need none due) =
     (sizes, bytes, inl (checks, asks, reads.all), subst (λ r. KeepsGraph sizes r kept) (sym is) keeps)
@@ -80,7 +80,7 @@ reads-comes words input _ (Comes.no_memory begins read) check these wants = tt
 reads-comes words input _ (Comes.read_fault checks sizes asks rose) check these wants = tt
 reads-comes words input _ (Comes.too_long checks sizes asks many) check these wants = tt
 reads-comes words input _ (Comes.no_script checks sizes bytes stop line asks reads is refusal) check these wants = tt
-reads-comes words input _ (Comes.ended checks sizes bytes script kept came asks reads is keeps comes need) check these
+reads-comes words input _ (Comes.ended checks sizes bytes script kept came asks reads is keeps comes judged need) check these
     wants =
     reads.none_left
 reads-comes words input _ (Comes.cut_short checks sizes bytes script kept asks reads is keeps line need none due) check
@@ -171,7 +171,7 @@ opened-line words input _ (Comes.no_script checks sizes bytes stop at asks reads
     let same : at ≡ line = cc in
     kept_none (invocation_of words) _
     (subst (λ l. IsKeptAt (status_of l) None) same (opened-refused stop at refusal))
-opened-line words input _ (Comes.ended checks sizes bytes script kept came asks reads is keeps comes need) line e =
+opened-line words input _ (Comes.ended checks sizes bytes script kept came asks reads is keeps comes judged need) line e =
     let same : last_line_of came kept.line ≡ line = cc in
     kept_run words checks sizes _ (Some kept) asks
     (subst (λ l. IsKeptAt (status_of l) (Some kept)) same
@@ -207,7 +207,7 @@ opened-front words input _ (Comes.too_long checks sizes asks many) =
     kept_none (invocation_of words) sink_fault_status (opened-failed None)
 opened-front words input _ (Comes.no_script checks sizes bytes stop line asks reads is refusal) =
     kept_none (invocation_of words) sink_fault_status (opened-failed None)
-opened-front words input _ (Comes.ended checks sizes bytes script kept came asks reads is keeps comes need) =
+opened-front words input _ (Comes.ended checks sizes bytes script kept came asks reads is keeps comes judged need) =
     kept_run words checks sizes sink_fault_status (Some kept) asks (opened-failed (Some kept))
 opened-front words input _ (Comes.cut_short checks sizes bytes script kept asks reads is keeps line need none due) =
     kept_run words checks sizes sink_fault_status (Some kept) asks (opened-failed (Some kept))

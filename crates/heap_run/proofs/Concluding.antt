@@ -5,6 +5,7 @@ use Rattle.script_text.specs.Scripts.{ScriptText}
 use Rattle.script_text.specs.Grammar.{reading}
 use Rattle.heap_model.specs.Types.{Sizes}
 use Rattle.heap_model.specs.declared.image.HeapImage.{HeapImage}
+use Rattle.heap_model.specs.Heaps.{Heap}
 use Rattle.heap_model.specs.Images.{image_heap}
 use Rattle.byte_ends.specs.Faults.{Rose}
 use Rattle.byte_ends.specs.Sink.{Appends, AppendsSome}
@@ -20,7 +21,7 @@ use Rattle.heap_script.specs.TheConstants.{OUTPUT_BYTES}
 use Rattle.heap_run.specs.declared.ended.Kept.{Kept}
 use Rattle.heap_run.specs.declared.ended.Ended.{Ended}
 use Rattle.heap_run.specs.Texts.{last_bytes, status_of, sink_fault_status}
-use Rattle.heap_run.specs.Answers.{Answer, IsKeptHeapOf, Comes, Taken, Runs, last_line_of}
+use Rattle.heap_run.specs.Answers.{Answer, IsKeptHeapOf, IsChecked, Comes, Taken, Runs, last_line_of}
 use Rattle.heap_run.proofs.Imaged.{LedTo, FinishesImaged}
 
 -- what is kept of a run
@@ -68,12 +69,11 @@ Runs-ended : (checks : Bool) (sizes : Sizes) (bytes : List ℕ) (script : Script
     → IsKeepable sizes script image → (reached : RanTo script (image_heap image) n)
     → (led : LedTo script (image_heap image) n)
     → EndsRun checks script (image_heap image) led.last.rows led.collections n reached.so_far how line
-    → Appends old mid reached.so_far.bytes → faults_mid ≡ faults_old
+    → IsChecked checks led.last.heap how → Appends old mid reached.so_far.bytes → faults_mid ≡ faults_old
     → Lasts how line mid new faults_mid faults_new status → (status ≡ sink_fault_status) ⊎ (status ≢ sink_fault_status)
     → Runs checks sizes bytes old new faults_old faults_new (ended_by image how line n status)
 Runs-ended checks sizes bytes script image how line n status old mid new faults_old faults_mid faults_new
-    is keepable reached led
-    comes told steady lasts (inl five) =
+    is keepable reached led comes judged told steady lasts (inl five) =
     let (some, rose) = lasts.failed five in
     let last = last_line_of how line in
     let (all, count) = front-behind reached.so_far.bytes (last_bytes last) told some in
@@ -86,12 +86,11 @@ Runs-ended checks sizes bytes script image how line n status old mid new faults_
       kept = refl;
       comes = λ words input asks reads.
           Comes.ended checks sizes bytes script kept how asks reads is (keeps how line n keepable reached led) comes
-          refl;
+          judged refl;
       taken = rw five (Taken.front answer all near (subst (λ f. Rose f faults_new) steady rose));
     }
 Runs-ended checks sizes bytes script image how line n status old mid new faults_old faults_mid faults_new
-    is keepable reached led
-    comes told steady lasts (inr other) =
+    is keepable reached led comes judged told steady lasts (inr other) =
     let (status-is, appends, same) = lasts.written other in
     let kept = kept_by image how line n in
     record {
@@ -99,20 +98,28 @@ Runs-ended checks sizes bytes script image how line n status old mid new faults_
       kept = refl;
       comes = λ words input asks reads.
           Comes.ended checks sizes bytes script kept how asks reads is (keeps how line n keepable reached led) comes
-          refl;
+          judged refl;
       taken = rw status-is
           (Taken.all reached.so_far.bytes (last_line_of how line) (Some kept)
           (Appends-append told appends) (same ∙ steady));
     }
 
+-- A run finished, and whatever it came to, its last heap was judged, if it is checked and came to counts.
+pub record FinishesJudged (checks : Bool) (script : ScriptText) (heap : Heap) (how : How) (line n : ℕ)
+    (old new : List ℕ → Type 0) (faults_old faults_new : ℕ) : Type 0 where
+  pub finishes : FinishesImaged checks script heap (finished_by how line n) old new faults_old faults_new
+  pub judged : (came : How)
+      → EndsRun checks script heap finishes.led.last.rows finishes.led.collections n finishes.reached.so_far came line
+      → IsChecked checks finishes.led.last.heap came
+
 -- a run that the sink cut short: between two lines, or at an end
 Runs-cut : (checks : Bool) (sizes : Sizes) (bytes : List ℕ) (script : ScriptText) (image : HeapImage) (need line n : ℕ)
     (old new : List ℕ → Type 0) (faults_old faults_new : ℕ) → reading bytes ≡ Ok script
     → IsKeepable sizes script image
-    → (f : FinishesImaged checks script (image_heap image) (finished_by (SinkFault need) line n) old new faults_old
-    faults_new)
+    → FinishesJudged checks script (image_heap image) (SinkFault need) line n old new faults_old faults_new
     → Runs checks sizes bytes old new faults_old faults_new (ended_by image (SinkFault need) line n sink_fault_status)
-Runs-cut checks sizes bytes script image need line n old new faults_old faults_new is keepable f =
+Runs-cut checks sizes bytes script image need line n old new faults_old faults_new is keepable ran =
+    let f = ran.finishes in
     let (at, cut, rose) = f.writes in
     let told = f.reached.so_far.bytes in
     let kept = kept_by image (SinkFault need) line n in
@@ -136,7 +143,8 @@ Runs-cut checks sizes bytes script image need line n old new faults_old faults_n
             answer = record { told = told; last = Some last; kept = Some kept };
             kept = refl;
             comes = λ words input asks reads.
-                Comes.ended checks sizes bytes script kept came asks reads is kept_is comes same;
+                Comes.ended checks sizes bytes script kept came asks reads is kept_is comes (ran.judged came comes)
+                same;
             taken = Taken.front (record { told = told; last = Some last; kept = Some kept }) some near rose;
           }
     ]
@@ -146,40 +154,45 @@ pub Runs-finished : (checks : Bool) (sizes : Sizes) (bytes : List ℕ) (script :
     (how : How) (line n status : ℕ)
     (old mid new : List ℕ → Type 0) (faults_old faults_mid faults_new : ℕ) → reading bytes ≡ Ok script
     → IsKeepable sizes script image
-    → FinishesImaged checks script (image_heap image) (finished_by how line n) old mid faults_old faults_mid
+    → FinishesJudged checks script (image_heap image) how line n old mid faults_old faults_mid
     → (IsCut how → status ≡ sink_fault_status)
-    → (IsCut how → FinishesImaged checks script (image_heap image) (finished_by how line n) old new faults_old faults_new)
+    → (IsCut how → FinishesJudged checks script (image_heap image) how line n old new faults_old faults_new)
     → (¬ IsCut how → Lasts how line mid new faults_mid faults_new status)
     → (status ≡ sink_fault_status) ⊎ (status ≢ sink_fault_status)
     → Runs checks sizes bytes old new faults_old faults_new (ended_by image how line n status)
-Runs-finished checks sizes bytes script image End line n status old mid new fo fm fn is keepable f five cut lasts dec =
-    Runs-ended checks sizes bytes script image End line n status old mid new fo fm fn is keepable f.reached f.led
-    f.writes.0 f.writes.1 f.writes.2
-    (lasts (λ no. no)) dec
-Runs-finished checks sizes bytes script image (Fault word) line n status old mid new fo fm fn is
-    keepable f five cut lasts dec =
-    Runs-ended checks sizes bytes script image (Fault word) line n status old mid new fo fm fn is keepable f.reached
-    f.led
-    f.writes.0 f.writes.1 f.writes.2
-    (lasts (λ no. no)) dec
-Runs-finished checks sizes bytes script image (Counted counts) line n status old mid new fo fm fn is
-    keepable f five cut lasts dec =
-    Runs-ended checks sizes bytes script image (Counted counts) line n status old mid new fo fm fn is keepable f.reached
-    f.led f.writes.0 f.writes.1 f.writes.2 (lasts (λ no. no)) dec
-Runs-finished checks sizes bytes script image (Flawed flaw) line n status old mid new fo fm fn is
-    keepable f five cut lasts dec =
-    absurd (f.writes.0)
-Runs-finished checks sizes bytes script image (HeapFull need) line n status old mid new fo fm fn is
-    keepable f five cut lasts dec =
-    Runs-ended checks sizes bytes script image (HeapFull need) line n status old mid new fo fm fn is keepable f.reached
-    f.led
-    f.writes.0 f.writes.1 f.writes.2 (lasts (λ no. no)) dec
-Runs-finished checks sizes bytes script image (SinkFault need) line n status old mid new fo fm fn is
-    keepable f five cut lasts dec =
-    rw (five tt) (Runs-cut checks sizes bytes script image need line n old new fo fn is keepable (cut tt))
-Runs-finished checks sizes bytes script image LineLimit line n status old mid new fo fm fn is keepable f five cut lasts
+Runs-finished checks sizes bytes script image End line n status old mid new fo fm fn is keepable ran five cut lasts
     dec =
-    Runs-ended checks sizes bytes script image LineLimit line n status old mid new fo fm fn is keepable f.reached
-    f.led
-    f.writes.0 f.writes.1 f.writes.2
-    (lasts (λ no. no)) dec
+    let f = ran.finishes in
+    let (comes, told, steady) = f.writes in
+    Runs-ended checks sizes bytes script image End line n status old mid new fo fm fn is keepable f.reached f.led
+    comes (ran.judged End comes) told steady (lasts (λ no. no)) dec
+Runs-finished checks sizes bytes script image (Fault word) line n status old mid new fo fm fn is keepable ran five cut
+    lasts dec =
+    let f = ran.finishes in
+    let (comes, told, steady) = f.writes in
+    Runs-ended checks sizes bytes script image (Fault word) line n status old mid new fo fm fn is keepable f.reached
+    f.led comes (ran.judged (Fault word) comes) told steady (lasts (λ no. no)) dec
+Runs-finished checks sizes bytes script image (Counted counts) line n status old mid new fo fm fn is keepable ran five
+    cut lasts dec =
+    let f = ran.finishes in
+    let (comes, told, steady) = f.writes in
+    Runs-ended checks sizes bytes script image (Counted counts) line n status old mid new fo fm fn is keepable f.reached
+    f.led comes (ran.judged (Counted counts) comes) told steady (lasts (λ no. no)) dec
+Runs-finished checks sizes bytes script image (Flawed flaw) line n status old mid new fo fm fn is keepable ran five cut
+    lasts dec =
+    absurd (ran.finishes.writes.0)
+Runs-finished checks sizes bytes script image (HeapFull need) line n status old mid new fo fm fn is keepable ran five
+    cut lasts dec =
+    let f = ran.finishes in
+    let (comes, told, steady) = f.writes in
+    Runs-ended checks sizes bytes script image (HeapFull need) line n status old mid new fo fm fn is keepable f.reached
+    f.led comes (ran.judged (HeapFull need) comes) told steady (lasts (λ no. no)) dec
+Runs-finished checks sizes bytes script image (SinkFault need) line n status old mid new fo fm fn is keepable ran five
+    cut lasts dec =
+    rw (five tt) (Runs-cut checks sizes bytes script image need line n old new fo fn is keepable (cut tt))
+Runs-finished checks sizes bytes script image LineLimit line n status old mid new fo fm fn is keepable ran five cut
+    lasts dec =
+    let f = ran.finishes in
+    let (comes, told, steady) = f.writes in
+    Runs-ended checks sizes bytes script image LineLimit line n status old mid new fo fm fn is keepable f.reached f.led
+    comes (ran.judged LineLimit comes) told steady (lasts (λ no. no)) dec

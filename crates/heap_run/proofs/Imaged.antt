@@ -171,7 +171,7 @@ failed_imaged checks rows collections line need laws is apart r (inr (came, come
     inr (came, comes_imaged checks rows collections came line laws is apart r comes, same)
 
 -- what was written was written
-writes_imaged : (checks : Bool) {script : ScriptText} {heap image : Heap} (rows : List (List Run))
+pub writes_imaged : (checks : Bool) {script : ScriptText} {heap image : Heap} (rows : List (List Run))
     (collections : Collections)
     (came : How) (finished : Finished) (old new : List ℕ → Type 0) (faults_old faults_new : ℕ) → Laws
     → IsImageOf heap image
@@ -197,7 +197,7 @@ writes_imaged checks rows collections (how.Flawed flaw) finished old new fo fn l
     absurd (comes)
 
 -- the run finishes on the image as on the heap
-pub finishes_imaged : (checks : Bool) {script : ScriptText} {stage : Stage} {image : Heap} (finished : Finished)
+abbrev pub finishes_imaged : (checks : Bool) {script : ScriptText} {stage : Stage} {image : Heap} (finished : Finished)
     (old new : List ℕ → Type 0)
     (faults_old faults_new : ℕ) → Laws → IsImageOf stage.heap image
     → Finishes checks script stage finished old new faults_old faults_new

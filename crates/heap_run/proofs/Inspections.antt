@@ -1,5 +1,5 @@
 -- How the heap of a run is inspected that is ready to begin.
-use Rattle.std.proofs.Common.{◌≡◌, ◌∙◌, refl, sym, ap, subst}
+use Rattle.std.proofs.Common.{◌≡◌, Bool, true, false, refl, sym, ap, subst}
 use Rattle.page_space.specs.Extents.{Space}
 use Rattle.collector.specs.States.{HeapState}
 use Rattle.heap_script.specs.declared.inspecting.Inspection.{Inspection}
@@ -7,19 +7,18 @@ use Rattle.heap_script.specs.Inspecting.{counts_at_end, plan_of, IsFor}
 use Rattle.heap_script.specs.Inspectors.{same_space}
 use Rattle.heap_run.specs.declared.opened.Inspects.{Inspects}
 use Rattle.heap_run.specs.declared.opened.Inspects.TheVariants.{Nothing, Counts, Checks}
-use Rattle.heap_run.specs.Opening.{is_counted, inspection_for}
+use Rattle.heap_run.specs.Opening.{inspects_for, inspection_for}
 
--- it is counted at the end just where that was asked for
-counts_as_asked : (inspects : Inspects) (space : Space)
-    → counts_at_end (inspection_for inspects space) ≡ is_counted inspects
-counts_as_asked Nothing space = refl
-counts_as_asked Counts space = refl
-counts_as_asked Checks space = refl
+-- it is counted at the end just where a check was asked for
+pub counts_asked : (checks : Bool) (space : Space) (inspection : Inspection Space)
+    → inspection ≡ inspection_for (inspects_for checks) space → counts_at_end inspection ≡ checks
+counts_asked false space inspection is = ap counts_at_end is
+counts_asked true space inspection is = ap counts_at_end is
 
--- so is each heap of which it is known
-pub counts_asked : (inspects : Inspects) (space : Space) (inspection : Inspection Space)
-    → inspection ≡ inspection_for inspects space → counts_at_end inspection ≡ is_counted inspects
-counts_asked inspects space inspection is = ap counts_at_end is ∙ counts_as_asked inspects space
+-- so it is at the end of a soak
+pub counts_soaked : (space : Space) (inspection : Inspection Space) → inspection ≡ inspection_for Counts space
+    → counts_at_end inspection ≡ true
+counts_soaked space inspection is = ap counts_at_end is
 
 -- a checker, if there is one, is for the regions of the heap
 is_for_space : (heap : HeapState) (inspects : Inspects)

@@ -6,4 +6,5 @@ mod FullHeaps
 mod FullKept
 mod Imaged
 mod Inspections
+mod Checked
 mod SoakLines

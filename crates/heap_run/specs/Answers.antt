@@ -20,10 +20,12 @@ use Rattle.heap_script.specs.Stages.{Stage, Collections, uncollected}
 use Rattle.heap_script.specs.Reached.{RanTo}
 use Rattle.heap_script.specs.Spending.{Spends}
 use Rattle.heap_script.specs.Runs.{EndsRun, need_at, IsDue}
+use Rattle.heap_model.specs.Heaps.{Heap}
 use Rattle.heap_model.specs.Images.{image_heap}
 use Rattle.heap_model.specs.Collectable.{AreFreeRuns}
 use Rattle.collector.specs.Born.{Opening}
 use Rattle.collector.specs.Images.{IsImageOf}
+use Rattle.heap_check.specs.Judging.{IsCounted}
 use Rattle.heap_run.specs.declared.ended.Kept.{Kept}
 use Rattle.heap_run.specs.declared.ended.Ended.{Ended}
 use Rattle.heap_run.specs.declared.last_line.LastLine.{LastLine}
@@ -137,6 +139,11 @@ pub record IsKeptHeapOf (sizes : Sizes) (script : ScriptText) (kept : Kept) : Ty
   pub free : AreFreeRuns last.heap last.rows
   pub image : IsImageOf last.heap (image_heap kept.image)
 
+-- A run that is checked came to these counts of its last heap: an image of that was judged whole, and has these counts.
+abbrev pub IsChecked : Bool → Heap → How → Type 0
+IsChecked true heap (how.Counted counts) = (image : Heap) × IsImageOf heap image × IsCounted image counts
+IsChecked checks heap came = Unit {0}
+
 -- What a run comes to, by the words and the source.
 pub data Comes (words : List (List ℕ)) (input : Input) : Answer → Type 0 where
   -- the words are refused, and nothing is read
@@ -160,6 +167,7 @@ pub data Comes (words : List (List ℕ)) (input : Input) : Answer → Type 0 whe
       → (keeps : IsKeptHeapOf sizes script kept)
       → EndsRun checks script (image_heap kept.image) keeps.last.rows keeps.collections kept.executed
       keeps.reached.so_far came kept.line
+      → IsChecked checks keeps.last.heap came
       → kept.need ≡ need_at came
       → Comes words input (record {
         told = keeps.reached.so_far.bytes;

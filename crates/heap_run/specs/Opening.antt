@@ -11,11 +11,10 @@ use Rattle.heap_run.specs.declared.opened.Inspects.{Inspects}
 use Rattle.heap_run.specs.declared.opened.Inspects.TheVariants.{Nothing, Counts, Checks}
 use Rattle.heap_run.specs.declared.opened.Opened.{Opened}
 
--- a heap that is inspected so is counted at the end of the script
-abbrev pub is_counted : Inspects → Bool
-is_counted Nothing = false
-is_counted Counts = true
-is_counted Checks = true
+-- how the heap of a run is inspected: by a checker where a check is asked for, and else not at all
+abbrev pub inspects_for : Bool → Inspects
+inspects_for false = Nothing
+inspects_for true = Checks
 
 -- the heap of these regions is inspected so: not at all, by a census, or by a checker for the regions
 abbrev pub inspection_for : Inspects → Space → Inspection Space

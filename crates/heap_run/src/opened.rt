@@ -4,7 +4,10 @@ ghost use Rattle.object_graph.specs.Graphs.{Graph, start};
 ghost use Rattle.page_space.specs.Sizes.{AreWithin};
 ghost use Rattle.write_barrier.specs.MutatorState.{IsOpened};
 ghost use Rattle.collector.specs.States.{HeapShows};
-ghost use Rattle.heap_script.specs.Inspecting.{counts_at_end};
+ghost use Rattle.page_space.specs.Extents.{Space};
+ghost use Rattle.heap_script.specs.declared.inspecting.Inspection.{Inspection as Inspected};
+ghost use Rattle.heap_script.specs.Inspecting.{counts_at_end, JudgesEnd};
+ghost use Rattle.heap_script.specs.Inspectors.{ChecksImage};
 ghost use Rattle.heap_script.specs.Runs.{Finishes};
 ghost use Rattle.heap_script.specs.Stages.{stage_of};
 ghost use Rattle.heap_run.specs.Opening.{inspection_for, IsReady};
@@ -77,9 +80,10 @@ impl Opened {
         gate: &G,
     ) -> Ran
         requires { (inspects : Inspects) × (sizes : Sizes) × IsReady inspects sizes (length script.now.variables) self }
-        ensures finishes { let stage = stage_of result.heap.main in
-            Finishes (counts_at_end self.inspection) script.now stage result.finished
-            (K.HasTaken sink.old) (K.HasTaken sink.new) (K.faults sink.old) (K.faults sink.new) }
+        ensures finishes { let main = result.heap.main in (later : Inspected Space)
+            × (finishes : Finishes (counts_at_end self.inspection) script.now (stage_of main) result.finished
+            (K.HasTaken sink.old) (K.HasTaken sink.new) (K.faults sink.old) (K.faults sink.new))
+            × JudgesEnd ChecksImage self.inspection later main finishes.reached.so_far.graph finishes.collections }
         ensures shows { (graph : Graph) × HeapShows result.heap graph }
         ensures space { result.heap.main.seat.space ≡ self.heap.main.seat.space }
     {

@@ -1,5 +1,5 @@
 //! The program as one call. Its last line stands in `last_line`, the run of a script in `heap_script`.
-ghost use Rattle.std.specs.Prelude.{◌≡◌, ◌≢◌, ℕ, List, map, length, string_bytes};
+ghost use Rattle.std.specs.Prelude.{◌≡◌, ◌≢◌, ℕ, Bool, List, map, length, string_bytes};
 ghost use Rattle.std.specs.Prelude.{None, Ok};
 ghost use Rattle.script_text.specs.Grammar.{reading};
 ghost use Rattle.page_space.specs.Sizes.{AreWithin};
@@ -7,7 +7,7 @@ ghost use Rattle.byte_ends.specs.Faults.{Rose};
 ghost use Rattle.byte_ends.specs.Sink.{Appends, AppendsSome};
 ghost use Rattle.heap_script.specs.Runs.{IsCut};
 ghost use Rattle.heap_run.specs.Texts.{last_bytes, status_of, sink_fault_status};
-ghost use Rattle.heap_run.specs.Opening.{is_counted, IsReady};
+ghost use Rattle.heap_run.specs.Opening.{inspects_for, IsReady};
 ghost use Rattle.heap_run.specs.Answers.{Answers, Runs, AsksToRun, Taken};
 ghost use Rattle.heap_run.specs.Answers.{input_of, last_line_of, unopened};
 
@@ -83,7 +83,8 @@ fn run_read<S: Source, K: Sink, G: Gate, R: Threads + Sync>(
     gate: &G,
 ) -> Ended
     requires { AreWithin sizes 0 }
-    ensures { (words : List (List ℕ)) → AsksToRun words (is_counted inspects) sizes → Answers words
+    ensures { (words : List (List ℕ)) (checks : Bool) → inspects ≡ inspects_for checks
+        → AsksToRun words checks sizes → Answers words
         (input_of (S.left source.old) (S.left source.new) (S.faults source.old) (S.faults source.new))
         (K.HasTaken sink.old) (K.HasTaken sink.new) (K.faults sink.old) (K.faults sink.new) result }
 {
@@ -116,7 +117,8 @@ fn run_source<K: Sink, G: Gate, R: Threads + Sync>(
     gate: &G,
 ) -> Ended
     requires { AreWithin sizes 0 }
-    ensures { Runs (is_counted inspects) sizes source.now (K.HasTaken sink.old) (K.HasTaken sink.new)
+    ensures { (checks : Bool) → inspects ≡ inspects_for checks
+        → Runs checks sizes source.now (K.HasTaken sink.old) (K.HasTaken sink.new)
         (K.faults sink.old) (K.faults sink.new) result }
 {
     let script = match parse(alloc, source) {
@@ -138,9 +140,9 @@ fn run_opened<K: Sink, G: Gate, R: Threads + Sync>(
     gate: &G,
 ) -> Ended
     requires { (inspects : Inspects) × (sizes : Sizes) × IsReady inspects sizes (length script.now.variables) opened }
-    ensures { (inspects : Inspects) (sizes : Sizes) (bytes : List ℕ) → reading bytes ≡ Ok script.now
-        → IsReady inspects sizes (length script.now.variables) opened
-        → Runs (is_counted inspects) sizes bytes (K.HasTaken sink.old) (K.HasTaken sink.new)
+    ensures { (checks : Bool) (sizes : Sizes) (bytes : List ℕ) → reading bytes ≡ Ok script.now
+        → IsReady (inspects_for checks) sizes (length script.now.variables) opened
+        → Runs checks sizes bytes (K.HasTaken sink.old) (K.HasTaken sink.new)
         (K.faults sink.old) (K.faults sink.new) result }
 {
     let Ran { finished, heap } = opened.run(rt, script, sink, gate);

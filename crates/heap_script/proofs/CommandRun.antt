@@ -14,14 +14,13 @@ use Rattle.collector.specs.States.{HeapState, HeapShows, with_cycle}
 use Rattle.mutator.specs.CarriesOut.{field_numbers}
 use Rattle.mutator.specs.declared.output.TheConstants.{OUTPUT_BYTES, ROOM}
 use Rattle.heap_script.specs.Between.{RunsLines}
-use Rattle.heap_script.specs.Collecting.{Tries, CarriesCommand}
+use Rattle.heap_script.specs.Collecting.{Tries, Collects, CarriesCommand}
 use Rattle.heap_script.specs.Cycles.{cycle_after_line}
 use Rattle.heap_script.specs.Progress.{objects_made, CarriesLine}
 use Rattle.heap_script.specs.Runs.{OutputHolds}
 use Rattle.heap_script.proofs.LinesRun.{place_of, behind_first, by_index, one_less, below, reads}
 use Rattle.heap_script.proofs.LinesRun.{RunsLines-line, holds_line}
 use Rattle.heap_script.proofs.Asking.{rest_stays}
-use Rattle.heap_script.proofs.Retrying.{Stands, carried_at}
 use Rattle.heap_script.proofs.Ways.{past_end}
 
 -- what names only fields below a count names only fields below a greater one
@@ -63,7 +62,16 @@ module _ {script : ScriptText} {heap : HeapState} {objects : ℕ} {out taken ts 
   -- it came through
   carries_command : CarriesLine script.fields heap.rest.in_cycle heap.main after.main r.running.reached.so_far.graph
       (Some command) [] (Ok tt)
-  carries_command = CarriesCommand.apart tries.apart (carried_at (Stands.once refl) r.running.shown tries)
+  carries_command =
+      CarriesCommand.apart tries.apart
+      (record {
+        found = heap.main;
+        apart = tries.apart;
+        collects = Collects.unchanged refl;
+        shows = r.running.shown.main;
+        unfull = tries.asks;
+        carries = tries.carries;
+      })
 
   -- the next lines are those behind it
   on_command : next ≡ drop (suc (place_of script.lines rest)) script.lines

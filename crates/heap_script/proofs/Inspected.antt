@@ -6,8 +6,6 @@ use Rattle.page_space.specs.Extents.{Space}
 use Rattle.script_text.specs.Scripts.{ScriptText}
 use Rattle.write_barrier.specs.MutatorState.{Mutator}
 use Rattle.collector.specs.States.{HeapState, HeapShows}
-use Rattle.byte_ends.specs.Faults.{Rose}
-use Rattle.byte_ends.specs.Sink.{Appends}
 use Rattle.heap_check.specs.declared.counts.Counts.{Counts}
 use Rattle.heap_check.specs.declared.flaw.Flaw.{Flaw}
 use Rattle.heap_script.specs.declared.finished.How.{How}
@@ -15,19 +13,18 @@ use Rattle.heap_script.specs.declared.finished.How.TheVariants as ways
 use Rattle.heap_script.specs.declared.finished.Finished.{Finished}
 use Rattle.heap_script.specs.declared.inspecting.Inspection.{Inspection}
 use Rattle.heap_script.specs.declared.inspecting.Inspection.TheVariants.{Nothing, Counts as ByCensus, Checks}
-use Rattle.heap_script.specs.Found.{PausesFound, FinishesFound}
-use Rattle.heap_script.specs.Inspecting.{HasInspected, JudgesAfter, InspectsEnd, EndsJudged}
+use Rattle.heap_script.specs.Found.{PausesFound}
+use Rattle.heap_script.specs.Inspecting.{HasInspected, JudgesAfter, InspectsEnd, EndsJudged, JudgesLast, JudgesEnd}
 use Rattle.heap_script.specs.Inspecting.{counts_at_end, plan_of, how_found, how_judged}
 use Rattle.heap_script.specs.Between.{Running}
 use Rattle.heap_script.specs.Progress.{Pauses, Halts}
-use Rattle.heap_script.specs.Runs.{HasCounts, CutsOff, need_at}
-use Rattle.heap_script.specs.Stages.{uncollected, stage_of}
-use Rattle.heap_script.proofs.Finishing.{finished_by, Finishes-cut, Finishes-written, Finishes-failed}
+use Rattle.heap_script.specs.Runs.{HasCounts}
+use Rattle.heap_script.specs.Stages.{Collections, uncollected, finally_collected, stage_of}
+use Rattle.object_graph.specs.Run.{Told}
+use Rattle.heap_script.proofs.Finishing.{finished_by}
+use Rattle.heap_script.proofs.FinalJudgements.{Answering, PauseIsJudged, not_final, halts_not_final, judged_first}
+use Rattle.heap_script.proofs.FinalJudgements.{census_first}
 use Rattle.heap_script.proofs.Judging.{pauses_alike, pauses_counted}
-
--- how judges answer
-abbrev pub Answering : Type 0 → Type 1
-Answering J = J → J → Mutator → Result Counts Flaw → Type 0
 
 -- what was judged after a line was judged too
 pub inspected_after : {J : Type 0} {Judged : Answering J} {before : Inspection J} (collected : Bool) (main : Mutator)
@@ -132,6 +129,7 @@ pub record IsInspected {J : Type 0} (Judged : Answering J) (before later : Inspe
   pub found : Option Flaw
   pub inspected : HasInspected Judged before later found
   pub paused : PausesFound counted script heap waiting finished old new fo fn found
+  pub ends : PauseIsJudged Judged before later heap.main paused
 
 module _ {J : Type 0} (Judged : Answering J) (regions : J → Space) (before : Inspection J) (script : ScriptText)
     (heap after : HeapState) (waiting : List ℕ) (line n : ℕ) (old new : List ℕ → Type 0) (fo fn : ℕ) where
@@ -141,6 +139,24 @@ module _ {J : Type 0} (Judged : Answering J) (regions : J → Space) (before : I
       IsInspected Judged before later (counts_at_end (plan_of regions mid)) script after waiting
       (finished_by came line n) old new fo fn
 
+  -- what is left was judged last of all, and so were the counts of what can be reached
+  end_judged : (judge next : J) (counts : Counts) (graph : Graph) (collections : Collections)
+      → HasInspected Judged before (Checks judge) None → Judged judge next after.main (Ok counts)
+      → HasCounts graph counts → collections ≡ finally_collected
+      → JudgesEnd Judged before (Checks next) after.main graph collections
+  end_judged judge next counts graph collections begun judged has is =
+      let (first, from) = judged_first (Checks judge) judge refl begun in
+      let last : JudgesLast Judged (Checks first) (Checks next) after.main (Ok counts) = record {
+        judge = judge;
+        next = next;
+        lines = subst (λ one. HasInspected Judged one (Checks judge) None) from begun;
+        is = refl;
+        judged = judged;
+      } in
+      subst (λ one. JudgesEnd Judged one (Checks next) after.main graph collections) (sym from)
+      (subst (λ one. JudgesEnd Judged (Checks first) (Checks next) after.main graph one) (sym is)
+      (counts, has, last))
+
   -- a judge answered at the end of the script
   judged_end : (judge next : J) (later : Inspection J) (came : How) (answer : Result Counts Flaw)
       → HasInspected Judged before (Checks judge) None
@@ -148,20 +164,24 @@ module _ {J : Type 0} (Judged : Answering J) (regions : J → Space) (before : I
       → (e : EndsJudged Judged judge next heap after p.reached.so_far.graph came) → e.answer ≡ answer
       → Inspects (Checks judge) later came
   judged_end judge next later came (Ok counts) begun p kept e is =
+      let judged = subst (Judged judge next after.main) is e.judged in
+      let has = subst (λ (one : Result Counts Flaw). IfOk one (HasCounts p.reached.so_far.graph)) is e.counted in
+      let (paused, collections-is, told) =
+      pauses_counted came p
+      (record {
+        collects = e.collects;
+        shows = e.shows;
+        counts = counts;
+        is = e.is ∙ ap how_judged is;
+        counted = has;
+      }) in
       rw kept
       (record {
         found = None;
-        inspected = HasInspected.one_more judge next after.main None begun
-            (Ok counts, subst (Judged judge next after.main) is e.judged, refl);
-        paused = PausesFound.unflawed
-            (pauses_counted came p
-            (record {
-              collects = e.collects;
-              shows = e.shows;
-              counts = counts;
-              is = e.is ∙ ap how_judged is;
-              counted = subst (λ (one : Result Counts Flaw). IfOk one (HasCounts p.reached.so_far.graph)) is e.counted;
-            }));
+        inspected = HasInspected.one_more judge next after.main None begun (Ok counts, judged, refl);
+        paused = PausesFound.unflawed paused;
+        ends = end_judged judge next counts paused.reached.so_far.graph paused.collections begun judged
+            (subst (λ (one : Told). HasCounts one.graph counts) (sym told) has) collections-is;
       })
   judged_end judge next later came (Err flaw) begun p kept e is =
       let (ends, handed, steady) = p.halts in
@@ -171,6 +191,7 @@ module _ {J : Type 0} (Judged : Answering J) (regions : J → Space) (before : I
         inspected = HasInspected.one_more judge next after.main (Some flaw) begun
             (Err flaw, subst (Judged judge next after.main) is e.judged, refl);
         paused = PausesFound.flawed flaw p.reached.so_far.graph (e.is ∙ ap how_judged is) e.shows steady;
+        ends = tt;
       })
 
   -- the run came to the end of its script
@@ -178,9 +199,26 @@ module _ {J : Type 0} (Judged : Answering J) (regions : J → Space) (before : I
       → (p : Pauses false script heap waiting (finished_by ways.End line n) old new fo fn)
       → InspectsEnd Judged mid later heap after p.reached.so_far.graph ways.End came → Inspects mid later came
   inspected_end Nothing later came begun p (kept, is, same) =
-      rw (kept, is, same) (record { found = None; inspected = begun; paused = PausesFound.unflawed p })
+      rw (kept, is, same)
+      (record {
+        found = None;
+        inspected = begun;
+        paused = PausesFound.unflawed p;
+        ends = not_final Judged before Nothing heap.main p.reached.so_far.graph p.collections
+            (halts_not_final script (stage_of heap.main) p.collections waiting (finished_by ways.End line n)
+            p.reached.so_far old new fo fn ways.End p.halts);
+      })
   inspected_end ByCensus later came begun p (kept, counted) =
-      rw kept (record { found = None; inspected = begun; paused = PausesFound.unflawed (pauses_counted came p counted) })
+      let (paused, collections-is, told) = pauses_counted came p counted in
+      rw kept
+      (record {
+        found = None;
+        inspected = begun;
+        paused = PausesFound.unflawed paused;
+        ends = subst
+            (λ one. JudgesEnd Judged one ByCensus after.main paused.reached.so_far.graph paused.collections)
+            (sym (census_first ByCensus refl begun)) tt;
+      })
   inspected_end (Checks judge) later came begun p (next, kept, e) =
       judged_end judge next later came e.answer begun p kept e refl
 
@@ -189,11 +227,16 @@ module _ {J : Type 0} (Judged : Answering J) (regions : J → Space) (before : I
       → (p : Pauses false script heap waiting (finished_by how line n) old new fo fn)
       → (later ≡ mid) × (came ≡ how) × (after ≡ heap) → Inspects mid later came
   inspected_else mid later how came other begun p (kept, is, same) =
+      let (paused, collections-is) =
+      pauses_alike (counts_at_end (plan_of regions mid)) how came other p (is, same) in
       rw kept
       (record {
         found = None;
         inspected = begun;
-        paused = PausesFound.unflawed (pauses_alike (counts_at_end (plan_of regions mid)) how came other p (is, same));
+        paused = PausesFound.unflawed paused;
+        ends = not_final Judged before mid after.main paused.reached.so_far.graph paused.collections
+            (λ final. halts_not_final script (stage_of heap.main) p.collections waiting (finished_by how line n)
+            p.reached.so_far old new fo fn how p.halts (sym collections-is ∙ final));
       })
 
   -- so it is wherever it came to, if no flaw was found before
@@ -227,40 +270,5 @@ module _ {J : Type 0} (Judged : Answering J) (regions : J → Space) (before : I
         inspected = begun;
         paused = PausesFound.flawed flaw graph (was ∙ is) (subst (λ one. HeapShows one graph) (sym same) shown)
             steady;
+        ends = tt;
       })
-
-module _ (counted : Bool) (script : ScriptText) (heap : HeapState) (waiting : List ℕ) where
-  -- the sink failed between two lines
-  pub found_cut : {found : Option Flaw} (how : How) (line n need : ℕ) (old new : List ℕ → Type 0) (fo fn : ℕ) → how ≡ ways.SinkFault need
-      → PausesFound counted script heap waiting (finished_by how line n) old new fo fn found
-      → FinishesFound counted script (stage_of heap.main) (finished_by how line n) old new fo fn found
-  found_cut how line n need old new fo fn is (PausesFound.unflawed p) =
-      FinishesFound.unflawed (Finishes-cut counted script heap waiting how line n need old new fo fn is p)
-  found_cut how line n need old new fo fn is (PausesFound.flawed flaw graph other shown steady) =
-      FinishesFound.flawed flaw other steady
-
-  -- what waited was written
-  pub found_written : {found : Option Flaw} (how : How) (line n : ℕ) (old mid new : List ℕ → Type 0) (fo fm last : ℕ)
-      → ((need : ℕ) → how ≡ ways.SinkFault need → ⊥)
-      → PausesFound counted script heap waiting (finished_by how line n) old mid fo fm found
-      → Appends mid new waiting → last ≡ fm
-      → FinishesFound counted script (stage_of heap.main) (finished_by how line n) old new fo last found
-  found_written how line n old mid new fo fm last other (PausesFound.unflawed p) wrote same =
-      FinishesFound.unflawed
-      (Finishes-written counted script heap waiting how line n old mid new fo fm last other p wrote same)
-  found_written how line n old mid new fo fm last other (PausesFound.flawed flaw graph is shown steady) wrote same =
-      FinishesFound.flawed flaw is (same ∙ steady)
-
-  -- writing what waited failed
-  pub found_failed : {found : Option Flaw} (how : How) (line n : ℕ) (old mid new : List ℕ → Type 0) (fo fm last : ℕ)
-      → ((need : ℕ) → how ≡ ways.SinkFault need → ⊥)
-      → PausesFound counted script heap waiting (finished_by how line n) old mid fo fm found
-      → CutsOff mid new waiting → Rose fm last
-      → FinishesFound counted script (stage_of heap.main) (finished_by (ways.SinkFault (need_at how)) line n) old new
-      fo last found
-  found_failed how line n old mid new fo fm last other (PausesFound.unflawed p) wrote rose =
-      FinishesFound.unflawed
-      (Finishes-failed counted script heap waiting how line n old mid new fo fm last other p wrote rose)
-  found_failed how line n old mid new fo fm last other (PausesFound.flawed flaw graph is shown steady) wrote rose =
-      FinishesFound.cut flaw (ap (λ (one : How). ways.SinkFault (need_at one)) is)
-      (subst (λ before. Rose before last) steady rose)

@@ -19,8 +19,9 @@ use Rattle.collector.specs.States.{HeapState}
 use Rattle.heap_script.specs.declared.inspecting.Inspection.{Inspection}
 use Rattle.heap_script.specs.declared.inspecting.Inspection.TheVariants.{Nothing, Counts as ByCensus, Checks}
 use Rattle.heap_script.specs.declared.finished.Finished.{Finished}
-use Rattle.heap_script.specs.Found.{FinishesFound}
-use Rattle.heap_script.specs.Inspecting.{HasInspected, counts_at_end, plan_of}
+use Rattle.write_barrier.specs.MutatorState.{Mutator}
+use Rattle.heap_script.specs.Found.{FinishesFound, EndIsJudged}
+use Rattle.heap_script.specs.Inspecting.{HasInspected, JudgesEnd, counts_at_end, plan_of}
 use Rattle.heap_script.specs.Inspectors.{same_space, ChecksImage}
 use Rattle.heap_script.specs.Stages.{Stage}
 use Rattle.heap_script.specs.Runs.{HasCounts, Finishes}
@@ -53,13 +54,18 @@ no_flaw : {before later : Inspection Space} {flaw : Flaw} → HasInspected Check
 no_flaw (HasInspected.one_more mid new main found begun (Ok counts, judged, is)) = cc
 no_flaw (HasInspected.one_more mid new main found begun (Err flaw, judged, is)) = judged.no_flaw
 
--- so the run finishes as it would with none
-pub finishes_unflawed : (found : Option Flaw) (before later : Inspection Space) {script : ScriptText} {stage : Stage}
-    {finished : Finished} {old new : List ℕ → Type 0} {fo fn : ℕ} → HasInspected ChecksImage before later found
-    → FinishesFound (counts_at_end (plan_of same_space before)) script stage finished old new fo fn found
-    → Finishes (counts_at_end before) script stage finished old new fo fn
-finishes_unflawed None before later {script} {stage} {finished} {old} {new} {fo} {fn} inspected
-    (FinishesFound.unflawed finishes) =
-    subst (λ (one : Inspection Space). Finishes (counts_at_end one) script stage finished old new fo fn)
-    (same_plan before) finishes
-finishes_unflawed (Some flaw) before later inspected finishes = absurd (no_flaw inspected)
+-- so the run finishes as it would with none, and what it left at the end of its script was judged, if it is to be
+pub finishes_unflawed : (found : Option Flaw) (before later : Inspection Space) (main : Mutator) {script : ScriptText}
+    {stage : Stage} {finished : Finished} {old new : List ℕ → Type 0} {fo fn : ℕ}
+    → HasInspected ChecksImage before later found
+    → (told : FinishesFound (counts_at_end (plan_of same_space before)) script stage finished old new fo fn found)
+    → EndIsJudged ChecksImage before later main told
+    → (finishes : Finishes (counts_at_end before) script stage finished old new fo fn)
+    × JudgesEnd ChecksImage before later main finishes.reached.so_far.graph finishes.collections
+finishes_unflawed None before later main {script} {stage} {finished} {old} {new} {fo} {fn} inspected
+    (FinishesFound.unflawed finishes) judged =
+    subst
+    (λ (one : Inspection Space). (finishes : Finishes (counts_at_end one) script stage finished old new fo fn)
+    × JudgesEnd ChecksImage before later main finishes.reached.so_far.graph finishes.collections)
+    (same_plan before) (finishes, judged)
+finishes_unflawed (Some flaw) before later main inspected told judged = absurd (no_flaw inspected)

@@ -115,10 +115,11 @@ halts_alike counted script stage collections waiting finished so_far old new fo 
 
 module _ {script : ScriptText} {heap after : HeapState} {waiting : List ℕ} {line n : ℕ} {old new : List ℕ → Type 0}
     {fo fn : ℕ} where
-  -- it pauses as it did
+  -- it pauses as it did, behind the same collections
   pub pauses_alike : (counted : Bool) (how came : How) → how ≢ ways.End
-      → Pauses false script heap waiting (finished_by how line n) old new fo fn → (came ≡ how) × (after ≡ heap)
-      → Pauses counted script after waiting (finished_by came line n) old new fo fn
+      → (p : Pauses false script heap waiting (finished_by how line n) old new fo fn) → (came ≡ how) × (after ≡ heap)
+      → (paused : Pauses counted script after waiting (finished_by came line n) old new fo fn)
+      × (paused.collections ≡ p.collections)
   pauses_alike counted how came other p (is, same) =
       let here : Pauses counted script heap waiting (finished_by how line n) old new fo fn = record {
         reached = p.reached;
@@ -129,13 +130,18 @@ module _ {script : ScriptText} {heap after : HeapState} {waiting : List ℕ} {li
         halts = halts_alike counted script (stage_of heap.main) p.collections waiting (finished_by how line n)
             p.reached.so_far old new fo fn how other p.halts;
       } in
-      subst (λ one. Pauses counted script one waiting (finished_by came line n) old new fo fn) (sym same)
-      (subst (λ one. Pauses counted script heap waiting (finished_by one line n) old new fo fn) (sym is) here)
+      subst
+      (λ one. (paused : Pauses counted script one waiting (finished_by came line n) old new fo fn)
+      × (paused.collections ≡ p.collections)) (sym same)
+      (subst
+      (λ one. (paused : Pauses counted script heap waiting (finished_by one line n) old new fo fn)
+      × (paused.collections ≡ p.collections)) (sym is) (here, refl))
 
-  -- at the end of a script that is counted the heap was fully collected and counted
+  -- At the end of a script that is counted the heap was fully collected and counted. The lines told the same.
   pub pauses_counted : (came : How) → (p : Pauses false script heap waiting (finished_by ways.End line n) old new fo fn)
       → EndsCounted heap after p.reached.so_far.graph came
-      → Pauses true script after waiting (finished_by came line n) old new fo fn
+      → (paused : Pauses true script after waiting (finished_by came line n) old new fo fn)
+      × (paused.collections ≡ finally_collected) × (paused.reached.so_far ≡ p.reached.so_far)
   pauses_counted came p e =
       let ((none, zero, before, ends), handed, steady) = p.halts in
       let reached : RanTo script (heap_of after.main) n = record {
@@ -146,13 +152,18 @@ module _ {script : ScriptText} {heap after : HeapState} {waiting : List ℕ} {li
         said = p.reached.said;
         shown = e.collects.shows.shows;
       } in
-      subst (λ one. Pauses true script after waiting (finished_by one line n) old new fo fn) (sym e.is)
-      (record {
+      let paused : Pauses true script after waiting (finished_by (ways.Counted e.counts) line n) old new fo fn =
+      record {
         reached = reached;
         collections = finally_collected;
         opened = p.opened;
         spends = Spends.finally (stage_of heap.main) (stage_of after.main) n p.opened
-            (subst (λ one. Spends script (stage_of heap.main) n one p.opened) before p.spends) p.reached ends reached e.collects.leaves;
+            (subst (λ one. Spends script (stage_of heap.main) n one p.opened) before p.spends) p.reached ends reached
+            e.collects.leaves;
         shown = e.shows;
         halts = ((refl, zero, refl, ends, e.counted), handed, steady);
-      })
+      } in
+      subst
+      (λ one. (paused : Pauses true script after waiting (finished_by one line n) old new fo fn)
+      × (paused.collections ≡ finally_collected) × (paused.reached.so_far ≡ p.reached.so_far)) (sym e.is)
+      (paused, refl, refl)

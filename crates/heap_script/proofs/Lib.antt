@@ -7,6 +7,7 @@ mod Asking
 mod Retrying
 mod FullMaps
 mod Stopping
+mod Noted
 mod GrantedOthers
 mod Serving
 pub mod Handing
@@ -26,4 +27,6 @@ mod Ending
 mod Finishing
 mod Judging
 pub mod Judged
+mod FinalJudgements
 mod Inspected
+mod FoundEnds

@@ -28,7 +28,7 @@ use Rattle.heap_script.specs.Progress.{objects_made, made_by, CarriesLine}
 use Rattle.heap_script.proofs.Carrying.{unfull_behind}
 use Rattle.heap_script.proofs.Asking.{rest_stays}
 use Rattle.heap_script.proofs.Retrying.{fully_collects}
-use Rattle.heap_script.proofs.Serving.{Served, served, allocated}
+use Rattle.heap_script.proofs.Serving.{Served, Takes, served, allocated}
 use Rattle.heap_script.specs.Between.{Running}
 use Rattle.heap_script.proofs.Running.{Running-passed, Running-carried, Running-noted, next-drop, said-next}
 use Rattle.heap_script.proofs.StayingLost.{none_began, one_began}
@@ -46,7 +46,9 @@ Running-served : (script : ScriptText) (heap after : HeapState) (found : Mutator
     → Running script after (objects + objects_made command) (waiting ++ text) old new at' ts' (n + 1) uncollected
 Running-served script heap after found objects waiting old new at at' ts ts' n number command text r below goes rest
     apart served_so unfull carried =
-    let done = allocated command r.shown.main r.ungranted served_so unfull carried.takes in
+    let takes : Takes found after.main r.reached.so_far.graph carried.after command =
+    record { room = carried.takes; cells = carried.cells; free = carried.shows.free } in
+    let done = allocated command r.shown.main r.ungranted served_so unfull takes in
     Running-carried script heap after objects waiting old new at at' ts ts' n number command text carried.after r below
     goes (rest ∙ sym (rest_stays heap.rest command apart)) done.allocates.space carried.means carried.shows
     (LineAllocates.allocates command apart done.allocates) done.ungranted

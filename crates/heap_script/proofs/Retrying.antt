@@ -18,8 +18,7 @@ use Rattle.collector.specs.Making.{IsOutOfRoom, Serves, MakesRoom}
 use Rattle.collector.specs.States.{HeapState, HeapShows}
 use Rattle.heap_script.specs.declared.making_room.Attempt.{Attempt}
 use Rattle.heap_script.specs.declared.making_room.Attempt.TheVariants.{Once, Scavenged, Collected, Granted}
-use Rattle.heap_script.specs.Collecting.{IsApart, IsSound, LacksWords, FindsPairs, CollectsFully, Collects, Tries}
-use Rattle.heap_script.specs.Collecting.{IsCarriedOut}
+use Rattle.heap_script.specs.Collecting.{IsApart, IsSound, LacksWords, FindsPairs, CollectsFully}
 use Rattle.mutator.specs.CarriesOut.{Carries}
 use Rattle.heap_script.proofs.Carrying.{never_faults, pairs_fault}
 use Rattle.heap_script.proofs.Lacking.{full_for}
@@ -140,25 +139,3 @@ nowhere {main = main} {need = need} runs some collects out =
     let leaves = collects.leaves in
     runs (heap_of main) main.free need some leaves.apart leaves.dead out.runs
     (full_for main need collects.shows.tied out.ungranted out.lacks)
-
--- what a command finds of the heap, by what was done for it
-found_at : {names : List (List ℕ)} {old now : Mutator} {graph : Graph} {command : Command} {tried : Attempt}
-    → Stands names old now graph command tried → Collects names old now graph command
-found_at (Stands.once same) = Collects.unchanged same
-found_at (Stands.scavenged need apart sound lacks makes room keeps) = Collects.scavenged need sound lacks makes
-found_at (Stands.collected apart fully) = Collects.collected fully
-found_at (Stands.granted last need apart sound fully lacks serves room keeps) =
-    Collects.granted last need fully lacks serves
-
--- a command that was carried out at whichever try was carried out on what it found
-pub carried_at : {names : List (List ℕ)} {old new : Mutator} {now : HeapState} {graph : Graph} {command : Command}
-    {text : List ℕ} {tried : Attempt} → Stands names old now.main graph command tried → HeapShows now graph
-    → Tries names now.main new graph command text (Ok tt) → IsCarriedOut names old new graph command text
-carried_at {now = now} stands shows tries = record {
-  found = now.main;
-  apart = tries.apart;
-  collects = found_at stands;
-  shows = shows.main;
-  unfull = tries.asks;
-  carries = tries.carries;
-}

@@ -1,9 +1,10 @@
 -- A command that finds words of a page granted where eden has not the words that it needs: what it spends.
 use Rattle.std.proofs.Common.{◌≡◌, ◌≢◌, ◌∙◌, ◌↔◌, ℕ, ◌+◌, Bool, true, false, List, length, ◌==◌, if◌then◌else◌}
-use Rattle.std.proofs.Common.{refl, sym, ap, subst, arith}
+use Rattle.std.proofs.Common.{refl, sym, ap, subst, arith, inl, inr}
 use Rattle.std.proofs.lemmas.Bool.Decides.{nat_tests}
 use Rattle.heap_model.specs.Types.{Command, Run}
 use Rattle.object_graph.specs.Graphs.{Graph}
+use Rattle.heap_model.specs.Collectable.{AreFreeRuns}
 use Rattle.heap_model.specs.Heaps.{Heap}
 use Rattle.heap_model.specs.Slots.{IsPlace}
 use Rattle.heap_model.specs.Needs.{capacity_at}
@@ -22,6 +23,7 @@ use Rattle.collector.specs.Making.{Serves}
 use Rattle.collector.proofs.MadeRoom.{served_rows}
 use Rattle.mutator.specs.Capacities.{KeepsStores}
 use Rattle.mutator.specs.CarriesOut.{TakesRoom, FindsMapNotFull}
+use Rattle.mutator.specs.Changing.{MayStandAfter, MakesNoOtherCell}
 use Rattle.heap_script.specs.Collecting.{LacksWords}
 use Rattle.heap_script.specs.Spending.{UsesNeed, Allocates}
 use Rattle.heap_script.specs.Stages.{Collections, uncollected, SpendsWords, IsCutWord, stage_of}
@@ -53,10 +55,12 @@ pub record HasAllocated (old new : Mutator) (graph after : Graph) (collections :
   pub ungranted : in_eden new.young ≡ true
   pub rows : length new.free ≡ length old.free
 
--- what a command that is carried out takes of the heap that it finds
-abbrev pub Takes : Mutator → Mutator → Graph → Graph → Command → Type 0
-Takes old new graph after command =
-    (rooms : ℕ → Room) → HasRooms (heap_of old) graph rooms → TakesRoom old new graph after command rooms
+-- What a command that is carried out takes of the heap that it finds, and leaves: which cells stand, and that free runs
+-- are free cells.
+pub record Takes (old new : Mutator) (graph after : Graph) (command : Command) : Type 0 where
+  pub room : (rooms : ℕ → Room) → HasRooms (heap_of old) graph rooms → TakesRoom old new graph after command rooms
+  pub cells : MakesNoOtherCell (heap_of old) (heap_of new) after
+  pub free : AreFreeRuns (heap_of new) new.free
 
 -- where cells are made in eden, the next one is made behind its used words
 next_in_eden : (main : Mutator) → IsTied main → in_eden main.young ≡ true
@@ -83,15 +87,17 @@ allocated_in_eden : {old new : Mutator} {graph after : Graph} {collections : Col
     → Takes old new graph after command → HasAllocated old new graph after collections command
 allocated_in_eden {old} {new} {graph} command shows ungranted unfull takes =
     let (some, had) = shown_objects_have_rooms (heap_of old) graph shows.shows in
-    let one = takes some had in
+    let one = takes.room some had in
     let next = next_in_eden old shows.tied ungranted in
     record {
       allocates = record {
         space = one.uses.beside.space;
         survivors = ap (λ (young : Young). young.survivors) one.uses.young;
+        free = takes.free;
+        cells = takes.cells;
         unfull = λ (entries, finds). unfull entries finds;
         uses = λ rooms has.
-            let taken = takes rooms has in
+            let taken = takes.room rooms has in
             let need = need_of graph rooms command in
             record {
               spends = SpendsWords.of_eden (not_lacking old need shows.tied ungranted taken.room)
@@ -150,7 +156,7 @@ module _ {old found new : Mutator} {graph after : Graph} {collections : Collecti
     (keeps : KeepsGraphs old found) (takes : Takes found new graph after command) where
   -- a command that finds granted words takes them, by the rooms that objects had before
   takes_by : (rooms : ℕ → Room) → HasRooms (heap_of old) graph rooms → TakesRoom found new graph after command rooms
-  takes_by rooms has = takes rooms ((keeps.rooms graph rooms shows).0 has)
+  takes_by rooms has = takes.room rooms ((keeps.rooms graph rooms shows).0 has)
 
   -- the front of the run was taken
   front_taken : (rooms : ℕ → Room) → HasRooms (heap_of old) graph rooms
@@ -186,6 +192,18 @@ module _ {old found new : Mutator} {graph after : Graph} {collections : Collecti
         stores = stores_before (grants_keep_stores old found graph need shows grants) taken.stores;
       }
 
+  -- no cell stands but those that stood before the grant, and those that may
+  cells_before : MakesNoOtherCell (heap_of old) (heap_of new) after
+  cells_before cell words has = elim (takes.cells cell words has) [
+    | MayStandAfter.stood stood ↦ elim (grants.back cell words stood) [
+      | inl before ↦ MayStandAfter.stood before.0
+      | inr free ↦ MayStandAfter.free free
+    ]
+    | MayStandAfter.free free ↦ MayStandAfter.free free
+    | MayStandAfter.boxed boxed ↦ MayStandAfter.boxed boxed
+    | MayStandAfter.reached reached ↦ MayStandAfter.reached reached
+  ]
+
   -- so the grant and the command together allocate on the heap
   allocated_in_page : HasAllocated old new graph after collections command
   allocated_in_page =
@@ -198,6 +216,8 @@ module _ {old found new : Mutator} {graph after : Graph} {collections : Collecti
           space = taken.uses.beside.space ∙ grants.beside.space;
           survivors = ap (λ (young : Young). young.survivors) taken.uses.young
               ∙ ap (λ (young : Young). young.survivors) grants.young;
+          free = takes.free;
+          cells = cells_before;
           unfull = λ (entries, finds). lacks.unfull entries finds;
           uses = uses_run;
         };

@@ -24,7 +24,7 @@ use Rattle.heap_script.proofs.Retrying.{Stands, IsReady, fully_collects, fully_f
 use Rattle.heap_script.proofs.Retrying.{pairs_are_full, nowhere}
 
 -- a command that stopped for want of room is no fault, and lacks the words
-sound_lacking : (names : List (List ℕ)) (main after : Mutator) (graph : Graph) (command : Command) (text : List ℕ)
+pub sound_lacking : (names : List (List ℕ)) (main after : Mutator) (graph : Graph) (command : Command) (text : List ℕ)
     (need : ℕ) → Carries names main after graph command text (Err (NoRoom need))
     → AsksWhereFull main graph command (Err (NoRoom need))
     → IsSound names graph command × LacksWords main graph command need
@@ -41,7 +41,7 @@ unfull_once {entries = entries} shows (Stands.scavenged need none sound lacks ma
     absurd (unfull_behind keeps shows lacks.unfull entries finds)
 
 -- where something was done, something was
-nothing_done : {A : Type 0} {old new : HeapState} {next : Attempt} → DoesNothing old new (Some next) → A
+pub nothing_done : {A : Type 0} {old new : HeapState} {next : Attempt} → DoesNothing old new (Some next) → A
 nothing_done (none, same) = absurd (cc)
 
 module _ (names : List (List ℕ)) (old now made : HeapState) (after : Mutator) (graph : Graph) (command : Command)

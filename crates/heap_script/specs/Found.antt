@@ -1,15 +1,19 @@
 -- What becomes of a run whose judge answered with a flaw, or with none.
-use Rattle.std.specs.Prelude.{◌≡◌, ℕ, Bool, List, Option, Some, None}
+use Rattle.std.specs.Prelude.{◌≡◌, ℕ, Bool, List, Option, Some, None, Result}
 use Rattle.object_graph.specs.Graphs.{Graph}
 use Rattle.script_text.specs.Scripts.{ScriptText}
 use Rattle.byte_ends.specs.Faults.{Rose}
 use Rattle.collector.specs.States.{HeapState, HeapShows}
+use Rattle.write_barrier.specs.MutatorState.{Mutator}
+use Rattle.heap_check.specs.declared.counts.Counts.{Counts}
 use Rattle.heap_check.specs.declared.flaw.Flaw.{Flaw}
+use Rattle.heap_script.specs.declared.inspecting.Inspection.{Inspection}
 use Rattle.heap_script.specs.declared.finished.How.TheVariants.{Flawed, SinkFault}
 use Rattle.heap_script.specs.declared.finished.Finished.{Finished}
 use Rattle.heap_script.specs.Stages.{Stage}
 use Rattle.heap_script.specs.Runs.{Finishes}
 use Rattle.heap_script.specs.Progress.{Pauses}
+use Rattle.heap_script.specs.Inspecting.{JudgesEnd}
 
 -- Before its last bytes are handed on: a run whose judge answered with a flaw comes to that, and the sink did not fail;
 -- any other run pauses.
@@ -31,3 +35,13 @@ pub data FinishesFound (counted : Bool) (script : ScriptText) (stage : Stage) (f
       → FinishesFound counted script stage finished old new faults_old faults_new (Some flaw)
   cut : (flaw : Flaw) → finished.how ≡ SinkFault 0 → Rose faults_old faults_new
       → FinishesFound counted script stage finished old new faults_old faults_new (Some flaw)
+
+-- Of a run that finished so and found no flaw: what it left at the end of its script was judged, if it has a judge.
+abbrev pub EndIsJudged : {J : Type 0} → (J → J → Mutator → Result Counts Flaw → Type 0) → Inspection J → Inspection J
+    → Mutator → {counted : Bool} {script : ScriptText} {stage : Stage} {finished : Finished}
+    {old new : List ℕ → Type 0} {faults_old faults_new : ℕ} {found : Option Flaw}
+    → FinishesFound counted script stage finished old new faults_old faults_new found → Type 0
+EndIsJudged Judged before later main (FinishesFound.unflawed finishes) =
+    JudgesEnd Judged before later main finishes.reached.so_far.graph finishes.collections
+EndIsJudged Judged before later main (FinishesFound.flawed flaw is steady) = Unit {0}
+EndIsJudged Judged before later main (FinishesFound.cut flaw is rose) = Unit {0}

@@ -13,6 +13,7 @@ use Rattle.heap_script.specs.declared.inspecting.Inspection.TheVariants.{Nothing
 use Rattle.heap_script.specs.declared.finished.How.{How}
 use Rattle.heap_script.specs.declared.finished.How.TheVariants.{End, Counted, Flawed}
 use Rattle.heap_script.specs.Runs.{HasCounts}
+use Rattle.heap_script.specs.Stages.{Collections}
 
 -- the run is to count its heap at the end
 abbrev pub counts_at_end : Inspection Space → Bool
@@ -92,3 +93,20 @@ InspectsEnd Judged ByCensus later old new graph End came = (later ≡ ByCensus) 
 InspectsEnd {J} Judged (Checks judge) later old new graph End came =
     (next : J) × (later ≡ Checks next) × EndsJudged Judged judge next old new graph came
 InspectsEnd Judged inspection later old new graph how came = (later ≡ inspection) × (came ≡ how) × (new ≡ old)
+
+-- The judge judged this heap last of all, and answered this. It had found no flaw before.
+pub record JudgesLast {J : Type 0} (Judged : J → J → Mutator → Result Counts Flaw → Type 0)
+    (before later : Inspection J) (main : Mutator) (answer : Result Counts Flaw) : Type 0 where
+  pub judge : J
+  pub next : J
+  pub lines : HasInspected Judged before (Checks judge) None
+  pub is : later ≡ Checks next
+  pub judged : Judged judge next main answer
+
+-- Where a run that has a judge collected its heap at the end of its script, the judge judged what is left, last of all,
+-- and answered with the counts of what can be reached.
+abbrev pub JudgesEnd : {J : Type 0} → (J → J → Mutator → Result Counts Flaw → Type 0) → Inspection J → Inspection J
+    → Mutator → Graph → Collections → Type 0
+JudgesEnd {J} Judged (Checks judge) later main graph Collections.finally_collected =
+    (counts : Counts) × HasCounts graph counts × JudgesLast Judged (Checks judge) later main (Ok counts)
+JudgesEnd Judged before later main graph collections = Unit {0}

@@ -10,6 +10,7 @@ pub mod Collecting
 pub mod Executing
 pub mod MakingRoom
 pub mod Progress
+pub mod Noting
 pub mod Between
 pub use Rattle.mutator.specs.declared.output.TheConstants
 pub mod Found

@@ -1,5 +1,5 @@
 -- What is done for a command that stopped, so that it is tried again.
-use Rattle.std.specs.Prelude.{◌≡◌, ◌≢◌, ℕ, ◌≤◌, Option, Some, None, false}
+use Rattle.std.specs.Prelude.{◌≡◌, ◌≢◌, ℕ, ◌≤◌, Bool, Option, Some, None, true, false}
 use Rattle.tagged_word.specs.Cells.{cell_words_most}
 use Rattle.object_graph.specs.Graphs.{Graph}
 use Rattle.nursery.specs.Young.{HasRoom}
@@ -70,3 +70,8 @@ abbrev pub MakesRoomFor : HeapState → HeapState → Attempt → Stop → Optio
 MakesRoomFor old new tried (Fault word) next = DoesNothing old new next
 MakesRoomFor old new tried (NoRoom need) next = FindsRoom old new need tried next
 MakesRoomFor old new tried (NoClear entries) next = ClearsPairs old new tried next
+
+-- what the heap notes of full collections after this was done for a command, by what it noted before
+abbrev pub noted_by : Bool → Option Attempt → Bool
+noted_by noted (Some Collected) = true
+noted_by noted _ = noted

@@ -21,7 +21,7 @@ use Rattle.collector.specs.Collected.{LeavesExact}
 use Rattle.scavenger.specs.Backs.{AreBacks}
 use Rattle.scavenger.specs.Laws.{KeepsPlaces, TakesWords, PromotesWhatFits, PromotesNoOther}
 use Rattle.mutator.specs.Capacities.{KeepsStores}
-use Rattle.mutator.specs.Changing.{IsChangedWord}
+use Rattle.mutator.specs.Changing.{IsChangedWord, MakesNoOtherCell}
 use Rattle.heap_script.specs.Cycles.{asks_collector, opened_after, AsksForAll, CollectsNothing}
 use Rattle.heap_script.specs.Stages.{Stage, Collections, uncollected, scavenged, fully_collected, finally_collected}
 use Rattle.heap_script.specs.Stages.{SpendsWords, IsSpentWord}
@@ -44,12 +44,15 @@ FindsMapFullFor heap graph (Some command) =
     (entries : ℕ) × ((rooms : ℕ → Room) → HasRooms heap graph rooms → FindsMapFull graph rooms command entries)
 
 -- A command that leads from one graph to another allocates on the heap, behind these collections. It does not find its
--- weak map full of pairs. The regions stay, and no survivor comes or goes. It spends the words that it needs. Before the
--- roots it writes those, and words of the object that it may change, alone.
+-- weak map full of pairs. The regions stay, and no survivor comes or goes. Each free run that is left is one free cell.
+-- It spends the words that it needs. Before the roots it writes no others but words of the object that it may change.
+-- No cell with slots stands behind it but those that stood, and those of objects that can be reached then.
 pub record Allocates (old new : Stage) (graph after : Graph) (collections : Collections) (command : Command)
     : Type 0 where
   pub space : new.heap.space ≡ old.heap.space
   pub survivors : new.heap.survivors ≡ old.heap.survivors
+  pub free : AreFreeRuns new.heap new.rows
+  pub cells : MakesNoOtherCell old.heap new.heap after
   pub unfull : FindsMapFullFor old.heap graph (Some command) → ⊥
   pub uses : (rooms : ℕ → Room) → HasRooms old.heap graph rooms
       → UsesNeed old new graph after collections command rooms

@@ -1,11 +1,11 @@
 //! Commands of the collector: those that ask for a collection, or open or end a cycle of marking.
-ghost use Rattle.std.specs.Prelude.{◌≡◌, ◌+◌, ◌≤◌, ◌++◌, ℕ, List, length, IsTrue, true, false};
+ghost use Rattle.std.specs.Prelude.{◌≡◌, ◌+◌, ◌≤◌, ◌++◌, ◌||◌, ℕ, List, length, IsTrue, true, false};
 ghost use Rattle.object_graph.specs.Graphs.{Graph};
 ghost use Rattle.object_graph.specs.Reach.{reached_objects, reached_entries};
 ghost use Rattle.object_graph.specs.Texts.{line, census_text};
 ghost use Rattle.collector.specs.Collected.{CollectsAll};
 ghost use Rattle.collector.specs.States.{HeapShows, with_cycle};
-ghost use Rattle.heap_script.specs.Collecting.{CarriesAsked};
+ghost use Rattle.heap_script.specs.Noting.{NotesAsked};
 ghost use Rattle.heap_script.specs.Cycles.{asks_collector, cycle_after_command};
 
 use collector::Heap;
@@ -31,7 +31,7 @@ pub(crate) fn collect_as_asked(heap: &mut Heap, command: &Command, out: &mut Out
     requires shown { (graph : Graph) × HeapShows heap.old graph }
     requires room { length out.old + ROOM ≤ OUTPUT_BYTES }
     ensures carried { (names : List (List ℕ)) (graph : Graph) → HeapShows heap.old graph → (text : List ℕ)
-        × CarriesAsked names heap.old.rest.in_cycle heap.old.main heap.new.main graph command.now text
+        × NotesAsked names heap.old heap.new graph command.now text
         × (out.new ≡ out.old ++ text) }
     ensures rest { heap.new.rest ≡ with_cycle heap.old.rest (cycle_after_command heap.old.rest.in_cycle command.now) }
 {
@@ -52,6 +52,7 @@ fn finish(heap: &mut Heap)
     ensures collected { heap.old.rest.in_cycle ≡ true → (graph : Graph) → HeapShows heap.old graph →
         CollectsAll heap.old.main heap.new.main graph }
     ensures rest { heap.new.rest ≡ with_cycle heap.old.rest false }
+    ensures noted { heap.new.collected ≡ (heap.old.rest.in_cycle || heap.old.collected) }
 {
     if heap.in_cycle() {
         heap.end_cycle();
@@ -67,6 +68,7 @@ fn tell_census(heap: &mut Heap, out: &mut Output)
     ensures told { (graph : Graph) → HeapShows heap.old graph →
         out.new ≡ out.old ++ line (census_text (reached_objects graph) (reached_entries graph)) }
     ensures rest { heap.new.rest ≡ with_cycle heap.old.rest false }
+    ensures noted { heap.new.collected ≡ true }
 {
     let census = heap.census();
     mutator::put_census(census.objects, census.entries, out);

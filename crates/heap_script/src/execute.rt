@@ -10,11 +10,11 @@ ghost use Rattle.script_text.specs.Limits.{open_most};
 ghost use Rattle.script_text.specs.Sound.{NamesWithin, AreShort};
 ghost use Rattle.mutator.specs.CarriesOut.{field_numbers};
 ghost use Rattle.collector.specs.States.{HeapShows, with_cycle};
-ghost use Rattle.heap_script.specs.Collecting.{Tries, CarriesAtLast};
+ghost use Rattle.heap_script.specs.Collecting.{Tries};
 ghost use Rattle.heap_script.specs.Executing.{objects_after};
 ghost use Rattle.heap_script.specs.Cycles.{asks_collector, cycle_after_line};
-ghost use Rattle.heap_script.specs.Progress.{objects_made, made_by, command_in};
-ghost use Rattle.heap_script.specs.Progress.{CarriesLine, outcome_of};
+ghost use Rattle.heap_script.specs.Progress.{objects_made, made_by, command_in, outcome_of};
+ghost use Rattle.heap_script.specs.Noting.{NotesLine, NotesAtLast};
 ghost use Rattle.heap_script.specs.LoopCounters.{standing_after, IsInside};
 
 use crate::collecting::{asks_collector, collect_as_asked};
@@ -48,8 +48,7 @@ pub(crate) fn execute_line(
     requires deep { length (standing_after at turns.old what.now).turns ≤ open_most }
     ensures carried { (graph : Graph) → HeapShows heap.old graph →
         objects.old ≡ length graph.objects → (text : List ℕ)
-        × CarriesLine script.now.fields heap.old.rest.in_cycle heap.old.main heap.new.main graph (command_in what.now)
-        text (outcome_of result)
+        × NotesLine script.now.fields heap.old heap.new graph (command_in what.now) text (outcome_of result)
         × (out.new ≡ (if is_ok result then out.old ++ text else out.old)) }
     ensures place { IfOk result (λ place. place ≡ (standing_after at turns.old what.now).at) }
     ensures turned { OnOk result (turns.new ≡ (standing_after at turns.old what.now).turns) }
@@ -89,7 +88,7 @@ fn carry_out(
     requires room { length out.old + ROOM ≤ OUTPUT_BYTES }
     ensures carried { (graph : Graph) → HeapShows heap.old graph →
         objects.old ≡ length graph.objects → (text : List ℕ)
-        × CarriesAtLast script.now.fields heap.old.main heap.new.main graph command.now text result
+        × NotesAtLast script.now.fields heap.old heap.new graph command.now text result
         × (out.new ≡ (if is_ok result then out.old ++ text else out.old)) }
     ensures rest { heap.new.rest ≡ heap.old.rest }
     ensures counted { OnOk result (objects.new ≡ objects.old + objects_made command.now) }

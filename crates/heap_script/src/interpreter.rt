@@ -5,13 +5,14 @@ ghost use Rattle.mutator.specs.CarriesOut.{field_numbers};
 ghost use Rattle.write_barrier.specs.MutatorState.{IsOpened};
 ghost use Rattle.collector.specs.States.{HeapShows};
 ghost use Rattle.byte_ends.specs.Faults.{Rose};
+ghost use Rattle.script_text.specs.Limits.{field_names_most};
 ghost use Rattle.script_text.specs.Sound.{AreShort};
 ghost use Rattle.heap_check.specs.declared.flaw.Flaw.{Flaw as Found};
 ghost use Rattle.heap_script.specs.Runs.{CutsOff, FillsOutput, waiting_of, IsCut};
 ghost use Rattle.heap_script.specs.Inspecting.{counts_at_end, plan_of, IsFor, HasInspected, JudgesAfter, how_found};
 ghost use Rattle.heap_script.specs.Stages.{stage_of};
 ghost use Rattle.heap_script.specs.Progress.{Handed, how_of};
-ghost use Rattle.heap_script.specs.Found.{PausesFound, FinishesFound};
+ghost use Rattle.heap_script.specs.Found.{PausesFound, FinishesFound, EndIsJudged};
 
 use crate::execute::execute_line;
 use crate::finished::{Finished, How};
@@ -53,14 +54,15 @@ pub fn run_script<K: Sink, J: Judge, G: Gate, R: Threads + Sync>(
     requires empty { out.old ≡ [] }
     requires for_heap { IsFor heap.old (plan_of J.regions inspection.old) }
     ensures finishes { (found : Option Found) × HasInspected J.Judged inspection.old inspection.new found
-        × FinishesFound (counts_at_end (plan_of J.regions inspection.old)) script.now (stage_of heap.new.main)
-        result (K.HasTaken sink.old) (K.HasTaken sink.new) (K.faults sink.old) (K.faults sink.new) found }
+        × (finishes : FinishesFound (counts_at_end (plan_of J.regions inspection.old)) script.now
+        (stage_of heap.new.main) result (K.HasTaken sink.old) (K.HasTaken sink.new) (K.faults sink.old)
+        (K.faults sink.new) found)
+        × EndIsJudged J.Judged inspection.old inspection.new heap.new.main finishes }
     ensures emptied { ¬ IsCut result.how → out.new ≡ [] }
     ensures shows { (graph : Graph) × HeapShows heap.new graph }
     ensures space { heap.new.main.seat.space ≡ heap.old.main.seat.space }
 {
-    // Tells that the script has at most 4,096 fields, whose names are short.
-    let _fields = script.fields();
+    field_names_fit(script);
     let ran = interpret(heap, script, out, sink, inspection);
     let finished = Finished {
         how: inspect_end(ran.how, heap, inspection),
@@ -76,6 +78,15 @@ pub fn run_script<K: Sink, J: Judge, G: Gate, R: Threads + Sync>(
             },
         },
     }
+}
+
+/// A script has at most 4,096 fields, and their names are short. The call says so, and does nothing else.
+#[inline(always)]
+fn field_names_fit(script: &Script<'_>)
+    ensures few { length script.now.fields ≤ field_names_most }
+    ensures short { AreShort script.now.fields }
+{
+    let _count = script.fields();
 }
 
 /// Executes lines from the first on. What they write waits in the output or was handed to the sink.

@@ -1,12 +1,12 @@
 //! Making room for a command that stopped since there was none, or since its weak map is full of pairs. `carry_out` tries
 //! the command again then.
-ghost use Rattle.std.specs.Prelude.{◌≡◌, ◌≢◌, ◌≤◌};
+ghost use Rattle.std.specs.Prelude.{◌≡◌, ◌≢◌, ◌≤◌, Some, true};
 ghost use Rattle.tagged_word.specs.Cells.{cell_words_most};
 ghost use Rattle.object_graph.specs.Graphs.{Graph};
 ghost use Rattle.collector.specs.States.{HeapShows};
 ghost use Rattle.heap_script.specs.declared.making_room.Attempt.TheVariants.{Scavenged};
 ghost use Rattle.heap_script.specs.MakingRoom.{IsServable, IsClearable, MakesRoomFor, FindsRoom, FindsFirst, FindsLast};
-ghost use Rattle.heap_script.specs.MakingRoom.{ClearsPairs, CollectsNow};
+ghost use Rattle.heap_script.specs.MakingRoom.{ClearsPairs, CollectsNow, noted_by};
 
 use collector::Heap;
 use mutator::Stop;
@@ -34,6 +34,7 @@ pub(crate) fn make_room_for(heap: &mut Heap, stop: Stop, tried: Attempt) -> Opti
     ensures way { MakesRoomFor heap.old heap.new tried stop result }
     ensures shows { (graph : Graph) → HeapShows heap.old graph → HeapShows heap.new graph }
     ensures rest { heap.new.rest ≡ heap.old.rest }
+    ensures noted { heap.new.collected ≡ noted_by heap.old.collected result }
 {
     match stop {
         Stop::Fault(_) => None,
@@ -50,6 +51,7 @@ fn find_room(heap: &mut Heap, need: u32, tried: Attempt) -> Option<Attempt>
     ensures way { FindsRoom heap.old heap.new need tried result }
     ensures shows { (graph : Graph) → HeapShows heap.old graph → HeapShows heap.new graph }
     ensures rest { heap.new.rest ≡ heap.old.rest }
+    ensures noted { heap.new.collected ≡ noted_by heap.old.collected result }
 {
     match tried {
         Attempt::Once => Some(collect_for(heap, need)),
@@ -67,6 +69,7 @@ fn collect_for(heap: &mut Heap, need: u32) -> Attempt
     ensures way { FindsFirst heap.old heap.new need result }
     ensures shows { (graph : Graph) → HeapShows heap.old graph → HeapShows heap.new graph }
     ensures rest { heap.new.rest ≡ heap.old.rest }
+    ensures noted { heap.new.collected ≡ noted_by heap.old.collected (Some result) }
 {
     if heap.make_room(need) {
         return Attempt::Scavenged;
@@ -85,6 +88,7 @@ fn grant(heap: &mut Heap, need: u32) -> Option<Attempt>
     ensures way { FindsLast heap.old heap.new need result }
     ensures shows { (graph : Graph) → HeapShows heap.old graph → HeapShows heap.new graph }
     ensures rest { heap.new.rest ≡ heap.old.rest }
+    ensures noted { heap.new.collected ≡ heap.old.collected }
 {
     if heap.serve(need) {
         Some(Attempt::Granted)
@@ -100,6 +104,7 @@ fn clear_pairs(heap: &mut Heap, tried: Attempt) -> Option<Attempt>
     ensures way { ClearsPairs heap.old heap.new tried result }
     ensures shows { (graph : Graph) → HeapShows heap.old graph → HeapShows heap.new graph }
     ensures rest { heap.new.rest ≡ heap.old.rest }
+    ensures noted { heap.new.collected ≡ noted_by heap.old.collected result }
 {
     match tried {
         Attempt::Once => Some(collect_all(heap)),
@@ -116,6 +121,7 @@ fn collect_all(heap: &mut Heap) -> Attempt
     ensures way { CollectsNow heap.old heap.new result }
     ensures shows { (graph : Graph) → HeapShows heap.old graph → HeapShows heap.new graph }
     ensures rest { heap.new.rest ≡ heap.old.rest }
+    ensures noted { heap.new.collected ≡ true }
 {
     heap.collect_all();
     Attempt::Collected

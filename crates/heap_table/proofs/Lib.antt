@@ -1,5 +1,3 @@
-mod MarksStart
-mod OwnKeeps
 pub mod HeapWords
 pub mod SharedWords
 pub mod Agreeing

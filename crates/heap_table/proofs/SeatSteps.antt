@@ -2,7 +2,7 @@
 use Rattle.std.proofs.Common.{◌≡◌, ℕ, List, Some, sym, ap, ◌∙◌}
 use Rattle.shared_table.specs.declared.overview.Overview.{Overview}
 use Rattle.shared_table.specs.Seats.{Side}
-use Rattle.heap_table.specs.Owned.{Own}
+use Rattle.shared_table.specs.Owned.{Own}
 use Rattle.heap_table.specs.Seats.{Seat, beside_in}
 use Rattle.heap_table.specs.Overviews.{overview, knowing}
 use Rattle.heap_table.specs.Sharing.{Agrees}
@@ -23,7 +23,6 @@ overview_shown own side agrees =
     let shows : Overview = overview (shown own side) in
     ap (λ (n : ℕ). record shows { old = n }) (sym agrees.old)
     ∙ ap (λ (ws : List ℕ). record shows { old = main.old; words = ws }) (sym agrees.words)
-    ∙ ap (λ (ws : List ℕ). record shows { old = main.old; words = main.words; layouts = ws }) (sym agrees.layouts)
 
 module _ (own : Own) (side : Side) (seat : Seat) (shows : shown own side ≡ seat) (agrees : Agrees own side.main) where
   pub overview_is : overview seat ≡ side.main

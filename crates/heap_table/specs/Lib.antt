@@ -1,5 +1,3 @@
-pub mod Owned
-pub mod Kept
 pub mod Phases
 pub mod Seats
 pub mod Overviews

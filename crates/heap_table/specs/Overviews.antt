@@ -2,7 +2,6 @@
 use Rattle.std.specs.Prelude.{ℕ, List, [], take, slice_set, Option, Some, None}
 use Rattle.atomic_table.specs.Seated.{TableId}
 use Rattle.page_space.specs.Extents.{eden_start}
-use Rattle.cell_layout.specs.Cells.{layouts_in}
 use Rattle.mark_laws.specs.Types.{Event}
 use Rattle.shared_table.specs.declared.overview.Overview.{Overview}
 use Rattle.shared_table.specs.Changes.{MayDo, told}
@@ -25,7 +24,7 @@ overview seat = record {
   home = (known seat.shared).home;
   old = eden_start seat.space;
   words = take (eden_start seat.space) seat.table;
-  layouts = layouts_in seat.space seat.table;
+  layouts = (known seat.shared).layouts;
   colours = (known seat.shared).colours;
   board = (known seat.shared).board;
   view = (known seat.shared).view;

@@ -1,6 +1,6 @@
 -- What a seat at the table of words knows.
-use Rattle.std.specs.Prelude.{◌≡◌, ℕ, ◌<◌, ◌≤◌, Bool, true, false, IsTrue, is_some, List, length, replicate}
-use Rattle.std.specs.Prelude.{Option, Some, None}
+use Rattle.std.specs.Prelude.{◌≡◌, ℕ, ◌+◌, Bool, true, false, List, length, replicate, slice_set}
+use Rattle.std.specs.Prelude.{Option, Some, None, option_map}
 use Rattle.tagged_word.specs.Shapes.{shapes_most}
 use Rattle.atomic_table.specs.Seated.{TableId}
 use Rattle.page_space.specs.Extents.{Space, eden_start, layouts_start, marks_start}
@@ -9,13 +9,15 @@ use Rattle.shared_table.specs.declared.overview.Counts.{Counts}
 use Rattle.shared_table.specs.declared.overview.Overview.{Overview}
 use Rattle.shared_table.specs.declared.phase.Phase.{Phase}
 use Rattle.shared_table.specs.declared.phase.Phase.TheVariants.{Quiet}
+use Rattle.shared_table.specs.Owned.{Own}
 use Rattle.shared_table.specs.Worlds.{beginning}
 
--- What the seat knows of the shared table that its own words do not say: which table it is; whether colours and board
--- are known, and these; the mutator's view of the open cycle, and what was found at its opening; how many seats are
--- out, and how many were ever lent.
+-- What the seat knows of the shared table that its own words do not say: which table it is; the layout words that
+-- helpers read; whether colours and board are known, and these; the mutator's view of the open cycle, and what was
+-- found at its opening; how many seats are out, and how many were ever lent.
 pub record Beside : Type 0 where
   pub id : TableId
+  pub layouts : List ℕ
   pub home : Bool
   pub colours : List ℕ
   pub board : List ℕ
@@ -36,10 +38,15 @@ pub record Seat : Type 0 where
 abbrev pub heap_words : Seat → List ℕ
 heap_words seat = seat.table
 
+-- the regions, and these words
+abbrev pub own_in : Seat → Own
+own_in seat = record { space = seat.space; words = seat.table }
+
 -- what an overview says that own words do not
 abbrev pub beside_in : TableId → Overview → Beside
 beside_in id main = record {
   id = id;
+  layouts = main.layouts;
   home = main.home;
   colours = main.colours;
   board = main.board;
@@ -64,13 +71,20 @@ IsFresh space false seat = seat ≡ fresh space
 IsFresh space true seat =
     (id : TableId) × (seat ≡ record (fresh space) { shared = Some (beside_in id (beginning (counts_of space))) })
 
--- A word at the address stands among the own words alone: where there is a shared table, it is behind the pages and
--- before the layout words.
-abbrev pub IsOwnAlone : Seat → ℕ → Type 0
-IsOwnAlone seat a = IsTrue (is_some seat.shared) → (eden_start seat.space ≤ a) × (a < layouts_start seat.space)
+-- what the seat knows with the layout word of a shape put among those that helpers read
+abbrev pub with_read_layout : ℕ → ℕ → Beside → Beside
+with_read_layout shape word beside = record beside { layouts = slice_set beside.layouts shape word }
 
--- The regions, the phase, and how many heap words there are, stay.
+-- the layout word of a shape is put among the own words, and among those that helpers read, where there are any
+abbrev pub with_layout : Seat → ℕ → ℕ → Seat
+with_layout seat shape word = record seat {
+  table = slice_set seat.table (layouts_start seat.space + shape) word;
+  shared = option_map (with_read_layout shape word) seat.shared;
+}
+
+-- The regions, the phase, how many heap words there are, and what is known of the shared table, stay.
 pub record RestStays (old new : Seat) : Type 0 where
   pub space : new.space ≡ old.space
   pub phase : new.phase ≡ old.phase
   pub count : length new.table ≡ length old.table
+  pub shared : new.shared ≡ old.shared

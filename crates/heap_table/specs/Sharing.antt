@@ -1,42 +1,35 @@
 -- What the shared table has after words were put among the own ones.
-use Rattle.std.specs.Prelude.{◌≡◌, ℕ, ◌+◌, ◌-◌, ◌<◌, ◌≤◌, ◌⊎◌, nat_lt, nat_le, if◌then◌else◌, length, take, slice_index}
+use Rattle.std.specs.Prelude.{◌≡◌, ℕ, ◌<◌, ◌≤◌, ◌⊎◌, nat_lt, if◌then◌else◌, length, take, slice_index}
 use Rattle.tagged_word.specs.Shapes.{shapes_most}
-use Rattle.page_space.specs.Extents.{eden_start, layouts_start}
-use Rattle.cell_layout.specs.Cells.{layouts_in}
+use Rattle.page_space.specs.Extents.{eden_start}
 use Rattle.mark_laws.specs.Types.{Spot}
 use Rattle.shared_table.specs.declared.overview.Overview.{Overview}
 use Rattle.shared_table.specs.Seats.{Side}
 use Rattle.shared_table.specs.Spots.{with_spot}
-use Rattle.heap_table.specs.Owned.{Own}
+use Rattle.shared_table.specs.Owned.{Own}
 
--- the shared table has the own words of the pages, and the own layout words
+-- the shared table has the own words of the pages, and a layout word for each shape that there may be
 pub record Agrees (own : Own) (main : Overview) : Type 0 where
   pub old : main.old ≡ eden_start own.space
   pub words : main.words ≡ take (eden_start own.space) own.words
-  pub layouts : main.layouts ≡ layouts_in own.space own.words
+  pub layouts : length main.layouts ≡ shapes_most
 
--- a word of a page and a layout word are put in the shared table, and no other; the layout words begin at an address
-abbrev pub shared_put : Overview → ℕ → ℕ → ℕ → Overview
-shared_put main first a word =
-    if nat_lt a main.old
-    then with_spot main (Spot.Heap a) word
-    else (if nat_le first a then with_spot main (Spot.Layout (a - first)) word else main)
+-- a word of a page is put in the shared table, and no other
+abbrev pub shared_put : Overview → ℕ → ℕ → Overview
+shared_put main a word = if nat_lt a main.old then with_spot main (Spot.Heap a) word else main
 
 -- the address is not among those from one on up to another
 abbrev pub IsOutside : ℕ → ℕ → ℕ → Type 0
 IsOutside from to a = (a < from) ⊎ (to ≤ a)
 
--- the shared table has the own words of the pages, and the own layout words, but for those at these addresses
+-- the shared table has the own words of the pages, but for those at these addresses
 pub record AgreesOutside (own : Own) (from to : ℕ) (main : Overview) : Type 0 where
   pub old : main.old ≡ eden_start own.space
   pub words : length main.words ≡ eden_start own.space
   pub layouts : length main.layouts ≡ shapes_most
   pub page : (a : ℕ) → a < eden_start own.space → IsOutside from to a
       → slice_index main.words a ≡ slice_index own.words a
-  pub layout : (shape : ℕ) → shape < shapes_most → IsOutside from to (layouts_start own.space + shape)
-      → slice_index main.layouts shape ≡ slice_index own.words (layouts_start own.space + shape)
 
--- what the seat knows where words of pages and layout words were put
-abbrev pub with_shared : Side → Overview → Side
-with_shared side now =
-    record side { main = record side.main { words = now.words; layouts = now.layouts } }
+-- what the seat knows where words of pages were put
+abbrev pub with_pages : Side → Overview → Side
+with_pages side now = record side { main = record side.main { words = now.words } }

@@ -8,31 +8,32 @@ ghost use Rattle.mark_world.specs.BetweenCommands.{Fresh};
 ghost use Rattle.mark_world.specs.Cycles.{Cycle};
 ghost use Rattle.mark_world.specs.Steps.{black};
 ghost use Rattle.shared_table.specs.declared.phase.Phase.TheVariants.{Quiet, Mark, Paused};
-ghost use Rattle.shared_table.specs.Changes.{opened, resumed, paused, closed, whitened};
+ghost use Rattle.shared_table.specs.Changes.{IsContinued, opened, resumed, paused, closed, whitened};
 ghost use Rattle.shared_table.specs.Spots.{with_spot};
 ghost use Rattle.shared_table.specs.Worlds.{world_at_home};
 ghost use Rattle.heap_table.specs.Overviews.{overview, knowing};
+ghost use Rattle.heap_table.specs.Seats.{own_in};
 
 use crate::main_seat::MainSeat;
 use shared_table::Choice;
 
 impl MainSeat {
-    /// Opens a cycle, one that the caller's predicate allows for the words of the seat and what it knew. Nothing is
-    /// copied.
-    pub fn open_cycle<M: Choice>(&mut self)
+    /// Opens a cycle, one that the caller's predicate allows for the own words, how many objects were made, and what
+    /// the seat knew. Nothing is copied.
+    pub fn open_cycle<M: Choice>(&mut self, made: u32)
         requires shared { IsTrue (is_some self.old.shared) }
         requires quiet { self.old.phase ≡ Quiet }
         requires home { (overview self.old).home ≡ true }
-        requires chosen { (cycle : Cycle) × M.fits self.old.table (overview self.old) cycle
+        requires chosen { (cycle : Cycle) × M.fits (own_in self.old) made (overview self.old) cycle
             × Fresh (world_at_home (opened (overview self.old) cycle)) }
-        ensures opened { (cycle : Cycle) × M.fits self.old.table (overview self.old) cycle
+        ensures opened { (cycle : Cycle) × M.fits (own_in self.old) made (overview self.old) cycle
             × Fresh (world_at_home (opened (overview self.old) cycle))
             × (self.new ≡ knowing self.old self.old.table (opened (overview self.old) cycle)) }
     {
         let Some(side) = &mut self.shared else {
             unreachable!()
         };
-        side.open_cycle::<M>(self.own.all());
+        side.open_cycle::<M>(&self.own, made);
     }
 
     /// Closes a cycle once no cell is on the board. The colours stay. It says that the world was sound.
@@ -101,19 +102,22 @@ impl MainSeat {
         side.put_black(a);
     }
 
-    /// Goes on with a cycle that waited, as one that the caller's predicate allows for the words of the seat and what
-    /// it knew. What was found at the opening stays.
-    pub fn resume_cycle<M: Choice>(&mut self)
+    /// Goes on with a cycle that waited, as one that the caller's predicate allows for the own words, how many objects
+    /// were made, and what the seat knew. Its lists are those of the cycle that waited, with promoted cells joined.
+    /// What was found at the opening stays.
+    pub fn resume_cycle<M: Choice>(&mut self, made: u32)
         requires paused { self.old.phase ≡ Paused }
         requires home { (overview self.old).home ≡ true }
-        requires chosen { (cycle : Cycle) × M.fits self.old.table (overview self.old) cycle
+        requires chosen { (cycle : Cycle) × M.fits (own_in self.old) made (overview self.old) cycle
+            × IsContinued (overview self.old).view cycle
             × IsSoundAndBorn (world_at_home (resumed (overview self.old) cycle)) }
-        ensures resumed { (cycle : Cycle) × M.fits self.old.table (overview self.old) cycle
+        ensures resumed { (cycle : Cycle) × M.fits (own_in self.old) made (overview self.old) cycle
+            × IsContinued (overview self.old).view cycle
             × (self.new ≡ knowing self.old self.old.table (resumed (overview self.old) cycle)) }
     {
         let Some(side) = &mut self.shared else {
             unreachable!()
         };
-        side.resume_cycle::<M>(self.own.all());
+        side.resume_cycle::<M>(&self.own, made);
     }
 }

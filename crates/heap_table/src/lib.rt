@@ -3,7 +3,7 @@
 //! Model: a `Seat` of `specs/Seats.antt`: the regions, the phase, the heap words, which are those before the marks, and
 //! what is known of the table that helpers read (`shared_table`), where there is one.
 //! Invariant: there is a word for each address before the marks. In each phase the shared table has the same words in
-//! its pages, and the same layout words.
+//! its pages. Its layout words are known by themselves.
 #![tactic(auto)]
 
 mod copies;
@@ -11,11 +11,7 @@ mod cycles;
 mod lending;
 mod main_seat;
 mod marking;
-mod own_words;
-mod paused;
 mod sharing;
 
 pub use main_seat::{HeapTable, MainSeat};
-pub use own_words::OwnWords;
-pub use paused::Paused;
-pub use shared_table::{Choice, Colour, HelperSeat, Phase, SharedTable};
+pub use shared_table::{Choice, Colour, HelperSeat, OwnWords, Phase, SharedTable};

@@ -1,18 +1,17 @@
 //! The seat of the thread that runs commands: how it is opened, and single words. Stretches of words are in `copies`,
 //! steps of marking in `marking`.
-ghost use Rattle.std.specs.Prelude.{◌≡◌, ◌+◌, ◌<◌, length, slice_get, slice_set};
-ghost use Rattle.std.specs.Prelude.{IfOk, Some, None, is_some, true};
-ghost use Rattle.page_space.specs.Extents.{Space, marks_start};
+ghost use Rattle.std.specs.Prelude.{◌≡◌, ◌+◌, ◌<◌, ◌≤◌, length, slice_get, slice_set};
+ghost use Rattle.std.specs.Prelude.{IfOk, Some, is_some, true};
+ghost use Rattle.tagged_word.specs.Shapes.{shapes_most};
+ghost use Rattle.page_space.specs.Extents.{Space, eden_start, marks_start};
 ghost use Rattle.shared_table.specs.declared.phase.Phase.TheVariants.{Mark};
-ghost use Rattle.heap_table.specs.Owned.{zeros};
-ghost use Rattle.heap_table.specs.Seats.{IsFresh, IsOwnAlone, heap_words, RestStays};
+ghost use Rattle.shared_table.specs.Owned.{zeros};
+ghost use Rattle.heap_table.specs.Seats.{IsFresh, heap_words, with_layout, RestStays};
 ghost use Rattle.heap_table.specs.Staying.{rest_stays_itself, rest_stays_again};
 
-use crate::own_words::OwnWords;
-use crate::paused::Paused;
 use crate::sharing::share;
 use page_space::{PAGE_WORDS, Regions};
-use shared_table::{Counts, MainSide, Phase, SharedTable};
+use shared_table::{Counts, MainSide, OwnWords, Phase, SharedTable};
 use std::alloc::Global;
 use std::marker::Model;
 use tagged_word::{NoMemory, shape};
@@ -40,7 +39,7 @@ impl HeapTable {
 }
 
 /// The seat of the thread that runs commands. Its own words stay plain, and it reads no others. Where a shared table
-/// was asked for, each word that is put in a page and each layout word goes to both.
+/// was asked for, each word that is put in a page goes to both.
 #[derive(Drop)]
 pub struct MainSeat {
     pub(crate) own: OwnWords,
@@ -66,8 +65,7 @@ impl MainSeat {
         ensures { (regions : Space) → own ≡ zeros regions → IfOk result (λ seat. IsFresh regions true seat) }
     {
         let regions = own.regions();
-        // The sizes are within their limits.
-        let _words_count = regions.count();
+        regions.sizes_fit();
         let counts = Counts {
             old: regions.sizes().pages * PAGE_WORDS,
             shapes: shape::COUNT,
@@ -136,7 +134,7 @@ impl MainSeat {
     {
         self.own.put(a, word);
         if let Some(side) = &mut self.shared {
-            share(side, self.own.count(), a, word);
+            share(side, a, word);
         }
     }
 
@@ -163,14 +161,16 @@ impl MainSeat {
     {
         self.own.put_slot(cell, offset, word);
         if let Some(side) = &mut self.shared {
-            share(side, self.own.count(), cell + offset, word);
+            // The sum fits, since there is a word for each address.
+            let _count = self.own.count();
+            share(side, cell + offset, word);
         }
     }
 
-    /// Puts a word among the own ones alone: one that no helper ever reads. No other word changes.
+    /// Puts a word behind the pages, among the own ones alone. No other word changes.
     #[inline(always)]
     pub fn put_own(&mut self, a: u32, word: u64)
-        requires own { IsOwnAlone self.old a }
+        requires own { eden_start self.old.space ≤ a }
         requires within { a < marks_start self.old.space }
         ensures put { self.new ≡ record self.old { table = slice_set self.old.table a word } }
         ensures heap { heap_words self.new ≡ slice_set (heap_words self.old) a word }
@@ -182,7 +182,7 @@ impl MainSeat {
     /// The same at an offset of a cell.
     #[inline(always)]
     pub fn put_own_slot(&mut self, cell: u32, offset: u32, word: u64)
-        requires own { IsOwnAlone self.old (cell + offset) }
+        requires own { eden_start self.old.space ≤ cell + offset }
         requires within { cell + offset < marks_start self.old.space }
         ensures put { let table = slice_set self.old.table (cell + offset) word in
             self.new ≡ record self.old { table = table } }
@@ -192,14 +192,17 @@ impl MainSeat {
         self.own.put_slot(cell, offset, word);
     }
 
-    /// All words of a seat that has no shared table, to read and write.
-    #[inline(always)]
-    pub fn paused(&mut self) -> Paused<'_>
-        requires { self.old.shared ≡ None }
-        ensures lender { result.seat.ghost_name ≡ self.entry.ghost_name }
-        ensures seat { result.seat.now ≡ self.old }
+    /// Puts a layout word, among those that helpers read too, while no cycle is open or while it waits. No other word
+    /// changes.
+    pub fn put_layout(&mut self, shape: u32, word: u64)
+        requires idle { self.old.phase ≡ Mark → ⊥ }
+        requires within { shape < shapes_most }
+        ensures put { self.new ≡ with_layout self.old shape word }
     {
-        Paused { seat: self }
+        self.own.put_layout(shape, word);
+        if let Some(side) = &mut self.shared {
+            side.put_layout(shape, word);
+        }
     }
 
     /// The words of the table. It takes no memory.

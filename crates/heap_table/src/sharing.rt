@@ -1,33 +1,23 @@
-//! Words that go from the own ones to the shared table.
-ghost use Rattle.std.specs.Prelude.{◌≡◌, ◌+◌, ◌-◌, ◌<◌, ◌≤◌, length};
+//! Words of pages that go from the own ones to the shared table.
+ghost use Rattle.std.specs.Prelude.{◌≡◌, ◌≤◌};
 ghost use Rattle.page_space.specs.Extents.{marks_start};
 ghost use Rattle.shared_table.specs.declared.phase.Phase.TheVariants.{Mark};
-ghost use Rattle.heap_table.specs.Sharing.{Agrees, AgreesOutside, shared_put, with_shared};
+ghost use Rattle.heap_table.specs.Sharing.{Agrees, AgreesOutside, shared_put, with_pages};
 
-use crate::own_words::OwnWords;
-use shared_table::MainSide;
+use shared_table::{MainSide, OwnWords};
 
-/// Puts one word of the own ones in the shared table, if it has a place there: a word of a page, or a layout word. The
-/// layout words are the last of the own ones.
-#[cold]
-#[inline(never)]
-pub(crate) fn share(side: &mut MainSide, end: u32, a: u32, word: u64)
+/// Puts one word of the own ones in the shared table, if it is one of a page.
+#[inline(always)]
+pub(crate) fn share(side: &mut MainSide, a: u32, word: u64)
     requires idle { side.old.main.phase ≡ Mark → ⊥ }
-    requires within { a < end }
-    requires layouts { length side.old.main.layouts ≤ end }
-    ensures { let first = end - length side.old.main.layouts in
-        side.new ≡ record side.old { main = shared_put side.old.main first a word } }
+    ensures { side.new ≡ record side.old { main = shared_put side.old.main a word } }
 {
-    let counts = side.counts();
-    let first = end - counts.shapes;
-    if a < counts.old {
+    if a < side.counts().old {
         side.put(a, word);
-    } else if first <= a {
-        side.put_layout(a - first, word);
     }
 }
 
-/// Puts the own words from an address on up to another in the shared table, where they have places there.
+/// Puts the own words from an address on up to another in the shared table, as far as they are of pages.
 #[cold]
 #[inline(never)]
 pub(crate) fn share_stretch(side: &mut MainSide, own: &OwnWords, from: u32, to: u32)
@@ -35,10 +25,11 @@ pub(crate) fn share_stretch(side: &mut MainSide, own: &OwnWords, from: u32, to: 
     requires within { to ≤ marks_start own.now.space }
     requires outside { AgreesOutside own.now from to side.old.main }
     ensures agrees { Agrees own.now side.new.main }
-    ensures rest { side.new ≡ with_shared side.old side.new.main }
+    ensures rest { side.new ≡ with_pages side.old side.new.main }
 {
-    let end = own.count();
-    for a in from..to {
-        share(side, end, a, own.word(a));
+    // There is a word for each address before the marks.
+    let _count = own.count();
+    for a in from..to.min(side.counts().old) {
+        side.put(a, own.word(a));
     }
 }

@@ -5,10 +5,10 @@ ghost use Rattle.object_graph.specs.Invariants.{fields_most};
 ghost use Rattle.object_graph.specs.Graphs.{start};
 ghost use Rattle.cell_layout.specs.Cells.{IsCell};
 ghost use Rattle.heap_table.specs.Phases.{Quiet};
-ghost use Rattle.heap_table.specs.Seats.{heap_words};
-ghost use Rattle.shape_tree.specs.Shapes.{IsPathShape, LacksPathsFor, Leads, has_name, shape_path};
-ghost use Rattle.shape_tree.specs.Shapes.{stepped};
-ghost use Rattle.write_barrier.specs.MutatorState.{IsOpened};
+ghost use Rattle.write_barrier.specs.Seats.{heap_words};
+ghost use Rattle.shape_tree.specs.Shapes.{IsPathShape, has_name, shape_path};
+ghost use Rattle.heap_model.specs.Wholeness.{HasSizes};
+ghost use Rattle.write_barrier.specs.MutatorState.{IsOpened, heap_of};
 ghost use Rattle.collector.specs.States.{HeapShows};
 
 use crate::opened_words::{
@@ -66,20 +66,17 @@ fn opened(rt: &impl Abort, alloc: Global, sizes: Sizes) -> Result<Heap, Fail>
     }
 }
 
-/// Adds a field to the path of a shape: all else stays.
+/// Adds a field to the path of a shape.
 fn step(main: &mut Main, shape: u32, name: u32, rep: Rep) -> Result<u32, ShapesFull>
+    requires quiet { main.old.seat.phase ≡ Quiet }
+    requires sized { HasSizes (heap_of main.old) }
     requires path { IsPathShape main.old.paths shape }
     requires is_new { has_name (shape_path main.old.paths shape) name ≡ false }
     requires room { length (shape_path main.old.paths shape).fields < fields_most }
-    ensures stepped { let path = stepped (shape_path main.old.paths shape) name rep in
-        IfOk result (λ next. Leads main.old.paths main.new.paths path next) }
-    ensures full { let path = stepped (shape_path main.old.paths shape) name rep in
-        IfErr result (λ full. LacksPathsFor main.old.paths main.new.paths path full) }
-    ensures rest { main.new ≡ record main.old { paths = main.new.paths } }
 {
     let field = PathField { name, rep };
     let step = main.shapes().can_step(shape, field)?;
-    Ok(main.shapes_mut().step(shape, field, step))
+    Ok(main.step_path(shape, field, step))
 }
 
 /// The cell at an address: nothing changes.
@@ -265,13 +262,25 @@ fn has_values(rt: &impl Abort, main: &Main, values: &[(Word, Option<(bool, Held)
     }
 }
 
-/// A path of one field is added behind that of a root.
-fn adds_a_path(rt: &impl Abort, main: &mut Main) {
+/// A path of one field is added behind that of a root, and its layout word is put.
+fn adds_a_path(rt: &impl Abort, main: &mut Main)
+    requires quiet { main.old.seat.phase ≡ Quiet }
+    requires sized { HasSizes (heap_of main.old) }
+{
     let shape = main.shapes().root(2);
     assert!(rt; main.lookup(shape, 3).is_none());
     assert!(rt; main.shapes().fields(shape) < 64);
     assert_eq!(rt; step(main, shape, 3, Rep::Wide), Ok(17));
     assert_eq!(rt; main.shapes().paths(), 10);
+}
+
+#[test]
+fn a_path_is_added_with_its_layout_word(rt: HostRuntime) -> Result<(), Fail> {
+    let mut heap = opened(&rt, rt.alloc(), SMALL)?;
+    let main = heap.main_mut();
+    adds_a_path(&rt, main);
+    has_words(&rt, main, 2_258, &[0x81, 0x1121, 0]);
+    Ok(())
 }
 
 #[test]
@@ -286,7 +295,6 @@ fn calls_write_their_words_alone(rt: HostRuntime) -> Result<(), Fail> {
         size_of(main, EDEN + 13),
     ];
     assert_eq!(rt; sizes, [2_048, 2, 0]);
-    adds_a_path(&rt, main);
     for (value, word) in &SLOTS {
         let held = match content_of(false, rep_of(*value), *value) {
             SlotContent::Tagged(held) => Some(held),

@@ -1,7 +1,7 @@
 //! The walk along the cells of a region.
 ghost use Rattle.std.specs.Prelude.{◌≡◌, ℕ, ◌+◌, ◌≤◌, List, IfSome, IsNone};
 ghost use Rattle.page_space.specs.Extents.{marks_start};
-ghost use Rattle.heap_table.specs.Seats.{heap_words};
+ghost use Rattle.write_barrier.specs.Seats.{heap_words};
 ghost use Rattle.heap_model.specs.Types.{Cell};
 ghost use Rattle.heap_model.specs.Heaps.{Heap};
 ghost use Rattle.heap_model.specs.RegionRows.{StandsBetween};

@@ -3,7 +3,7 @@ ghost use Rattle.std.specs.Prelude.{◌≡◌, ℕ, ◌+◌, slice_get, Some};
 ghost use Rattle.tagged_word.specs.Cells.{has_length, length_by};
 ghost use Rattle.cell_layout.specs.Cells.{IsLayoutOf};
 ghost use Rattle.heap_model.specs.Types.{Cell, LayoutWord};
-ghost use Rattle.heap_table.specs.Seats.{heap_words};
+ghost use Rattle.write_barrier.specs.Seats.{heap_words};
 ghost use Rattle.heap_walk.specs.Standing.{StandsAt};
 
 use cell_layout::Cell;

@@ -4,7 +4,9 @@ use Rattle.std.proofs.Common.{slice_get, slice_range, All, get_or, refl, sym, �
 use Rattle.std.proofs.Common.{length-drop}
 use Rattle.std.proofs.lemmas.List.{drop-take, drop-drop}
 use Rattle.std.proofs.lemmas.Option.{slice_get_within, slice_get-get_or}
-use Rattle.page_space.specs.Extents.{words_count}
+use Rattle.page_space.specs.Sizes.{AreWithin}
+use Rattle.page_space.specs.Extents.{Space, words_count}
+use Rattle.page_space.proofs.Limits.{words_count_most}
 use Rattle.page_space.proofs.Starts.{board_start_is, words_count_is}
 use Rattle.heap_model.specs.Types.{Cell}
 use Rattle.heap_model.specs.Heaps.{Heap, HasCell, words_of_cell}
@@ -13,6 +15,10 @@ use Rattle.heap_model.proofs.CellWords.{slice_get-drop, slice_get-take}
 use Rattle.image_walk.specs.Words.{HasWords}
 use Rattle.image_walk.specs.declared.spans.Span.{Span}
 use Rattle.image_walk.specs.Spans.{StandsIn, span_words, IsSpan, EachWord}
+
+-- no heap has 2^32 words or more
+pub words_count_few : (space : Space) → AreWithin space.sizes space.variables → words_count space < 2 ^ 32
+words_count_few space within = omega (arith, words_count_most space within)
 
 -- a word of a stretch stands at its address
 pub slice_get-slice_range : (words : List ℕ) (from end at : ℕ) → at < end - from

@@ -25,7 +25,7 @@ pub fn next_from(image: &HeapImage, from: u32) -> Option<Cell>
     ensures ends { IfSome result (λ cell. (1 ≤ cell.size) × (cell.at + cell.size ≤ u32.MAX)) }
 {
     // Tells that the sizes are within their limits, so that no region is empty.
-    let _words_count = image.regions.count();
+    image.regions.sizes_fit();
     let mut at = from;
     while let Some(end) = image.regions.cells_end(at) {
         if let Some(cell) = next_of_row(image, at, end) {

@@ -34,7 +34,7 @@ pub fn cell_there(image: &HeapImage, a: u32) -> Option<Cell>
     ensures ends { IfSome result (λ cell. (1 ≤ cell.size) × (a + cell.size ≤ u32.MAX)) }
 {
     // No heap has 2^32 words or more.
-    let _words_count = image.regions.count();
+    image.regions.sizes_fit();
     let mut words = SliceWords::new(image.words.as_slice());
     match cell_at(&mut words, &image.regions, a) {
         Ok(cell) => Some(cell),

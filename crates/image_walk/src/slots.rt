@@ -113,7 +113,7 @@ pub fn sort_of(image: &HeapImage, word: u64) -> Referent
     ensures { IsSort (image_heap image.now) word result }
 {
     // No address of a heap is past 32 bits.
-    let _words_count = image.regions.count();
+    image.regions.sizes_fit();
     match Word(word).class() {
         Some(class) => sort_of_class(image, class),
         None => Referent::Nothing,

@@ -39,7 +39,7 @@ pub fn behind_head(image: &HeapImage, cell: Cell) -> Span
     ensures end { result.end ≡ cell.at + cell.size }
 {
     // No address of a heap is past 32 bits.
-    let _words_count = image.regions.count();
+    image.regions.sizes_fit();
     Span {
         from: cell.at + STORE_HEAD,
         end: cell.at + cell.size,

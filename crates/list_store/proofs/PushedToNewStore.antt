@@ -2,7 +2,7 @@
 use Rattle.std.proofs.Common.{◌≡◌, ◌≢◌, ℕ, ◌+◌, ◌≤◌, ◌<◌, ◌⊎◌, inl, inr, List, [], ◌∷◌, ◌++◌, length, drop, Some}
 use Rattle.std.proofs.Common.{slice_get}
 use Rattle.std.proofs.Common.{false, refl, sym, ◌∙◌, ap, subst, arith, length-append, length-drop}
-use Rattle.tagged_word.specs.Cells.{store_head, is_object_kind}
+use Rattle.tagged_word.specs.Cells.{store_head, store_slot, is_object_kind}
 use Rattle.tagged_word.specs.declared.layout.Kind.TheVariants as kind
 use Rattle.tagged_word.proofs.Members.{first_in}
 use Rattle.page_space.specs.Sizes.{AreWithin}
@@ -10,7 +10,7 @@ use Rattle.page_space.proofs.Starts.{marks_start_is}
 use Rattle.object_graph.specs.Graphs.{Graph, ListObject}
 use Rattle.object_graph.specs.Meaning.{list_most, relist}
 use Rattle.heap_model.specs.Types.{Value, Cell, Held}
-use Rattle.heap_table.specs.Seats.{heap_words}
+use Rattle.write_barrier.specs.Seats.{heap_words}
 use Rattle.heap_model.specs.Heaps.{HasCell, words_of_cell}
 use Rattle.heap_model.specs.Kinds.{HasWord, count_offset}
 use Rattle.heap_model.specs.Needs.{grown_list}
@@ -161,12 +161,17 @@ module _ {old new : Mutator} {graph : Graph} {at count : ℕ} {list : ListObject
       ∙ ap (λ all. slice_get all (at + count_offset)) pushes.words.heap ∙ own_put makes (count + 1) count full
       ∙ ap (λ n. Some n) one_more
 
+  -- its slot for the store refers to the one that was made
+  store_slot_now : HasWord (words_of_cell (heap_of new) cell) store_slot (reference_word (next_at old))
+  store_slot_now =
+      let size = list_word 1 known.shown (omega arith) in
+      taken.slot_is takes (omega (arith, size.below, known.shown.stands)) (filled_named filled)
+
   -- so an element is pushed
   puts_element : PutsElement (heap_of old) (heap_of new) cell [] (other ∷ made_boxes (store_content value) box)
       list.elements (list.elements ++ what ∷ []) (length list.elements) what
   puts_element =
       let one_more = length-append list.elements (what ∷ []) in
-      let size = list_word 1 known.shown (omega arith) in
       record {
         whole = known.shows.shows.whole;
         shown = known.shown.shows;
@@ -175,7 +180,7 @@ module _ {old new : Mutator} {graph : Graph} {at count : ℕ} {list : ListObject
         now = now;
         are = record {
           store = reference_word (next_at old);
-          slot = taken.slot_is takes (omega (arith, size.below, known.shown.stands)) (filled_named filled);
+          slot = store_slot_now;
           stands = HoldsStore.store (reference_word (next_at old)) other (words_of_cell (heap_of new) other)
               (record { refers = refl; has = store_has }) refl;
         };
@@ -219,7 +224,7 @@ module _ {old new : Mutator} {graph : Graph} {at count : ℕ} {list : ListObject
   pub to_new_store_becomes : AreWithin old.seat.space.sizes old.seat.space.variables
       → ChangesObjectUsing old new need cell.at capacity
   to_new_store_becomes sizes =
-      object_grows (taken.taken_beside takes) (own_row filled).row other
+      object_grows (taken.taken_beside takes store_slot_now) (own_row filled).row other
       (first_in other (made_boxes (store_content value) box)) refl
       (omega (arith, (own_run filled).within, marks_fit old.seat.space sizes, marks_start_is old.seat.space))
       (filled_named filled)

@@ -11,7 +11,7 @@ use Rattle.object_graph.specs.Graphs.{Graph, ListObject}
 use Rattle.object_graph.specs.Meaning.{list_most}
 use Rattle.object_graph.proofs.Lists.{slice_get-set_other}
 use Rattle.nursery.specs.Young.{HasRoom}
-use Rattle.heap_table.specs.Seats.{heap_words}
+use Rattle.write_barrier.specs.Seats.{heap_words}
 use Rattle.heap_model.specs.Kinds.{count_offset}
 use Rattle.heap_model.specs.Needs.{capacity_at, word_at, box_need, is_box_word}
 use Rattle.heap_model.proofs.CellOutcomes.{object_is_no_filler}

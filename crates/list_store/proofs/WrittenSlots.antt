@@ -12,7 +12,7 @@ use Rattle.object_graph.specs.Graphs.{Graph, ListObject}
 use Rattle.object_graph.specs.Meaning.{relist}
 use Rattle.object_graph.proofs.Lists.{slice_get-set_other, slice_get-set_same}
 use Rattle.cell_layout.specs.Cells.{IsRow}
-use Rattle.heap_table.specs.Seats.{heap_words}
+use Rattle.write_barrier.specs.Seats.{heap_words}
 use Rattle.heap_model.specs.Types.{Value, Cell, Held}
 use Rattle.heap_model.specs.Heaps.{HasCell, words_of_cell}
 use Rattle.heap_model.specs.Kinds.{count_offset, HasWord, IsSoundOf}
@@ -204,6 +204,13 @@ module _ {old new : Mutator} {graph : Graph} {at slot count : ℕ} {list : ListO
       ∙ ap (λ all. slice_get all (at + count_offset)) puts.heap
       ∙ slice_get-set_same put (at + count_offset) count within ∙ ap (λ n. Some n) (sym becomes.long)
 
+  -- its slot for the store holds what it held
+  store_slot_now : HasWord (words_of_cell (heap_of new) cell) store_slot known.shown.shows.store
+  store_slot_now =
+      let shown = known.shown.shows in
+      taken.slot_is takes (omega (arith, list_size known.shown.has shown.of_kind))
+      (beside.slot_stays putting ∙ word_stands store_slot shown.store known.shown.has shown.slot)
+
   -- so an element is pushed
   puts_element : PutsElement (heap_of old) (heap_of new) cell (other ∷ [])
       (made_boxes (store_content value) (next_at old)) list.elements becomes.after slot what
@@ -217,8 +224,7 @@ module _ {old new : Mutator} {graph : Graph} {at slot count : ℕ} {list : ListO
         now = now;
         are = record {
           store = shown.store;
-          slot = taken.slot_is takes (omega (arith, list_size known.shown.has shown.of_kind))
-              (beside.slot_stays putting ∙ word_stands store_slot shown.store known.shown.has shown.slot);
+          slot = store_slot_now;
           stands = HoldsStore.store shown.store other (words_of_cell (heap_of new) other)
               (record { refers = there.found.refers.refers; has = store_has }) there.found.of_kind;
         };
@@ -256,4 +262,4 @@ module _ {old new : Mutator} {graph : Graph} {at slot count : ℕ} {list : ListO
 
   -- each store has as many slots as before
   pub slot_keeps : ChangesObjectUsing old new need cell.at (capacity_at (heap_of old) cell.at)
-  slot_keeps = object_keeps (taken.taken_beside takes) row (beside.slot_stays putting)
+  slot_keeps = object_keeps (taken.taken_beside takes store_slot_now) row (beside.slot_stays putting)

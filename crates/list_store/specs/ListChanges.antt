@@ -4,7 +4,7 @@ use Rattle.std.specs.Prelude.{◌≡◌, ℕ, ◌+◌, ◌<◌, ◌≤◌, [], �
 use Rattle.std.specs.Prelude.{◌++◌, length, Some, None, slice_get, slice_set, ℤ}
 use Rattle.std.specs.Prelude.{Result, Ok, Err}
 use Rattle.tagged_word.specs.declared.word.Word.{Word}
-use Rattle.heap_table.specs.Seats.{heap_words}
+use Rattle.write_barrier.specs.Seats.{heap_words}
 use Rattle.handle_roots.specs.Roots.{FitsHeld, with_root}
 use Rattle.heap_model.specs.Types.{Value, Held}
 use Rattle.object_graph.specs.Graphs.{Graph, ListObject}

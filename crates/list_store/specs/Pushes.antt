@@ -3,7 +3,7 @@ use Rattle.std.specs.Prelude.{◌≡◌, ℕ, ◌+◌, ◌<◌, List, slice_set}
 use Rattle.tagged_word.specs.Cells.{store_head, store_slot}
 use Rattle.nursery.specs.Young.{HasRoom}
 use Rattle.heap_model.specs.Types.{Held}
-use Rattle.heap_table.specs.Seats.{heap_words}
+use Rattle.write_barrier.specs.Seats.{heap_words}
 use Rattle.heap_model.specs.Slots.{reference_word}
 use Rattle.heap_model.specs.Kinds.{count_offset}
 use Rattle.heap_model.specs.Remembered.{Touch}

@@ -9,18 +9,9 @@ ghost use Rattle.mark_world.specs.Coverage.{cell_of};
 
 use crate::lists::is_in;
 use core_parts::read_cell;
-use mark_world::{MainView, World};
-use page_space::PAGE_WORDS;
+use mark_world::{MainView, World, page_end};
 use tagged_word::Reading;
 use tagged_word::cell::LENGTH;
-
-/// The address behind the page that an address lies in.
-pub(crate) fn page_end(at: u32) -> u64
-    ensures { result ≡ page_end at }
-{
-    let words = PAGE_WORDS as u64;
-    words * (at as u64 / words + 1)
-}
 
 /// The cell of a page at an address.
 pub(crate) fn cell_of(world: &World, at: u32) -> Option<Reading>

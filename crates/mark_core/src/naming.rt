@@ -8,8 +8,7 @@ ghost use Rattle.mark_core.specs.Names.{named_by, IsShort};
 ghost use Rattle.std.specs.List.{All, Contains, list_any};
 ghost use Rattle.tagged_word.specs.Cells.{tagged_offsets};
 
-use crate::cells::page_end;
-use mark_world::{Snap, SnapSlot};
+use mark_world::{Snap, SnapSlot, known_size, page_end};
 use tagged_word::cell::WORDS_MOST;
 use tagged_word::{Header, LayoutWord, Word, shape};
 
@@ -22,17 +21,6 @@ pub(crate) enum Name {
     NoCell,
     /// A cell of this layout and length.
     Cell(LayoutWord, u64),
-}
-
-/// The size of a cell as far as marking asks for it.
-fn known_size(layout: LayoutWord, long: u64) -> Option<u32>
-    ensures { result ≡ known_size layout long }
-{
-    if layout.kind.has_length() && !layout.kind.marks_by_length() {
-        Some(0)
-    } else {
-        layout.size(long)
-    }
 }
 
 /// Whether a cell of a size ends in the page that it begins in.

@@ -12,6 +12,7 @@
 
 mod event;
 mod laid;
+mod sizing;
 mod snap;
 mod step;
 mod views;
@@ -19,6 +20,7 @@ mod world;
 
 pub use event::Event;
 pub use laid::Laid;
+pub use sizing::{known_size, page_end};
 pub use snap::{Snap, SnapSlot};
 pub use step::{Actor, Spot};
 pub use views::{HelperView, MainView, Views};

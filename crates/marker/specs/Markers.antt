@@ -33,7 +33,7 @@ pub record IsMarker (marker : Inside) : Type 0 where
   pub place : marker.room.place < board_words
   pub sits : IfSome marker.seat (Sits (arc_value marker.table).table.shared.table_id marker.room.list)
 
--- A marker with a seat has made a run of turns, of which its seat's log tells, and rests.
+-- A marker with a seat has made a run of turns, of which its seat's log tells, and rests. Its list has the same room.
 pub record Marks (before after : Marking) (turns : ℕ) (outcome : Outcome) : Type 0 where
   pub seat : Helping
   pub had : before.seat ≡ Some seat
@@ -42,6 +42,7 @@ pub record Marks (before after : Marking) (turns : ℕ) (outcome : Outcome) : Ty
   pub table : after.table ≡ before.table
   pub stays : StaysAt seat later
   pub rests : Rests after.listing later.lent
+  pub bound : after.listing.bound ≡ before.listing.bound
   pub marked : IsMarked seat.lent.view.log later.lent.view.log after.listing.addresses turns outcome
 
 -- a marker without a seat does nothing

@@ -8,7 +8,7 @@ use crate::marking::{Outcome, mark};
 use crate::shading::list_cell;
 use crate::turn::Room;
 use cell_list::CellList;
-use crew::{Gate, OpenGate, Task};
+use crew::{Gate, Task};
 use shared_table::{HelperSeat, SharedTable};
 use slot_snapshot::Helper;
 use std::alloc::Global;
@@ -123,7 +123,7 @@ fn join_lists(from: &CellList, to: &mut CellList)
     }
 }
 
-impl Task<OpenGate> for Marker {
+impl<G: Gate> Task<G> for Marker {
     ghost use Rattle.std.specs.Prelude.{Option};
     ghost use Rattle.marker.specs.declared.marking.Outcome.{Outcome};
     ghost use Rattle.marker.specs.Markers.{HasMarked};
@@ -132,7 +132,7 @@ impl Task<OpenGate> for Marker {
 
     ghost done = { λ before gate after. (outcome : Option Outcome) × HasMarked before after 4096 outcome };
 
-    fn run(&mut self, context: &OpenGate) {
+    fn run(&mut self, context: &G) {
         self.mark_some(TASK_TURNS, context);
     }
 }

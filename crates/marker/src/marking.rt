@@ -34,6 +34,7 @@ pub(crate) fn mark<G: Gate>(
     ensures stays { StaysAt seat.old seat.new }
     ensures rests { Rests room.new.list seat.new.lent }
     ensures place { room.new.place < board_words }
+    ensures bound { room.new.list.bound ≡ room.old.list.bound }
     ensures marked { IsMarked seat.old.lent.view.log seat.new.lent.view.log room.new.list.addresses turns result }
 {
     let mut made = 0u32;
@@ -62,6 +63,7 @@ fn turn<G: Gate>(seat: &mut HelperSeat, table: &SharedTable, room: &mut Room, ga
     ensures rests { Rests room.new.list seat.new.lent }
     ensures turned { Turned seat.old.lent.view.log seat.new.lent.view.log room.old.place room.new.place
         room.old.list.addresses room.new.list.addresses result }
+    ensures bound { room.new.list.bound ≡ room.old.list.bound }
 {
     match next_cell(&mut room.list) {
         Some(cell) => {

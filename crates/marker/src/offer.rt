@@ -20,6 +20,7 @@ pub(crate) fn offer(seat: &mut HelperSeat, table: &SharedTable, room: &mut Room)
     ensures rests { Rests room.new.list seat.new.lent }
     ensures log { AddsNoTurn seat.old.lent.view.log seat.new.lent.view.log }
     ensures place { room.new.place ≡ room.old.place }
+    ensures bound { room.new.list.bound ≡ room.old.list.bound }
 {
     if room.list.len() > 1 {
         let place = seat.counts().board_place(room.place);
@@ -38,6 +39,7 @@ fn give_last(seat: &mut HelperSeat, table: &SharedTable, room: &mut Room)
     ensures rests { Rests room.new.list seat.new.lent }
     ensures log { AddsNoTurn seat.old.lent.view.log seat.new.lent.view.log }
     ensures place { room.new.place ≡ room.old.place }
+    ensures bound { room.new.list.bound ≡ room.old.list.bound }
 {
     if let Some(at) = next_cell(&mut room.list) {
         give_cell(seat, table, room, at);
@@ -56,6 +58,7 @@ fn give_cell(seat: &mut HelperSeat, table: &SharedTable, room: &mut Room, at: u3
     ensures rests { Rests room.new.list seat.new.lent }
     ensures log { AddsNoTurn seat.old.lent.view.log seat.new.lent.view.log }
     ensures place { room.new.place ≡ room.old.place }
+    ensures bound { room.new.list.bound ≡ room.old.list.bound }
 {
     match give(seat, table, room.place, at) {
         Ok(()) => {}

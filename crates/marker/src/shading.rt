@@ -21,6 +21,7 @@ pub(crate) fn shade_targets(
     requires may { (k : ℕ) (d : SnapSlot) → k < length slots.now →
         OfTarget seat.old.lent.counts.old (word_of slots.now k d) (MayShade seat.old.lent) }
     ensures listed { HasListed list.new seat.new.lent }
+    ensures bound { list.new.bound ≡ list.old.bound }
     ensures shades { Shades seat.old seat.new }
     ensures shaded { (k : ℕ) (d : SnapSlot) → k < length slots.now → IsShaded seat.new (word_of slots.now k d) }
 {
@@ -36,6 +37,7 @@ fn shade_target(seat: &mut HelperSeat, table: &SharedTable, list: &mut CellList,
     requires listed { HasListed list.old seat.old.lent }
     requires may { OfTarget seat.old.lent.counts.old word (MayShade seat.old.lent) }
     ensures listed { HasListed list.new seat.new.lent }
+    ensures bound { list.new.bound ≡ list.old.bound }
     ensures shades { Shades seat.old seat.new }
     ensures shaded { IsShaded seat.new word }
 {
@@ -52,6 +54,7 @@ fn shade_cell(seat: &mut HelperSeat, table: &SharedTable, list: &mut CellList, a
     requires listed { HasListed list.old seat.old.lent }
     requires may { MayShade seat.old.lent at }
     ensures listed { HasListed list.new seat.new.lent }
+    ensures bound { list.new.bound ≡ list.old.bound }
     ensures shades { Shades seat.old seat.new }
     ensures shaded { Contains seat.new.lent.view.visit at → ⊥ }
 {

@@ -37,6 +37,7 @@ pub(crate) fn visit_cell<G: Gate>(
     ensures rests { Rests room.new.list seat.new.lent }
     ensures log { AddsVisit seat.old.lent.view.log seat.new.lent.view.log }
     ensures place { room.new.place ≡ room.old.place }
+    ensures bound { room.new.list.bound ≡ room.old.list.bound }
 {
     match room.helper.visit(seat, table, cell, gate) {
         Visit::Kept(snapshot) => shade_targets(seat, table, &mut room.list, snapshot.slots),
@@ -53,6 +54,7 @@ pub(crate) fn look(seat: &mut HelperSeat, table: &SharedTable, room: &mut Room) 
     ensures rests { Rests room.new.list seat.new.lent }
     ensures log { Looks seat.old.lent.view.log seat.new.lent.view.log room.old.place result }
     ensures place { room.new.place ≡ next_place room.old.place }
+    ensures bound { room.new.list.bound ≡ room.old.list.bound }
     ensures same { result ≡ true → room.new.list ≡ room.old.list }
     ensures found { result ≡ false → room.new.list.addresses ≢ [] }
 {

@@ -8,7 +8,7 @@ use Rattle.page_space.specs.Extents.{Space}
 use Rattle.handle_roots.specs.declared.held.Held.TheVariants as held
 use Rattle.handle_roots.specs.Roots.{root_at, first_word, second_word, with_root}
 use Rattle.handle_roots.proofs.RootsHeld.{slice_get-with_root}
-use Rattle.heap_table.specs.Seats.{Seat}
+use Rattle.write_barrier.specs.Seats.{Seat}
 use Rattle.heap_model.specs.Types.{Held}
 use Rattle.heap_model.specs.Remembered.{Touch}
 use Rattle.write_barrier.specs.MutatorState.{Mutator, with_table, with_variable, reserved}

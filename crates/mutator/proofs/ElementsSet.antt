@@ -79,7 +79,7 @@ pub push_carried : {old main new : Mutator} {graph : Graph} {x at : ℕ} {v : Op
     → Carries names old new graph (Push x v) [] (Ok tt)
 push_carried {v = v} names same putting pushed =
     change_carried names same putting.shows pushed.shows (push_done names v putting.known putting.value_is pushed.few)
-    refl putting.known.bound putting.stands.place pushed.changes pushed.room pushed.uses
+    refl refl putting.known.bound putting.stands.place pushed.changes pushed.room pushed.uses
     (λ rooms has. push_need_is has v putting.value putting.known putting.value_is putting.stands)
     (λ rooms one fewer.
     keeps_push one fewer v (putting.list.elements ++ putting.value ∷ []) putting.known putting.stands refl
@@ -112,7 +112,7 @@ module _ {main : Mutator} {graph : Graph} {x at : ℕ} {i : Operand} {n told : �
       let (place, is, has_put) =
       subst (λ (k : ℤ). PutsElement main new graph at list k given.value (Ok tt)) integer puts in
       change_carried names same indexed.shows has_put.shows (put_done names indexed.known indexed.index v given.is is)
-      refl indexed.known.bound indexed.stands.place has_put.changes has_put.room has_put.uses
+      refl refl indexed.known.bound indexed.stands.place has_put.changes has_put.room has_put.uses
       (λ rooms has. put_need_is i v given.value indexed.known indexed.index given.is is rooms)
       (λ rooms one fewer.
       keeps_object one fewer (Put x i v) (object.List (slice_set list.elements place given.value)) _ refl
@@ -147,8 +147,8 @@ module _ {main : Mutator} {graph : Graph} {x at : ℕ} {i : Operand} {n told : �
       let list = indexed.list in
       let (gone, is, shifted) = subst (λ (k : ℤ). ShiftsElements main new graph at list k (Ok tt)) integer shifts in
       change_carried names same indexed.shows shifted.trims.shows (shift_done names indexed.known indexed.index is) refl
-      indexed.known.bound indexed.stands.place shifted.trims.changes (room_for_none indexed.shows) shifted.trims.uses
-      (λ rooms has. refl)
+      refl indexed.known.bound indexed.stands.place shifted.trims.changes (room_for_none indexed.shows)
+      shifted.trims.uses (λ rooms has. refl)
       (λ rooms one fewer.
       keeps_shift one fewer i (drop gone list.elements) indexed.known indexed.index is indexed.stands refl
       shifted.trims.changes)
@@ -168,7 +168,7 @@ module _ {main : Mutator} {graph : Graph} {x at : ℕ} {i : Operand} {n told : �
       let list = indexed.list in
       let (kept, is, cut) = subst (λ (k : ℤ). TruncatesElements main new graph at list k (Ok tt)) integer truncates in
       change_carried names same indexed.shows cut.trims.shows (trunc_done names indexed.known indexed.index is) refl
-      indexed.known.bound indexed.stands.place cut.trims.changes (room_for_none indexed.shows) cut.trims.uses
+      refl indexed.known.bound indexed.stands.place cut.trims.changes (room_for_none indexed.shows) cut.trims.uses
       (λ rooms has. refl)
       (λ rooms one fewer.
       keeps_trunc one fewer i (take kept list.elements) indexed.known indexed.index is indexed.stands refl

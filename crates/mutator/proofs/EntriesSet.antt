@@ -110,7 +110,7 @@ pub wput_carried : {old main new : Mutator} {graph : Graph} {m at key : ℕ} {k 
 wput_carried {k = k} {v} names same entering given puts =
     change_carried names same entering.shows puts.shows
     (wput_done names k entering.known entering.named v given.is (takes_entry entering puts.few)) refl
-    entering.known.bound entering.stands.place puts.changes puts.room puts.uses
+    refl entering.known.bound entering.stands.place puts.changes puts.room puts.uses
     (λ rooms has. wput_need_is has k v given.value entering.known entering.named given.is entering.stands)
     (λ rooms one fewer.
     keeps_wput one fewer k v given.value entering.known entering.named entering.stands refl puts.changes puts.counts)
@@ -155,7 +155,7 @@ pub wdel_carried : {old main new : Mutator} {graph : Graph} {m at key : ℕ} {k 
     → DeletesEntry main new graph at entering.weak entering.number → Carries names old new graph (WDel m k) [] (Ok tt)
 wdel_carried {k = k} names same entering deletes =
     change_carried names same entering.shows deletes.shows (wdel_done names k entering.known entering.named) refl
-    entering.known.bound entering.stands.place deletes.changes (room_for_none entering.shows) deletes.uses
+    refl entering.known.bound entering.stands.place deletes.changes (room_for_none entering.shows) deletes.uses
     (λ rooms has. refl)
     (λ rooms one fewer. keeps_wdel one fewer k entering.known entering.named entering.stands refl deletes.changes
     deletes.counts)

@@ -60,7 +60,7 @@ set_carried {graph = graph} {v = v} names f same setting sets =
     change_carried names same setting.shows sets.shows.shows
     (set_room names f v setting.known setting.value_is sets.few
     ∙ reshape_done graph setting.plain fields sets.shows.paths sets.shows.added)
-    refl setting.known.bound setting.stands.place sets.changes sets.room sets.uses
+    refl refl setting.known.bound setting.stands.place sets.changes sets.room sets.uses
     (λ rooms has. set_need_is has f v setting.value setting.known setting.value_is setting.stands)
     (λ rooms one fewer. keeps_set one fewer f v fields setting.known setting.stands refl sets.changes)
 

@@ -32,6 +32,7 @@ use Rattle.mutator.proofs.KeptStores.{keeps_still}
 use Rattle.heap_model.specs.Needs.{capacity_at}
 use Rattle.mutator.proofs.CommandRooms.{keeps_object}
 use Rattle.mutator.proofs.Rebinding.{room_for_none}
+use Rattle.mutator.proofs.StandingCells.{still_stands}
 use Rattle.mutator.proofs.StillShown.{shows_still}
 
 -- the same of a first field and the others, by whether it is the one
@@ -94,6 +95,7 @@ taken_by {main = main} {new} {graph} {x} names f None same taking is taken =
       means = del_known names f taking.known
           ∙ ap (λ one. reshape_if ideal_limits graph plain one (without_field plain.fields f)) is;
       shows = still;
+      cells = still_stands graph (taken.none is);
       takes = λ rooms has. record {
         room = room_for_none taking.shows;
         uses = taken.uses;
@@ -109,7 +111,7 @@ taken_by {main = main} {graph = graph} {x} {at} names f (Some value) same taking
     change_carried names same taking.shows taken.shows.shows
     (del_known names f taking.known ∙ ap (λ one. reshape_if ideal_limits graph plain one fields) is
     ∙ reshape_done graph plain fields taken.shows.paths taken.shows.added)
-    refl taking.known.bound stands.place taken.changes (room_for_none taking.shows) taken.uses (λ rooms has. refl)
+    refl refl taking.known.bound stands.place taken.changes (room_for_none taking.shows) taken.uses (λ rooms has. refl)
     (λ rooms one fewer.
     keeps_object one fewer (Del x f) (Plain plain.cap fields) (capacity_at (heap_of main) at) refl stands.object
     stands.reached stands.place refl (one.has plain.number at _ stands.object stands.reached stands.place)

@@ -16,7 +16,7 @@ use Rattle.handle_roots.specs.declared.given.Given.TheVariants as given
 use Rattle.handle_roots.specs.Givens.{IsGivenFor, has_slot_word}
 use Rattle.handle_roots.specs.Roots.{FitsHeld, Holds, IsRoot}
 use Rattle.handle_roots.proofs.RootsHeld.{holds_one}
-use Rattle.heap_table.specs.Seats.{heap_words}
+use Rattle.write_barrier.specs.Seats.{heap_words}
 use Rattle.heap_model.specs.Heaps.{Heap}
 use Rattle.heap_model.specs.Slots.{IsPlace}
 use Rattle.heap_model.specs.Showing.{ShowsHeld}

@@ -22,6 +22,7 @@ use Rattle.mutator.specs.CarriesOut.{Carries}
 use Rattle.mutator.proofs.ChangedWords.{object_keeps}
 use Rattle.mutator.proofs.KeptStores.{IsAfter}
 use Rattle.mutator.proofs.Rebinding.{reaches_no_more}
+use Rattle.mutator.proofs.StandingCells.{changed_is_reached, own_stands}
 
 -- the value of a command's variable, and the object of a kind to which it refers
 pub record IsKnown {Kind : Type 0} (as_kind : ℕ → Object → Option Kind) (graph : Graph) (x : ℕ) (target : Value)
@@ -48,19 +49,23 @@ known_is {as_kind = as_kind} {graph} known =
 pub change_carried : {old main new : Mutator} {graph after : Graph} {command : Command} {number at capacity need : ℕ}
     (names : List (List ℕ)) → main ≡ old → MainShows main graph → MainShows new after
     → meaning ideal_limits names graph command ≡ done after [] → made_for command ≡ None
-    → MayChange graph command number → IsPlace (heap_of main) number at
+    → after.bindings ≡ graph.bindings → MayChange graph command number → IsPlace (heap_of main) number at
     → ChangesObjectUsing main new need at capacity → HasRoom main.young need → UsesMore main new need
     → ((rooms : ℕ → Room) → HasRooms (heap_of main) graph rooms → need ≡ need_of graph rooms command)
     → ((rooms : ℕ → Room) → IsAfter main new graph after rooms → ReachesNoMore graph after
     → KeepsStores (heap_of main) (heap_of new) graph after command rooms)
     → Carries names old new graph command [] (Ok tt)
-change_carried {main = main} {new} {graph} {after} {command} names same shown shows means none may place changes room
-    uses needs keeps =
+change_carried {main = main} {new} {graph} {after} {command} {number} {at} names same shown shows means none bindings
+    may place changes room uses needs keeps =
     subst (λ main. Carries names main new graph command [] (Ok tt)) same
     (record {
       after = after;
       means = means;
       shows = shows;
+      cells =
+          let there : IsPlace (heap_of new) number at = changes.stays number at place in
+          own_stands there
+          (changed_is_reached graph after command number may bindings (shows.shows.made number at there)) changes.cells;
       takes = λ rooms has. record {
         room = subst (HasRoom main.young) (needs rooms has) room;
         uses = subst (UsesMore main new) (needs rooms has) uses;

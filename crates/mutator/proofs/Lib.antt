@@ -3,6 +3,7 @@ pub mod StillShown
 pub mod CellKinds
 pub mod ObjectsAt
 mod ChangedWords
+mod StandingCells
 pub mod Rebinding
 pub mod Unbinding
 pub mod IntegerSums

@@ -11,7 +11,7 @@ use Rattle.shape_tree.specs.ShapeLayouts.{layout_word}
 use Rattle.nursery.specs.Young.{Young, HasRoom, bumped}
 use Rattle.handle_roots.specs.declared.held.Held.TheVariants as held
 use Rattle.handle_roots.specs.Roots.{with_root}
-use Rattle.heap_table.specs.Seats.{Seat, heap_words}
+use Rattle.write_barrier.specs.Seats.{Seat, heap_words}
 use Rattle.heap_model.specs.Heaps.{Heap, words_of_cell}
 use Rattle.heap_model.specs.Changes.{IsRunOf}
 use Rattle.heap_model.specs.Showing.{ShowsObject}

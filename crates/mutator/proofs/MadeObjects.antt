@@ -15,8 +15,8 @@ use Rattle.graph_laws.proofs.NothingNew.{only_made_is_new}
 use Rattle.page_space.specs.Extents.{Space, eden_start, marks_start}
 use Rattle.nursery.specs.Young.{Young, HasRoom, other_half}
 use Rattle.handle_roots.specs.declared.held.Held.TheVariants as held
-use Rattle.heap_table.specs.Seats.{Seat, RestStays}
-use Rattle.heap_table.specs.Staying.{rest_stays_again}
+use Rattle.write_barrier.specs.Seats.{Seat, RestStays}
+use Rattle.write_barrier.specs.Staying.{rest_stays_again}
 use Rattle.heap_model.specs.Heaps.{Heap}
 use Rattle.heap_model.specs.Wholeness.{Whole}
 use Rattle.heap_model.specs.Changes.{AreFillers, CellsChange, IsOwnChange}
@@ -40,7 +40,7 @@ use Rattle.object_cells.proofs.GrantedRests.{left_are_granted, left_avoids_free,
 use Rattle.object_cells.proofs.RestOfWords.{range_beside, variable_beside}
 use Rattle.object_cells.proofs.UnusedWords.{run_before_marks}
 use Rattle.mutator.specs.CarriesOut.{Carries}
-use Rattle.mutator.specs.Changing.{KeepsOtherWords}
+use Rattle.mutator.specs.Changing.{KeepsOtherWords, MakesNoOtherCell}
 use Rattle.mutator.specs.Making.{new_touch}
 use Rattle.mutator.proofs.NewCells.{NewCell, cell_of}
 use Rattle.mutator.proofs.ChangedWords.{making_keeps}
@@ -48,6 +48,7 @@ use Rattle.mutator.proofs.MadeRecords.{new_touches}
 use Rattle.mutator.proofs.MadeRooms.{MakesOne, makes_one, keeps_made}
 use Rattle.mutator.proofs.PutCells.{IsPutCell, with_cell_put}
 use Rattle.mutator.proofs.Rebinding.{heap_bound}
+use Rattle.mutator.proofs.StandingCells.{put_stands}
 use Rattle.mutator.specs.declared.stop.Stop.TheVariants.{NoRoom}
 use Rattle.mutator.proofs.MadeHeaps.{MakesObject, made_heap, IsSoundNewCell, filled_young, filled_seat}
 use Rattle.mutator.proofs.MadeHeaps.{filled_space, filled_free, filled_bound, filled_heap, bound_heap}
@@ -265,6 +266,8 @@ module _ {old mid filled new : Mutator} {graph : Graph} {command : Command} {x a
         after = make graph x what;
         means = making.done names;
         shows = made_main;
+        cells = subst (λ heap. MakesNoOtherCell (heap_of old) heap (make graph x what)) (sym (bound_heap makes))
+            (put_stands graph x what put below made.carries made.shows);
         takes = λ rooms has. record {
           room = subst (HasRoom old.young) (sym (making.need rooms)) room;
           uses = subst (UsesMore old new) (sym (making.need rooms)) made_uses;

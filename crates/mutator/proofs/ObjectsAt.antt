@@ -14,7 +14,7 @@ use Rattle.object_graph.specs.Reach.{is_marked, reach}
 use Rattle.object_graph.specs.Texts.{noun}
 use Rattle.handle_roots.specs.declared.held.Held.TheVariants as held
 use Rattle.handle_roots.specs.Roots.{Holds}
-use Rattle.heap_table.specs.Seats.{heap_words}
+use Rattle.write_barrier.specs.Seats.{heap_words}
 use Rattle.heap_model.specs.Heaps.{Heap, HasCell}
 use Rattle.heap_model.specs.Slots.{IsPlace}
 use Rattle.heap_model.specs.Wholeness.{Whole}

@@ -4,7 +4,7 @@ use Rattle.std.proofs.Common.{length, length-set, slice_get}
 use Rattle.std.specs.Prelude.{slice_set}
 use Rattle.page_space.specs.Extents.{marks_start}
 use Rattle.tagged_word.specs.Cells.{store_slot}
-use Rattle.heap_table.specs.Seats.{Seat, heap_words}
+use Rattle.write_barrier.specs.Seats.{Seat, heap_words}
 use Rattle.heap_model.specs.Remembered.{Touch}
 use Rattle.write_barrier.specs.MutatorState.{Mutator, forgets, with_slot, with_table, with_word}
 use Rattle.write_barrier.specs.Recording.{Touches, touched, touched_one, touched_then}

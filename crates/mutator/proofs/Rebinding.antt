@@ -16,7 +16,7 @@ use Rattle.page_space.specs.Extents.{eden_start}
 use Rattle.nursery.specs.Young.{HasRoom, other_half}
 use Rattle.handle_roots.specs.Roots.{FitsHeld, with_root}
 use Rattle.heap_table.specs.Phases.{Quiet}
-use Rattle.heap_table.specs.Seats.{heap_words, RestStays}
+use Rattle.write_barrier.specs.Seats.{heap_words, RestStays}
 use Rattle.heap_model.specs.Heaps.{Heap}
 use Rattle.heap_model.specs.Changes.{AreFillers}
 use Rattle.heap_model.specs.Collectable.{IsCollectable, AreFreeRuns}
@@ -39,6 +39,7 @@ use Rattle.mutator.specs.Binding.{Binds}
 use Rattle.mutator.specs.CarriesOut.{Carries}
 use Rattle.mutator.proofs.ChangedWords.{rebound_keeps}
 use Rattle.mutator.proofs.KeptStores.{keeps_bound}
+use Rattle.mutator.proofs.StandingCells.{bound_stands}
 
 -- a variable was made to hold a value, and only its root words changed
 pub record HoldsAnew (old new : Mutator) (x : ℕ) (one : Held) : Type 0 where
@@ -162,6 +163,7 @@ binding_carried {old} {new} {graph} after names command x one shows carried none
       after = after;
       means = carried;
       shows = shown_after;
+      cells = bound_stands after x one below shows.shows.whole (heap_bound x one holds);
       takes = λ rooms has. record {
         room = subst (HasRoom old.young) (sym (no_need rooms).0) (room_for_none shows);
         uses = subst (UsesMore old new) (sym (no_need rooms).0) (uses_none x one holds below);

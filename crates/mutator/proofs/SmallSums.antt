@@ -10,7 +10,7 @@ use Rattle.object_graph.specs.declared.value.Value.TheVariants.{Int}
 use Rattle.object_graph.specs.Graphs.{Graph, value_of, integer_in}
 use Rattle.handle_roots.specs.declared.held.Held.TheVariants as held
 use Rattle.handle_roots.specs.Roots.{Holds}
-use Rattle.heap_table.specs.Seats.{heap_words}
+use Rattle.write_barrier.specs.Seats.{heap_words}
 use Rattle.heap_model.specs.Types.{Value, Operand}
 use Rattle.heap_model.specs.Heaps.{Heap}
 use Rattle.heap_model.specs.Showing.{ShowsHeld}

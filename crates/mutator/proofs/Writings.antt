@@ -13,6 +13,7 @@ use Rattle.mutator.specs.CarriesOut.{Carries}
 use Rattle.mutator.proofs.ChangedWords.{still_keeps}
 use Rattle.mutator.proofs.KeptStores.{keeps_still}
 use Rattle.mutator.proofs.Rebinding.{NeedsNone, room_for_none}
+use Rattle.mutator.proofs.StandingCells.{still_stands}
 use Rattle.mutator.proofs.StillShown.{shows_still}
 
 -- a heap that is the same uses no word more
@@ -32,6 +33,7 @@ writing_carried {old} {new} {graph} names command text same shows carried no_nee
   after = graph;
   means = carried;
   shows = shows_still same shows;
+  cells = still_stands graph same;
   takes = λ rooms has. record {
     room = subst (HasRoom old.young) (sym (no_need rooms).0) (room_for_none shows);
     uses = subst (UsesMore old new) (sym (no_need rooms).0) (uses_none_still same);

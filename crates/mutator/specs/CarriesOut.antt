@@ -10,7 +10,7 @@ use Rattle.write_barrier.specs.MutatorState.{Mutator, heap_of, MainShows}
 use Rattle.object_cells.specs.Contents.{next_at}
 use Rattle.object_cells.specs.Uses.{UsesMore}
 use Rattle.mutator.specs.Capacities.{KeepsStores}
-use Rattle.mutator.specs.Changing.{KeepsOtherWords}
+use Rattle.mutator.specs.Changing.{KeepsOtherWords, MakesNoOtherCell}
 use Rattle.mutator.specs.declared.stop.Stop.{Stop}
 use Rattle.mutator.specs.declared.stop.Stop.TheVariants.{Fault, NoRoom, NoClear}
 
@@ -28,13 +28,15 @@ pub record TakesRoom (old new : Mutator) (graph after : Graph) (command : Comman
       graph command
   pub stores : KeepsStores (heap_of old) (heap_of new) graph after command rooms
 
--- The call carried the command out, and wrote the text: the heap then shows what the command means, the words that it
--- needs were taken, and no other words have changed but those of the object that it may change.
+-- The call carried the command out, and wrote the text. The heap then shows what the command means, and no cell stands
+-- there that may not. The words that the command needs were taken. Of the words before the roots no others have changed
+-- but those of the object that it may change.
 pub record HasCarriedOut (names : List (List ℕ)) (old new : Mutator) (graph : Graph) (command : Command)
     (text : List ℕ) : Type 0 where
   pub after : Graph
   pub means : meaning ideal_limits names graph command ≡ done after text
   pub shows : MainShows new after
+  pub cells : MakesNoOtherCell (heap_of old) (heap_of new) after
   pub takes : (rooms : ℕ → Room) → HasRooms (heap_of old) graph rooms → TakesRoom old new graph after command rooms
 
 -- The call carried the command out, or it stops: exactly where the meaning is a fault, or where there is none and the

@@ -4,7 +4,7 @@ ghost use Rattle.std.specs.Prelude.{◌≡◌, ℕ, ℤ, false, List, [], Result
 ghost use Rattle.std.specs.Prelude.{option_and_then};
 ghost use Rattle.tagged_word.specs.Words.{small};
 ghost use Rattle.heap_command.specs.Commands.{IsWithin, NamesBelow};
-ghost use Rattle.heap_table.specs.Seats.{heap_words};
+ghost use Rattle.write_barrier.specs.Seats.{heap_words};
 ghost use Rattle.handle_roots.specs.declared.held.Held.TheVariants.{Int};
 ghost use Rattle.handle_roots.specs.Roots.{Holds};
 ghost use Rattle.object_graph.specs.Graphs.{Graph, value_of, integer_in};

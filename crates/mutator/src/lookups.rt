@@ -7,7 +7,7 @@ ghost use Rattle.object_graph.specs.Graphs.{Graph, value_of, integer_in};
 ghost use Rattle.object_graph.specs.declared.value.Value.{Value};
 ghost use Rattle.handle_roots.specs.declared.held.Held.TheVariants.{Ref};
 ghost use Rattle.handle_roots.specs.Roots.{Holds};
-ghost use Rattle.heap_table.specs.Seats.{heap_words};
+ghost use Rattle.write_barrier.specs.Seats.{heap_words};
 ghost use Rattle.write_barrier.specs.MutatorState.{Mutator, MainShows};
 ghost use Rattle.mutator.specs.Reading.{StandsFor, Finds, FindsBoth, IsShownValue, FindsObject, FindsPlain};
 ghost use Rattle.mutator.specs.Reading.{FindsInteger, FindsKey, FindsList, FindsWeak};

@@ -4,7 +4,7 @@ ghost use Rattle.tagged_word.specs.Headers.{IsHeader};
 ghost use Rattle.page_space.specs.Extents.{marks_start};
 ghost use Rattle.heap_command.specs.Commands.{IsWithin};
 ghost use Rattle.object_graph.specs.Graphs.{Graph};
-ghost use Rattle.heap_table.specs.Seats.{heap_words};
+ghost use Rattle.write_barrier.specs.Seats.{heap_words};
 ghost use Rattle.write_barrier.specs.MutatorState.{MayStore, MainShows, with_table};
 ghost use Rattle.write_barrier.specs.Values.{with_range};
 ghost use Rattle.mutator.specs.Binding.{BindsMade};

@@ -48,7 +48,7 @@ impl Nursery {
         ensures { result ≡ new_young regions.now }
     {
         // The sizes are within their limits.
-        let _words_count = regions.count();
+        regions.sizes_fit();
         Nursery {
             regions: *regions,
             eden: regions.start(Region::Eden),

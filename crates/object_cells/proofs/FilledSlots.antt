@@ -12,7 +12,7 @@ use Rattle.object_graph.specs.declared.value.Rep.TheVariants as rep
 use Rattle.page_space.specs.Extents.{marks_start}
 use Rattle.nursery.specs.Young.{Young, HasRoom}
 use Rattle.handle_roots.specs.declared.held.Held.TheVariants as held
-use Rattle.heap_table.specs.Seats.{heap_words, RestStays}
+use Rattle.write_barrier.specs.Seats.{heap_words, RestStays}
 use Rattle.heap_model.specs.Heaps.{Heap}
 use Rattle.heap_model.specs.Slots.{raw_word, reference_word, IsSlotWord}
 use Rattle.heap_model.specs.Needs.{box_need, box_words, is_box_word, word_at}

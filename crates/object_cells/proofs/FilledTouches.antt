@@ -4,7 +4,7 @@ use Rattle.std.proofs.Common.{length-set}
 use Rattle.std.specs.Prelude.{ℤ, slice_set}
 use Rattle.tagged_word.specs.Headers.{header_bits}
 use Rattle.page_space.specs.Extents.{marks_start}
-use Rattle.heap_table.specs.Seats.{Seat, heap_words}
+use Rattle.write_barrier.specs.Seats.{Seat, heap_words}
 use Rattle.heap_model.specs.Remembered.{Touch}
 use Rattle.heap_model.specs.Needs.{box_words, word_at}
 use Rattle.heap_model.specs.Slots.{raw_word, reference_word, IsSlotWord}

@@ -4,8 +4,8 @@ use Rattle.std.specs.Prelude.{slice_set}
 use Rattle.std.proofs.lemmas.List.{length-replicate}
 use Rattle.tagged_word.specs.Cells.{store_head}
 use Rattle.page_space.specs.Extents.{Space, marks_start}
-use Rattle.heap_table.specs.Seats.{heap_words, RestStays}
-use Rattle.heap_table.specs.Staying.{rest_stays_itself, rest_stays_again}
+use Rattle.write_barrier.specs.Seats.{heap_words, RestStays}
+use Rattle.write_barrier.specs.Staying.{rest_stays_itself, rest_stays_again}
 use Rattle.heap_model.specs.Remembered.{Touch}
 use Rattle.heap_model.specs.Slots.{hole_word}
 use Rattle.write_barrier.specs.MutatorState.{Mutator, forgets, with_word, with_table}

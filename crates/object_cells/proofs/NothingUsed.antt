@@ -2,12 +2,12 @@
 use Rattle.std.proofs.Common.{◌≡◌, ℕ, ◌+◌, ◌≤◌, Bool, true, false, refl, sym, ◌∙◌, ap, arith}
 use Rattle.page_space.specs.Extents.{Space}
 use Rattle.nursery.specs.Young.{Young, HasRoom, HasRoomBy, in_eden}
-use Rattle.heap_table.specs.Seats.{RestStays}
+use Rattle.write_barrier.specs.Seats.{RestStays}
 use Rattle.heap_model.specs.Heaps.{Heap}
 use Rattle.heap_model.specs.Needs.{capacity_at}
 use Rattle.heap_model.specs.Wholeness.{Whole}
 use Rattle.write_barrier.specs.MutatorState.{Mutator, heap_of, IsTied}
-use Rattle.object_cells.specs.Capacities.{ChangesObject}
+use Rattle.object_cells.specs.Capacities.{ChangesObject, IsOldOrOwn}
 use Rattle.object_cells.specs.Uses.{UsesMore}
 use Rattle.object_cells.proofs.TakenRuns.{bumped_none}
 
@@ -39,4 +39,5 @@ nothing_changes heap at capacity same = record {
   stays = λ number other place. place;
   stand = λ cell words has object apart. has;
   none_made = λ number other place. place;
+  cells = λ cell words has. IsOldOrOwn.stood has;
 }

@@ -7,7 +7,7 @@ use Rattle.heap_model.specs.Types.{Path, Cell}
 use Rattle.page_space.specs.Extents.{Space, layouts_start}
 use Rattle.nursery.specs.Young.{Young, HasRoom, bumped}
 use Rattle.cell_layout.specs.Cells.{IsRow}
-use Rattle.heap_table.specs.Seats.{heap_words}
+use Rattle.write_barrier.specs.Seats.{heap_words}
 use Rattle.heap_model.specs.Heaps.{Heap}
 use Rattle.heap_model.specs.Wholeness.{HasSizes, HasRows}
 use Rattle.heap_model.specs.Changes.{IsRunOf}

@@ -1,8 +1,8 @@
 -- How many slots the stores of objects have once words of one object's own cells were written.
-use Rattle.std.proofs.Common.{◌≡◌, ℕ, ◌+◌, ◌<◌, ◌≤◌, inl, inr, List, [], ◌∷◌, Contains, Some}
+use Rattle.std.proofs.Common.{◌≡◌, ℕ, ◌+◌, ◌<◌, ◌≤◌, ◌⊎◌, inl, inr, List, [], ◌∷◌, ◌++◌, Contains, Some}
 use Rattle.std.proofs.Common.{IsTrue, slice_get, refl, sym, ◌∙◌, ap, subst, arith}
 use Rattle.std.proofs.lemmas.Bool.{false≢true}
-use Rattle.std.proofs.lemmas.List.Elements.{Contains-append_right}
+use Rattle.std.proofs.lemmas.List.Elements.{Contains-append_cases, Contains-append_right}
 use Rattle.heap_model.specs.Types.{Kind, Cell}
 use Rattle.tagged_word.specs.declared.layout.Kind.TheVariants as kind
 use Rattle.tagged_word.specs.declared.word.Class.TheVariants.{Ref}
@@ -12,23 +12,24 @@ use Rattle.tagged_word.proofs.Members.{first_in, rest_in, in_cases}
 use Rattle.page_space.specs.Extents.{Space, layouts_start}
 use Rattle.cell_layout.specs.Cells.{IsRow}
 use Rattle.cell_layout.proofs.Rows.{row_begins, row_of_none, rows_are_full}
-use Rattle.heap_model.specs.Heaps.{Heap, words_of_cell}
+use Rattle.heap_model.specs.Heaps.{Heap, HasCell, words_of_cell}
 use Rattle.heap_model.specs.Slots.{reference_word, IsPlace}
 use Rattle.heap_model.specs.Wholeness.{NamesFrom, IsOwnedKind}
 use Rattle.heap_model.specs.Needs.{capacity_at}
 use Rattle.heap_model.proofs.CellOutcomes.{cells_move, object_is_no_filler, owned_is_no_filler, stays_standing}
 use Rattle.heap_model.proofs.CellsApart.{IsOfCell}
-use Rattle.heap_model.proofs.OneOwner.{one_owner}
+use Rattle.heap_model.specs.Kinds.{HasWord}
+use Rattle.heap_model.proofs.OneOwner.{names_store, one_owner}
 use Rattle.heap_model.proofs.SlotWords.{IsStoreKind, store_is_owned}
-use Rattle.object_cells.specs.CellWrites.{IsInCell}
+use Rattle.object_cells.specs.CellWrites.{IsInCell, reshaped}
 use Rattle.object_cells.specs.OwnWords.{IsOwnWord}
-use Rattle.object_cells.specs.Capacities.{ChangesObject, WritesBeside, CapacitiesStay, CapacitiesGrow}
+use Rattle.object_cells.specs.Capacities.{ChangesObject, IsOldOrOwn, WritesBeside, CapacitiesStay, CapacitiesGrow}
 use Rattle.object_cells.proofs.KeptCapacities.{capacity_of_store, slot_keeps, place_keeps, stands_there}
 use Rattle.object_cells.proofs.OwnerWrites.{plain_owns}
 use Rattle.object_cells.proofs.OwnSteps.{OwnWriting, own_writing, stood, went_object, came_object, own_places_stay}
 use Rattle.object_cells.proofs.OwnCells.{word_stays}
 use Rattle.object_cells.proofs.WrittenPlaces.{IsStoreOrBox}
-use Rattle.object_cells.proofs.SlotsNow.{PutsOwn, store_is_no_object, beside_stands, plain_cell_size}
+use Rattle.object_cells.proofs.SlotsNow.{PutsOwn, store_is_no_object, store_now, beside_stands, plain_cell_size}
 
 -- a cell that is owned and has a length is a store or a table
 pub owned_is_store : (k : Kind) → IsOwnedKind k → IsTrue (has_length k) → IsStoreKind k
@@ -97,14 +98,27 @@ module _ {old new : Heap} {cell came : Cell} {others beside made : List Cell}
     within = inside;
   }
 
+  -- a cell stands there that stood, or came or was made
+  came_or_old : ((other : Cell) (words : List ℕ) → Contains (beside ++ made) other
+      → IsOldOrOwn old new cell.at other words) → (other : Cell) (words : List ℕ) → HasCell new other words
+      → IsOldOrOwn old new cell.at other words
+  came_or_old rest other words has = elim (writing.step.cells.back other words has) [
+    | inl comes ↦ elim (in_cases came (beside ++ made) other comes) [
+      | inl same ↦ IsOldOrOwn.itself (ap (λ (one : Cell). one.at) (sym same) ∙ writing.step.place)
+      | inr among ↦ rest other words among
+    ]
+    | inr stays ↦ IsOldOrOwn.stood stays.0
+  ]
+
   -- Then the object comes to have a store of so many slots, and each other object keeps the capacity of its own; and
   -- where only words of these cells and of a run have changed, those of the cells are words of the object.
   pub own_capacities : (from to capacity : ℕ) → capacity_at new cell.at ≡ capacity
+      → ((other : Cell) (words : List ℕ) → Contains (beside ++ made) other → IsOldOrOwn old new cell.at other words)
       → ((at : ℕ) → at < layouts_start old.space
       → ((other : Cell) → Contains (cell ∷ others) other → IsInCell at other → ⊥) → (from ≤ at → at < to → ⊥)
       → slice_get new.words at ≡ slice_get old.words at)
       → ChangesObject old new from to cell.at capacity
-  own_capacities from to capacity holds stay = record {
+  own_capacities from to capacity holds rest stay = record {
     words = λ word below not_own not_new.
         stay word below (λ other there inside. not_own (gone_own other word there inside)) not_new;
     own = holds;
@@ -123,6 +137,7 @@ module _ {old new : Heap} {cell came : Cell} {others beside made : List Cell}
         stays_standing (cells_move writing.step.cells) has (object_is_no_filler other.layout.kind object)
         (λ there. apart (sym (ap (λ (one : Cell). one.at) (went_object writing.step other there object))));
     none_made = none_made;
+    cells = came_or_old rest;
   }
 
 module _ {owner owned : Kind} {old new : Heap} {cell came : Cell} {others made : List Cell}
@@ -131,10 +146,33 @@ module _ {owner owned : Kind} {old new : Heap} {cell came : Cell} {others made :
   own : OwnWriting old new cell came others others made
   own = own_writing writing.owns writing.whole writing.writes writing.belong writing.kinds
 
+  -- what came or was made beside the object's cell is a store or table, or a box
+  owned_or_box : (other : Cell) → Contains (others ++ made) other
+      → (other.layout.kind ≡ owned) ⊎ (other.layout.kind ≡ kind.Boxed)
+  owned_or_box other among = elim (Contains-append_cases others made other among) [
+    | inl there ↦ (writing.writes.beside other there).of_kind
+    | inr there ↦ writing.kinds other there
+  ]
+
+  -- the former is the object's
+  beside_own : (other : Cell) (words : List ℕ) → Contains (others ++ made) other
+      → IsOldOrOwn old new cell.at other words
+  beside_own other words among = elim (owned_or_box other among) [
+    | inl is ↦
+        let has = own.step.cells.comes other (rest_in came (others ++ made) other among) in
+        let store : IsStoreKind other.layout.kind =
+        subst IsStoreKind (sym is) (owned_is_store owned writing.owns.belongs writing.owns.long) in
+        IsOldOrOwn.named came (came.at + store_slot) own.step.place
+        (names_store (reference_word other.at) (own.step.cells.comes came (first_in came (others ++ made)))
+        own.step.still_object (writing.stores other among is) (record { refers = refl; has = has }) store)
+    | inr boxed ↦ IsOldOrOwn.boxed boxed
+  ]
+
   -- so each other object keeps the capacity of its store
   others_keep : {from to : ℕ} → IsRow new.space new.words from to made → (capacity : ℕ)
       → capacity_at new cell.at ≡ capacity → ChangesObject old new from to cell.at capacity
-  others_keep {from} {to} row capacity holds = own_capacities own from to capacity holds (λ at below apart not_made.
+  others_keep {from} {to} row capacity holds =
+      own_capacities own from to capacity holds beside_own (λ at below apart not_made.
       writing.writes.stay at below (λ inside. apart cell (first_in cell others) inside)
       (λ other among inside. apart other (rest_in cell others other among) inside)
       (λ low high.
@@ -173,16 +211,26 @@ capacities_grow owner owned old new cell came others made store beside among of_
     object_grows beside beside.writes.made_stand store among of_kind fits there
 
 -- a plain object keeps its capacity where one word was put, and not that one
-pub one_keeps : {old new : Heap} {cell : Cell} {shape at word from to : ℕ} {others made : List Cell}
+pub one_keeps : {old new : Heap} {cell : Cell} {shape at word from to store : ℕ} {others made : List Cell}
     → PutsOwn old new cell shape at word others made → IsRow new.space new.words from to made
     → ((other : Cell) → Contains others other → (slot : ℕ) × NamesFrom old cell slot other.at)
     → ((other : Cell) → Contains made other → IsStoreOrBox other.layout.kind)
-    → ChangesObject old new from to cell.at (capacity_at old cell.at)
-one_keeps {cell = cell} puts row belong kinds =
+    → HasWord (words_of_cell old cell) store_slot store
+    → ((other : Cell) → Contains (others ++ made) other → other.layout.kind ≡ kind.Store
+    → store ≡ reference_word other.at) → ChangesObject old new from to cell.at (capacity_at old cell.at)
+one_keeps {new = new} {cell} {shape} puts row belong kinds slot refers =
     let within : store_slot < cell.size = omega (arith, plain_cell_size puts.has puts.plain) in
     let of_cell : IsOfCell cell (cell.at + store_slot) = record { from = omega arith; below = omega (arith, within) } in
     object_keeps
-    (record { owns = plain_owns; whole = puts.whole; writes = puts.writes; belong = belong; kinds = kinds }) row
+    (record {
+      owns = plain_owns;
+      whole = puts.whole;
+      writes = puts.writes;
+      belong = belong;
+      kinds = kinds;
+      stores = λ other among is. subst (HasWord (words_of_cell new (reshaped new.paths cell shape)) store_slot)
+          (refers other among is) (store_now puts slot);
+    }) row
     (word_stays (cell.at + store_slot) puts.whole puts.one puts.has
     (object_is_no_filler cell.layout.kind (ap is_object_kind puts.plain)) of_cell (λ same. omega (arith, same))
     puts.not_store)

@@ -11,8 +11,8 @@ use Rattle.tagged_word.proofs.Members.{first_in, rest_in, one_in, in_cases}
 use Rattle.page_space.specs.Extents.{marks_start}
 use Rattle.nursery.specs.Young.{bumped}
 use Rattle.object_graph.proofs.Lists.{slice_get-set_same, slice_get-set_other}
-use Rattle.heap_table.specs.Seats.{heap_words, RestStays}
-use Rattle.heap_table.specs.Staying.{rest_stays_itself}
+use Rattle.write_barrier.specs.Seats.{heap_words, RestStays}
+use Rattle.write_barrier.specs.Staying.{rest_stays_itself}
 use Rattle.heap_model.specs.Types.{Kind, Cell}
 use Rattle.heap_model.specs.Changes.{CellsChange}
 use Rattle.heap_model.specs.Heaps.{HasCell, words_of_cell}
@@ -170,6 +170,8 @@ module _ {owner owned : Kind} {old new : Mutator} {cell : Cell} {word box : ℕ}
           writing.named.1,
     );
     kinds = λ one among. absurd (none_in one among);
+    stores = λ one among is. absurd (owned_is_no_box writing.owns is
+        (ap (λ (c : Cell). c.layout.kind) (sym (one_in one_box one among)) ∙ writing.box_of.box));
   }
 
   -- the cells stand in the new heap

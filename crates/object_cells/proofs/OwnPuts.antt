@@ -9,7 +9,7 @@ use Rattle.page_space.specs.Extents.{Space, layouts_start}
 use Rattle.page_space.proofs.Starts.{roots_start_is, layouts_start_is, marks_start_is}
 use Rattle.nursery.specs.Young.{Young, HasRoom}
 use Rattle.cell_layout.specs.Cells.{IsRow}
-use Rattle.heap_table.specs.Seats.{heap_words}
+use Rattle.write_barrier.specs.Seats.{heap_words}
 use Rattle.heap_model.specs.Heaps.{Heap, HasCell, words_of_cell}
 use Rattle.heap_model.specs.Wholeness.{Whole, HasSizes}
 use Rattle.write_barrier.specs.MutatorState.{Mutator, heap_of, IsTied, reserved}

@@ -6,9 +6,9 @@ use Rattle.page_space.specs.Extents.{Space, marks_start}
 use Rattle.page_space.proofs.Starts.{layouts_start_is, marks_start_is}
 use Rattle.heap_model.specs.Types.{Held}
 use Rattle.handle_roots.specs.Roots.{root_at, first_word, second_word}
-use Rattle.heap_table.specs.Seats.{Seat, heap_words, RestStays}
-use Rattle.heap_table.specs.Staying.{rest_stays_itself, rest_stays_again}
-use Rattle.heap_table.proofs.HeapWords.{stays_beside-put}
+use Rattle.write_barrier.specs.Seats.{Seat, heap_words, RestStays}
+use Rattle.write_barrier.specs.Staying.{rest_stays_itself, rest_stays_again}
+use Rattle.write_barrier.proofs.HeapWords.{stays_beside-put}
 use Rattle.heap_model.specs.Slots.{raw_word, reference_word}
 use Rattle.write_barrier.specs.MutatorState.{Mutator, with_table, with_variable, reserved}
 use Rattle.write_barrier.specs.Values.{with_range}
@@ -45,6 +45,7 @@ range_beside main at others counted within = record {
   space = refl;
   phase = refl;
   count = length-with_range main.seat.table others at (omega (arith, counted, within));
+  shared = refl;
 }
 
 -- it stays where a box is made before the marks

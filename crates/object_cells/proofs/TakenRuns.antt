@@ -6,7 +6,7 @@ use Rattle.page_space.specs.Extents.{Space, eden_start}
 use Rattle.nursery.specs.Young.{Young, HasRoom, HasRoomBy, in_eden, next_of, bumped, rest_of}
 use Rattle.cell_layout.specs.Cells.{IsRow}
 use Rattle.cell_layout.proofs.Rows.{cell_within}
-use Rattle.heap_table.specs.Seats.{RestStays}
+use Rattle.write_barrier.specs.Seats.{RestStays}
 use Rattle.heap_model.specs.Types.{Run, Cell}
 use Rattle.heap_model.specs.Heaps.{Heap}
 use Rattle.heap_model.specs.Wholeness.{HasRows}

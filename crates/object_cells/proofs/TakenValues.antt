@@ -159,14 +159,17 @@ module _ {owner owned : Kind} {old new : Heap} {cell came : Cell} {others firsts
     | inr is_box ↦ made_sound takes.objects box one takes.value takes.fits takes.stands (box_has one is_box) is_box
   ]
 
-  -- so stores, tables and boxes were made beside it
-  pub taken_beside : WritesBeside owner owned old new cell came others made
-  taken_beside = record {
+  -- so stores, tables and boxes were made beside it, where the slot for its store holds the word
+  pub taken_beside : HasWord (words_of_cell new came) store_slot store
+      → WritesBeside owner owned old new cell came others made
+  taken_beside slot = record {
     owns = takes.owns;
     whole = takes.whole;
     writes = takes.writes;
     belong = takes.belong;
     kinds = made_kinds;
+    stores = λ one among is.
+        subst (HasWord (words_of_cell new came) store_slot) (stores_told one among is).1 slot;
   }
 
 -- so it is where a run was filled for the object, whose cell is its own

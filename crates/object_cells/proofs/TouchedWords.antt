@@ -2,7 +2,7 @@
 use Rattle.std.proofs.Common.{◌≡◌, ℕ, ◌<◌, ◌≤◌, ◌⊎◌, inl, inr, length, refl, sym}
 use Rattle.std.proofs.Common.{◌∙◌, ap, subst, arith}
 use Rattle.page_space.specs.Extents.{Space, marks_start}
-use Rattle.heap_table.specs.Seats.{Seat, heap_words, RestStays}
+use Rattle.write_barrier.specs.Seats.{Seat, heap_words, RestStays}
 use Rattle.heap_model.specs.Remembered.{Touch}
 use Rattle.write_barrier.specs.MutatorState.{Mutator, reserved, with_word, with_slot}
 use Rattle.write_barrier.specs.Recording.{Touches, touched, touched_again, touched_one, touched_then}

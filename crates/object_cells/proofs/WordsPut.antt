@@ -6,8 +6,8 @@ use Rattle.page_space.specs.Extents.{Space, layouts_start, marks_start}
 use Rattle.shape_tree.specs.Shapes.{AreShapes}
 use Rattle.shape_tree.specs.ShapeLayouts.{layout_word}
 use Rattle.object_graph.proofs.Lists.{slice_get-set_same, slice_get-set_other}
-use Rattle.heap_table.specs.Seats.{Seat, heap_words, RestStays}
-use Rattle.heap_table.proofs.HeapWords.{stays_beside-put}
+use Rattle.write_barrier.specs.Seats.{Seat, heap_words, RestStays}
+use Rattle.write_barrier.proofs.HeapWords.{stays_beside-put}
 use Rattle.heap_model.specs.Wholeness.{HasSizes}
 use Rattle.write_barrier.specs.MutatorState.{Mutator, heap_of, put_word, with_word, with_slot}
 use Rattle.object_cells.proofs.RestOfWords.{put_rest}

@@ -9,7 +9,7 @@ use Rattle.object_graph.specs.declared.value.Rep.TheVariants as rep
 use Rattle.page_space.specs.Extents.{Space, marks_start}
 use Rattle.nursery.specs.Young.{HasRoom, next_of}
 use Rattle.handle_roots.specs.declared.held.Held.TheVariants as held
-use Rattle.heap_table.specs.Seats.{RestStays}
+use Rattle.write_barrier.specs.Seats.{RestStays}
 use Rattle.heap_model.specs.Heaps.{Heap}
 use Rattle.heap_model.specs.Slots.{small_word, undefined_word, reference_word, raw_word, IsSlotWord}
 use Rattle.heap_model.specs.Needs.{box_words, is_box_word, word_at}

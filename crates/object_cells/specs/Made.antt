@@ -9,7 +9,7 @@ use Rattle.nursery.specs.Young.{HasRoom}
 use Rattle.heap_model.specs.Types.{Cell, Held}
 use Rattle.handle_roots.specs.declared.held.Held.TheVariants as held
 use Rattle.word_store.specs.Copies.{copied}
-use Rattle.heap_table.specs.Seats.{heap_words, RestStays}
+use Rattle.write_barrier.specs.Seats.{heap_words, RestStays}
 use Rattle.heap_model.specs.Heaps.{Heap, HasCell}
 use Rattle.heap_model.specs.Slots.{reference_word, raw_word, HoldsStore}
 use Rattle.heap_model.specs.Kinds.{HasWord}

@@ -1,7 +1,7 @@
 -- How many words were taken from where cells are made, and what stays beside the words.
 use Rattle.std.specs.Prelude.{◌≡◌, ℕ, ◌+◌, ◌≤◌, List, Contains}
 use Rattle.nursery.specs.Young.{HasRoom, bumped}
-use Rattle.heap_table.specs.Seats.{RestStays}
+use Rattle.write_barrier.specs.Seats.{RestStays}
 use Rattle.heap_model.specs.Types.{Cell}
 use Rattle.write_barrier.specs.MutatorState.{Mutator}
 use Rattle.object_cells.specs.Contents.{next_at}

@@ -2,7 +2,7 @@
 ghost use Rattle.std.specs.Prelude.{◌≡◌, ℕ, ℤ, ◌+◌, ◌<◌, ◌≤◌, Some, OnErr, IfOk, IfErr};
 ghost use Rattle.tagged_word.specs.Readings.{reference_in};
 ghost use Rattle.page_space.specs.Extents.{marks_start};
-ghost use Rattle.heap_table.specs.Seats.{heap_words};
+ghost use Rattle.write_barrier.specs.Seats.{heap_words};
 ghost use Rattle.heap_model.specs.Needs.{box_words, word_at};
 ghost use Rattle.write_barrier.specs.MutatorState.{MayStore, heap_of, IsTied};
 ghost use Rattle.write_barrier.specs.Recording.{Touches};

@@ -2,7 +2,7 @@
 ghost use Rattle.std.specs.Prelude.{◌≡◌, ◌+◌, ◌≤◌, ◌<◌, slice_set};
 ghost use Rattle.tagged_word.specs.Headers.{header_bits};
 ghost use Rattle.page_space.specs.Extents.{marks_start};
-ghost use Rattle.heap_table.specs.Seats.{heap_words};
+ghost use Rattle.write_barrier.specs.Seats.{heap_words};
 ghost use Rattle.heap_model.specs.Slots.{raw_word};
 ghost use Rattle.write_barrier.specs.MutatorState.{MayStore, with_word};
 ghost use Rattle.write_barrier.specs.Recording.{Touches};

@@ -29,7 +29,8 @@ pub fn laws_of_writes()
 /// made, only words of the object have changed, and those of the run in which these were made. It
 /// keeps the capacity of its store or table where the word that refers to it stays, and has that of
 /// one that was made where it refers to this one. Each other object keeps its capacity; each stands
-/// where it stood, and none is made.
+/// where it stood, and none is made. Where each store or table that was written or made is the one to
+/// which the object refers, no other cell with slots stands there that did not stand before.
 pub fn laws_of_capacities()
     ensures stay { CapacitiesStay }
     ensures grow { CapacitiesGrow }

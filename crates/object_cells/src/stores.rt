@@ -4,7 +4,7 @@ ghost use Rattle.tagged_word.specs.Cells.{store_head, store_slot, cell_words_mos
 ghost use Rattle.page_space.specs.Extents.{marks_start};
 ghost use Rattle.nursery.specs.Young.{HasRoom};
 ghost use Rattle.word_store.specs.Copies.{AreDisjoint};
-ghost use Rattle.heap_table.specs.Seats.{heap_words};
+ghost use Rattle.write_barrier.specs.Seats.{heap_words};
 ghost use Rattle.heap_model.specs.Remembered.{Touch};
 ghost use Rattle.write_barrier.specs.MutatorState.{MayStore, heap_of, IsTied, reserved};
 ghost use Rattle.write_barrier.specs.Recording.{Touches, touched_one, touched_then};

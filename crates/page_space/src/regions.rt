@@ -107,6 +107,14 @@ impl Regions {
         self.count
     }
 
+    /// The sizes are within their limits. The call says so, and does nothing else.
+    #[inline(always)]
+    pub fn sizes_fit(&self)
+        ensures { AreWithin self.now.sizes self.now.variables }
+    {
+        let _words_count = self.count();
+    }
+
     /// The region that an address is in.
     pub fn region(&self, a: u32) -> Region
         ensures inside { a < words_count self.now → IsIn self.now a result }

@@ -8,8 +8,8 @@ use Rattle.page_space.specs.Extents.{eden_start}
 use Rattle.nursery.specs.Young.{Young, with_granted}
 use Rattle.cell_layout.proofs.OneCell.{one_cell}
 use Rattle.free_runs.specs.FreeRuns.{AreFree, AreShort, FitsNowhere, TakesFront}
-use Rattle.heap_table.specs.Seats.{RestStays, heap_words}
-use Rattle.heap_table.specs.Staying.{rest_stays_again}
+use Rattle.write_barrier.specs.Seats.{RestStays, heap_words}
+use Rattle.write_barrier.specs.Staying.{rest_stays_again}
 use Rattle.heap_model.specs.Types.{Cell, Run}
 use Rattle.heap_model.specs.Heaps.{HasCell}
 use Rattle.heap_model.specs.Remembered.{Touch}

@@ -9,7 +9,7 @@ use Rattle.page_space.specs.Extents.{Space, eden_start}
 use Rattle.cell_layout.proofs.OneCell.{cells_have_words}
 use Rattle.free_runs.specs.FreeRuns.{TakesFront, FitsNowhere}
 use Rattle.nursery.specs.Young.{other_half}
-use Rattle.heap_table.specs.Seats.{heap_words}
+use Rattle.write_barrier.specs.Seats.{heap_words}
 use Rattle.heap_model.specs.Types.{Cell, Run}
 use Rattle.write_barrier.specs.MutatorState.{Mutator}
 use Rattle.scav_copy.specs.declared.places.Home.{Home}

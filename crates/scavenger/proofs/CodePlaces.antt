@@ -8,7 +8,7 @@ use Rattle.page_space.specs.Extents.{marks_start}
 use Rattle.word_store.specs.Copies.{copied}
 use Rattle.free_runs.specs.FreeRuns.{TakesFront}
 use Rattle.remembered_set.specs.Recorded.{Recorded, IsBetween}
-use Rattle.heap_table.specs.Seats.{Seat, RestStays, heap_words}
+use Rattle.write_barrier.specs.Seats.{Seat, RestStays, heap_words}
 use Rattle.heap_model.specs.Types.{Cell, Run}
 use Rattle.heap_model.specs.Remembered.{Touch, IsRecordedBy}
 use Rattle.write_barrier.specs.MutatorState.{Mutator, wiped, forgets, with_word, with_table}

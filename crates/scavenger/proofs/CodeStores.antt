@@ -10,8 +10,8 @@ use Rattle.tagged_word.specs.Readings.{reference_in}
 use Rattle.tagged_word.proofs.Readings.{reference_to}
 use Rattle.page_space.specs.Extents.{eden_start, marks_start}
 use Rattle.remembered_set.specs.Recorded.{Recorded}
-use Rattle.heap_table.specs.Seats.{RestStays, heap_words}
-use Rattle.heap_table.proofs.HeapWords.{stays_beside-put}
+use Rattle.write_barrier.specs.Seats.{RestStays, heap_words}
+use Rattle.write_barrier.proofs.HeapWords.{stays_beside-put}
 use Rattle.heap_model.specs.Types.{Run}
 use Rattle.write_barrier.specs.MutatorState.{Mutator, judged, with_slot}
 use Rattle.write_barrier.proofs.JudgedSlots.{judges_one, judged_behind, told_young}

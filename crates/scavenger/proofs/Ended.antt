@@ -8,7 +8,7 @@ use Rattle.nursery.specs.Young.{Young, IsYoung, other_half}
 use Rattle.free_runs.specs.FreeRuns.{AreFree, longest_of}
 use Rattle.free_runs.specs.Laws.{IsFreeWord}
 use Rattle.free_runs.proofs.Takes.{longest_tells}
-use Rattle.heap_table.specs.Seats.{heap_words}
+use Rattle.write_barrier.specs.Seats.{heap_words}
 use Rattle.heap_model.specs.Collectable.{IsCollectable, AreFreeRuns}
 use Rattle.heap_model.specs.Remembered.{AreRemembered}
 use Rattle.heap_model.proofs.CellsApart.{has_is_cell}

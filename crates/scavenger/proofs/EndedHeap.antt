@@ -6,7 +6,7 @@ use Rattle.std.proofs.lemmas.List.Sums.{sum_by-cons}
 use Rattle.tagged_word.proofs.Members.{first_in, one_in}
 use Rattle.page_space.specs.Extents.{eden_start}
 use Rattle.nursery.specs.Young.{Young, IsYoung, turned}
-use Rattle.heap_table.specs.Seats.{heap_words}
+use Rattle.write_barrier.specs.Seats.{heap_words}
 use Rattle.heap_model.specs.Types.{Cell}
 use Rattle.heap_model.specs.Heaps.{HasCell}
 use Rattle.heap_moves.specs.Moved.{IsMoved}

@@ -17,7 +17,7 @@ use Rattle.cell_layout.specs.Cells.{IsCell}
 use Rattle.cell_layout.proofs.OneCell.{cell_is_sized}
 use Rattle.heap_model.specs.Types.{Cell}
 use Rattle.nursery.specs.Young.{other_half}
-use Rattle.heap_table.specs.Seats.{heap_words}
+use Rattle.write_barrier.specs.Seats.{heap_words}
 use Rattle.heap_walk.specs.Standing.{StandsAt}
 use Rattle.write_barrier.specs.MutatorState.{Mutator}
 use Rattle.scav_copy.specs.declared.places.Home.{Home}

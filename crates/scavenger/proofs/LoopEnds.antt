@@ -6,7 +6,7 @@ use Rattle.page_space.specs.RegionLaws.{IsSpace}
 use Rattle.page_space.proofs.LawsHold.{kinds_by_number}
 use Rattle.nursery.specs.Young.{Young, turned, other_half}
 use Rattle.remembered_set.specs.Recorded.{Recorded}
-use Rattle.heap_table.specs.Seats.{heap_words}
+use Rattle.write_barrier.specs.Seats.{heap_words}
 use Rattle.heap_model.specs.Types.{Run}
 use Rattle.write_barrier.specs.MutatorState.{Mutator}
 use Rattle.scav_copy.specs.declared.places.Home.{Home}

@@ -5,7 +5,7 @@ use Rattle.std.proofs.lemmas.Bool.{cases_eq}
 use Rattle.page_space.specs.Extents.{Space, eden_start, roots_start}
 use Rattle.page_space.proofs.LawsHold.{kinds_by_number}
 use Rattle.nursery.specs.Young.{Young, other_half}
-use Rattle.heap_table.specs.Seats.{heap_words}
+use Rattle.write_barrier.specs.Seats.{heap_words}
 use Rattle.write_barrier.specs.MutatorState.{Mutator}
 use Rattle.scav_copy.specs.declared.places.Home.{Home}
 use Rattle.scav_copy.specs.Places.{Fixed, size_of, StoodAt}
@@ -44,6 +44,7 @@ changes_since {first} {old} {new} before now = record {
     space = now.seat.space ∙ sym before.seat.space;
     phase = now.seat.phase ∙ sym before.seat.phase;
     count = now.seat.count ∙ sym before.seat.count;
+    shared = now.seat.shared ∙ sym before.seat.shared;
   };
   paths = now.paths ∙ sym before.paths;
   young = now.young ∙ sym before.young;

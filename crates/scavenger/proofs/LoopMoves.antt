@@ -7,7 +7,7 @@ use Rattle.page_space.specs.Extents.{Space, marks_start}
 use Rattle.page_space.proofs.LawsHold.{kinds_by_number}
 use Rattle.cell_layout.proofs.OneCell.{cells_have_words}
 use Rattle.heap_model.specs.Types.{Cell}
-use Rattle.heap_table.specs.Seats.{heap_words}
+use Rattle.write_barrier.specs.Seats.{heap_words}
 use Rattle.heap_walk.specs.Standing.{StandsAt}
 use Rattle.write_barrier.specs.MutatorState.{Mutator}
 use Rattle.scav_copy.specs.Places.{StoodAt}

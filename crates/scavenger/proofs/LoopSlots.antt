@@ -13,7 +13,7 @@ use Rattle.scav_copy.specs.declared.places.Home.{Home}
 use Rattle.scav_copy.specs.Places.{Fixed, size_of, offsets_of, IsInCopy, StoodAt}
 use Rattle.scav_copy.proofs.Reading.{copies_end}
 use Rattle.scav_copy.proofs.Spots.{copy_in_room, slot_in_cell, within_by}
-use Rattle.heap_table.specs.Seats.{heap_words}
+use Rattle.write_barrier.specs.Seats.{heap_words}
 use Rattle.scavenger.specs.declared.progress.Progress.{Progress}
 use Rattle.scavenger.specs.Starts.{Start}
 use Rattle.scavenger.specs.Filling.{Front, IsToDo}

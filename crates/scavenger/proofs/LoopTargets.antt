@@ -13,7 +13,7 @@ use Rattle.free_runs.specs.FreeRuns.{TakesFront}
 use Rattle.nursery.specs.Young.{Young}
 use Rattle.heap_model.specs.Types.{Cell, Run}
 use Rattle.heap_table.specs.Phases.{Quiet}
-use Rattle.heap_table.specs.Seats.{heap_words}
+use Rattle.write_barrier.specs.Seats.{heap_words}
 use Rattle.write_barrier.specs.MutatorState.{Mutator}
 use Rattle.write_barrier.specs.FreeCells.{with_free_cell}
 use Rattle.write_barrier.proofs.FreeCells.{cell_beside}

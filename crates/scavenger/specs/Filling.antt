@@ -6,7 +6,7 @@ use Rattle.page_space.specs.declared.region.Region.TheVariants.{Segment}
 use Rattle.page_space.specs.Sizes.{page_words}
 use Rattle.page_space.specs.Extents.{Space, StartsAt, eden_start}
 use Rattle.cell_layout.specs.Cells.{IsRow}
-use Rattle.heap_table.specs.Seats.{RestStays, heap_words}
+use Rattle.write_barrier.specs.Seats.{RestStays, heap_words}
 use Rattle.free_runs.specs.FreeRuns.{AreFree}
 use Rattle.free_runs.specs.Laws.{IsFreeWord}
 use Rattle.heap_model.specs.Types.{Cell, Run}

@@ -5,7 +5,7 @@ use Rattle.page_space.specs.Extents.{eden_start}
 use Rattle.nursery.specs.Young.{HasRoom, with_granted}
 use Rattle.free_runs.specs.FreeRuns.{AreFree, TakesFront}
 use Rattle.object_graph.specs.Graphs.{Graph}
-use Rattle.heap_table.specs.Seats.{RestStays, heap_words}
+use Rattle.write_barrier.specs.Seats.{RestStays, heap_words}
 use Rattle.heap_model.specs.Types.{Cell, Run}
 use Rattle.heap_model.specs.Heaps.{HasCell}
 use Rattle.heap_model.specs.Needs.{capacity_at}

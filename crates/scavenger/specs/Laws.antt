@@ -8,7 +8,7 @@ use Rattle.page_space.specs.RegionLaws.{IsSpace}
 use Rattle.nursery.specs.Young.{IsYoung, turned}
 use Rattle.free_runs.specs.FreeRuns.{AreFree, longest_of}
 use Rattle.free_runs.specs.Laws.{IsFreeWord}
-use Rattle.heap_table.specs.Seats.{RestStays, heap_words}
+use Rattle.write_barrier.specs.Seats.{RestStays, heap_words}
 use Rattle.heap_model.specs.Types.{Cell, Run}
 use Rattle.heap_model.specs.Heaps.{Heap, HasCell}
 use Rattle.heap_model.specs.Reaching.{IsReached, IsTight, FillsPages}

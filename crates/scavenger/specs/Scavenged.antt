@@ -5,7 +5,7 @@ use Rattle.page_space.specs.Extents.{Space, eden_start, roots_start}
 use Rattle.nursery.specs.Young.{turned}
 use Rattle.free_runs.specs.FreeRuns.{AreFree, longest_of}
 use Rattle.free_runs.specs.Laws.{IsFreeWord}
-use Rattle.heap_table.specs.Seats.{RestStays, heap_words}
+use Rattle.write_barrier.specs.Seats.{RestStays, heap_words}
 use Rattle.heap_model.specs.Types.{Cell, Run}
 use Rattle.heap_model.specs.Heaps.{HasCell}
 use Rattle.heap_moves.specs.Moved.{IsMoved}

@@ -8,7 +8,7 @@ use Rattle.cell_layout.specs.Cells.{IsSized}
 use Rattle.nursery.specs.Young.{other_half}
 use Rattle.free_runs.specs.FreeRuns.{FitsNowhere, TakesFront}
 use Rattle.heap_table.specs.Phases.{Quiet}
-use Rattle.heap_table.specs.Seats.{heap_words}
+use Rattle.write_barrier.specs.Seats.{heap_words}
 use Rattle.heap_model.specs.Types.{Cell, Run}
 use Rattle.heap_model.specs.Remembered.{RefersToYoung}
 use Rattle.write_barrier.specs.MutatorState.{Mutator}

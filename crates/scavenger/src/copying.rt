@@ -9,7 +9,7 @@ ghost use Rattle.free_runs.specs.FreeRuns.{FitsNowhere, TakesFront};
 ghost use Rattle.cell_layout.specs.Cells.{IsCell};
 ghost use Rattle.heap_model.specs.Types.{Cell, Run};
 ghost use Rattle.heap_table.specs.Phases.{Quiet};
-ghost use Rattle.heap_table.specs.Seats.{heap_words};
+ghost use Rattle.write_barrier.specs.Seats.{heap_words};
 ghost use Rattle.write_barrier.specs.MutatorState.{Mutator};
 ghost use Rattle.scavenger.specs.Filling.{Front};
 ghost use Rattle.scav_copy.specs.Places.{StoodAt};

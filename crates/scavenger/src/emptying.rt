@@ -2,7 +2,7 @@
 ghost use Rattle.std.specs.Prelude.{◌≡◌, ◌≤◌};
 ghost use Rattle.page_space.specs.Extents.{eden_start, marks_start};
 ghost use Rattle.heap_table.specs.Phases.{Quiet};
-ghost use Rattle.heap_table.specs.Seats.{heap_words};
+ghost use Rattle.write_barrier.specs.Seats.{heap_words};
 ghost use Rattle.scavenger.specs.Filling.{ChangesWords, IsEmptied};
 ghost use Rattle.scavenger.specs.Walking.{EndsCopies, EmptiesSegments};
 

@@ -35,7 +35,7 @@ impl Spaces {
         ensures { AreSpaces regions.now half promote_all result }
     {
         // The sizes are within their limits.
-        let _words_count = regions.count();
+        regions.sizes_fit();
         let sizes = regions.sizes();
         let helpers = sizes.helpers;
         let eden = regions.start(Region::Eden);

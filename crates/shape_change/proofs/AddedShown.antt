@@ -8,8 +8,8 @@ use Rattle.object_graph.specs.Invariants.{IsValue}
 use Rattle.object_graph.specs.Limits.{paths_most}
 use Rattle.nursery.specs.Young.{HasRoom}
 use Rattle.cell_layout.specs.Cells.{IsRow}
-use Rattle.heap_table.specs.Seats.{heap_words}
-use Rattle.heap_table.specs.Staying.{rest_stays_again}
+use Rattle.write_barrier.specs.Seats.{heap_words}
+use Rattle.write_barrier.specs.Staying.{rest_stays_again}
 use Rattle.shape_tree.specs.Shapes.{shape_path, stepped}
 use Rattle.heap_model.specs.Heaps.{HasCell, words_of_cell}
 use Rattle.heap_model.specs.Kinds.{IsPlainCell}

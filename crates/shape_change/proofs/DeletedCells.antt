@@ -13,7 +13,7 @@ use Rattle.shape_tree.specs.Shapes.{shape_path, without}
 use Rattle.cell_layout.specs.Cells.{IsRow}
 use Rattle.heap_model.proofs.CellsApart.{first_of_cell}
 use Rattle.nursery.specs.Young.{Young}
-use Rattle.heap_table.specs.Seats.{heap_words}
+use Rattle.write_barrier.specs.Seats.{heap_words}
 use Rattle.write_barrier.specs.MutatorState.{Mutator, heap_of}
 use Rattle.tagged_word.specs.declared.layout.Kind.TheVariants as kind
 use Rattle.object_cells.specs.CellWrites.{IsInCell, IsWrittenOfKind, Becomes, reshaped}

@@ -14,8 +14,10 @@ use Rattle.object_graph.specs.Limits.{paths_most}
 use Rattle.shape_tree.specs.Shapes.{shape_path, has_name, without}
 use Rattle.shape_tree.proofs.GrownPaths.{missing-there}
 use Rattle.shape_tree.proofs.LedPaths.{with_path-added}
-use Rattle.heap_table.specs.Staying.{rest_stays_itself}
+use Rattle.tagged_word.specs.Cells.{store_slot}
+use Rattle.write_barrier.specs.Staying.{rest_stays_itself}
 use Rattle.heap_model.specs.Heaps.{words_of_cell}
+use Rattle.heap_model.specs.Kinds.{HasWord}
 use Rattle.heap_model.specs.Needs.{capacity_at}
 use Rattle.heap_model.specs.Showing.{ShowsPlain}
 use Rattle.heap_model.proofs.BoundHeaps.{none_in}
@@ -24,13 +26,15 @@ use Rattle.write_barrier.specs.MutatorState.{Mutator, heap_of, MainShows}
 use Rattle.write_barrier.specs.Reading.{IsHeaderAt}
 use Rattle.object_cells.specs.PlainObjects.{IsPlainAt, ShowsRefilled}
 use Rattle.object_cells.specs.Capacities.{ChangesObjectUsing}
+use Rattle.object_cells.specs.CellWrites.{reshaped}
+use Rattle.object_cells.specs.SlotChanges.{RefillsSlots}
 use Rattle.object_cells.specs.Contents.{next_at}
 use Rattle.shape_change.specs.FieldChanges.{HasDeletedField, DeletesField}
 use Rattle.shape_change.specs.Deletions.{TakesFieldOut, TakingOut}
 use Rattle.object_cells.proofs.FieldsFound.{value_found}
 use Rattle.shape_change.proofs.FieldsLess.{AreLess, are_less, none_less}
 use Rattle.object_cells.proofs.MadeBoxes.{row_of_none}
-use Rattle.object_cells.proofs.NothingUsed.{room_for_none, uses_none}
+use Rattle.object_cells.proofs.NothingUsed.{nothing_changes, room_for_none, uses_none}
 use Rattle.object_cells.proofs.PlainFields.{names_distinct}
 use Rattle.object_cells.proofs.NewFields.{rest_of_fields_are_new}
 use Rattle.object_cells.proofs.RefilledHeaps.{written_fields_show}
@@ -73,6 +77,12 @@ module _ {old : Mutator} {graph : Graph} {object : ℕ} {plain : PlainObject} {h
       there = slice_get_within plain.fields slot found.field found.there;
     }
 
+    -- the slots of the object in the two heaps
+    fields_refill : RefillsSlots (heap_of old) (heap_of new) shown.cell deleting_of.taken.next (others_of deleting_of)
+        [] plain.fields (without_field plain.fields name)
+    fields_refill =
+        deleted_refills deleting_of name (subst (λ n. AreLess n plain.fields slot name) (sym shown.cap) fields_less)
+
     -- each property store has as many slots as before
     stores_stay : ChangesObjectUsing old new 0 object (capacity_at (heap_of old) object)
     stores_stay =
@@ -83,12 +93,15 @@ module _ {old : Mutator} {graph : Graph} {object : ℕ} {plain : PlainObject} {h
           writes = deleted_writes deleting_of;
           belong = store_belongs deleting_of;
           kinds = λ other there. absurd (none_in other there);
+          stores = λ other among is.
+              let next = reshaped new.paths shown.cell deleting_of.taken.next in
+              subst (HasWord (words_of_cell (heap_of new) next) store_slot)
+              (fields_refill.refills.stores other among is).1 fields_refill.refills.has_store;
         }) (row_of_none (heap_of new) (next_at old)) (slot_stays deleting_of))
 
     -- the heap shows the graph in which the object lacks the field
     field_less : ShowsRefilled new graph plain (without_field plain.fields name)
     field_less =
-        let less = subst (λ n. AreLess n plain.fields slot name) (sym shown.cap) fields_less in
         let added = ap (λ (paths : List Path). with_path (Some paths_most) paths
         (path_of plain.cap (without_field plain.fields name))) (sym shows.shows.paths)
         ∙ ap (with_path (Some paths_most) old.paths) (sym path_less) ∙ taken.leads.added in
@@ -97,7 +110,7 @@ module _ {old : Mutator} {graph : Graph} {object : ℕ} {plain : PlainObject} {h
         (rest_of_fields_are_new graph plain name shows.is_graph is.object is.reached) added
         (takes_none taken.beside (room_for_none old shows.tied shows.shows.whole)
         (taken.young ∙ sym (bumped_none old.young)))
-        (deleted_writes deleting_of) (deleted_refills deleting_of name less)
+        (deleted_writes deleting_of) fields_refill
         (deleted_remembers deleting_of shows.bounded)
 
   -- a field that was found is taken out, or there are too many paths
@@ -144,18 +157,11 @@ refilled_alike main graph plain shows there =
 pub none_deleted : {main : Mutator} {graph : Graph} {object : ℕ} {plain : PlainObject} {header : Header} (name : ℕ)
     → MainShows main graph → IsPlainAt main graph object plain → IsHeaderAt (heap_of main) object header
     → has_name (shape_path main.paths header.shape) name ≡ false → HasDeletedField main main graph object plain name
-none_deleted {main} {graph} {plain = plain} name shows is header_at none =
+none_deleted {main} {graph} {object} {plain = plain} name shows is header_at none =
     record {
       none = λ _. refl;
       uses = uses_none (rest_stays_itself main.seat) refl refl;
-      changes = record {
-        words = λ word below not_own not_made. refl;
-        own = refl;
-        others = λ number other place apart. refl;
-        stays = λ number other place. place;
-        stand = λ cell words has object apart. has;
-        none_made = λ number other place. place;
-      };
+      changes = nothing_changes (heap_of main) object (capacity_at (heap_of main) object) refl;
       shows = subst (ShowsRefilled main graph plain)
           (sym (none_less plain.fields name (name_is_new shows is header_at name none)))
           (refilled_alike main graph plain shows is.object);

@@ -1,6 +1,6 @@
 -- What filling a slot leaves of the mutator.
 use Rattle.std.proofs.Common.{◌≡◌, ℕ, refl, ap, ◌∙◌}
-use Rattle.heap_table.specs.Seats.{Seat}
+use Rattle.write_barrier.specs.Seats.{Seat}
 use Rattle.write_barrier.specs.MutatorState.{Mutator}
 use Rattle.write_barrier.specs.Opening.{ChangesWithin}
 use Rattle.object_cells.specs.declared.content.SlotWrite.{SlotWrite}

@@ -13,7 +13,7 @@ use Rattle.object_graph.specs.Objects.{with_field}
 use Rattle.object_graph.specs.Graphs.{Graph, PlainObject}
 use Rattle.page_space.specs.Sizes.{AreWithin}
 use Rattle.page_space.proofs.Starts.{marks_start_is}
-use Rattle.heap_table.specs.Seats.{heap_words}
+use Rattle.write_barrier.specs.Seats.{heap_words}
 use Rattle.heap_model.specs.Heaps.{HasCell, words_of_cell}
 use Rattle.heap_model.specs.Slots.{reference_word, HoldsStore}
 use Rattle.heap_model.specs.Kinds.{HasWord, HasSlots}
@@ -271,6 +271,6 @@ module _ {old new : Mutator} {graph : Graph} {plain : PlainObject} {object : ℕ
   pub grown_becomes : AreWithin old.seat.space.sizes old.seat.space.variables
       → ChangesObjectUsing old new (grows.need growing) growing.known.cell.at (grown store.capacity)
   grown_becomes within =
-      object_grows (taken.taken_beside takes) (grows.filled growing).row new_store
+      object_grows (taken.taken_beside takes slots_now.slot) (grows.filled growing).row new_store
       (first_in new_store (made_boxes (store_content value) box)) refl
       (omega (arith, (grows.run growing).within, marks_fit old.seat.space within, marks_start_is old.seat.space)) named

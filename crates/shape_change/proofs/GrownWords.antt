@@ -8,7 +8,7 @@ use Rattle.tagged_word.specs.Cells.{store_head, store_slot}
 use Rattle.object_graph.specs.Graphs.{Graph, PlainObject}
 use Rattle.page_space.specs.Extents.{Space, marks_start}
 use Rattle.shape_tree.specs.Shapes.{shape_path}
-use Rattle.heap_table.specs.Seats.{heap_words}
+use Rattle.write_barrier.specs.Seats.{heap_words}
 use Rattle.heap_model.specs.Slots.{reference_word}
 use Rattle.heap_model.specs.Needs.{grown}
 use Rattle.heap_model.proofs.CellOutcomes.{object_is_no_filler}

@@ -6,7 +6,7 @@ use Rattle.object_graph.specs.declared.value.Value.TheVariants.{Undefined}
 use Rattle.object_graph.specs.Graphs.{Graph, PlainObject}
 use Rattle.handle_roots.specs.declared.held.Held.TheVariants as held
 use Rattle.handle_roots.specs.Roots.{with_root}
-use Rattle.heap_table.specs.Seats.{heap_words}
+use Rattle.write_barrier.specs.Seats.{heap_words}
 use Rattle.shape_tree.specs.Shapes.{has_name, shape_path, IsLocated}
 use Rattle.shape_tree.specs.declared.located.Located.{Located}
 use Rattle.heap_model.specs.Types.{Header, Path}

@@ -22,7 +22,7 @@ mod SetsTold
 mod WordsPut
 mod FewMissing
 mod ShownFields
-mod NewLayouts
+mod LaidPaths
 mod SlotAddresses
 mod SlotTouches
 mod WordsMoved

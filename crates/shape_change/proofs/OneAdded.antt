@@ -9,9 +9,12 @@ use Rattle.tagged_word.specs.Cells.{store_slot}
 use Rattle.heap_model.specs.Types.{Field, Cell}
 use Rattle.object_graph.specs.Paths.{path_of}
 use Rattle.shape_tree.specs.Shapes.{shape_path}
+use Rattle.cell_layout.specs.Cells.{IsRow}
 use Rattle.heap_model.specs.Heaps.{Heap, words_of_cell}
 use Rattle.heap_model.specs.Kinds.{HasSlots, IsPlainCell, IsBoxCell}
+use Rattle.heap_model.specs.Needs.{capacity_at}
 use Rattle.heap_model.specs.Showing.{ShowsField}
+use Rattle.object_cells.specs.Capacities.{ChangesObject}
 use Rattle.object_cells.specs.CellWrites.{reshaped}
 use Rattle.object_cells.specs.OwnSlots.{ComesFrom, StoreComes}
 use Rattle.object_cells.specs.SlotChanges.{IsTaggedSlot, HasTagged}
@@ -19,6 +22,7 @@ use Rattle.object_cells.proofs.NumberedSlots.{IsNumbered, one_address, one_numbe
 use Rattle.object_cells.proofs.SlotsNow.{PutsOwn, store_now, slot_now}
 use Rattle.object_cells.proofs.OwnPlaces.{IsSlotPlace, plain_is_object}
 use Rattle.object_cells.proofs.OneField.{slots_after}
+use Rattle.object_cells.proofs.OwnCapacities.{one_keeps}
 use Rattle.shape_change.proofs.AddedSlots.{SlotIs, PutsOne, AddsSlot}
 
 -- The word of a field that is new was put in the slot behind those of the other fields, for which there is one.
@@ -97,3 +101,19 @@ one_adds {old} {new} {cell} {word = word} {others} {made} {fields} adds shows co
         | inr new_box ↦ boxes other new_box
       ];
     }
+
+-- and each property store has as many slots as before
+pub added_keeps : {old new : Heap} {cell : Cell} {next at word from to : ℕ} {others made : List Cell}
+    {fields : List Field} {field : Field} (adds : AddsOne old new cell next at word others made fields field)
+    → IsRow new.space new.words from to made
+    → ((other : Cell) → Contains made other → other.layout.kind ≡ kind.Boxed)
+    → ChangesObject old new from to cell.at (capacity_at old cell.at)
+added_keeps {cell = cell} {others = others} {made} adds row only_boxes =
+    one_keeps adds.puts row (λ other among. (cell.at + store_slot, (adds.place.stores other among).named))
+    (λ other among. inr (only_boxes other among)) adds.sound.has.slot (λ other among is_store.
+    elim (Contains-append_cases others made other among) [
+      | inl beside ↦ (adds.place.stores other beside).refers
+      | inr new_box ↦
+          let apart : kind.Store ≡ kind.Boxed = sym is_store ∙ only_boxes other new_box in
+          cc
+    ])

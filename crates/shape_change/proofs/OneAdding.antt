@@ -5,7 +5,7 @@ use Rattle.object_graph.specs.Paths.{path_of}
 use Rattle.object_graph.specs.Graphs.{Graph, PlainObject}
 use Rattle.shape_tree.specs.Shapes.{IsPathShape, shape_path}
 use Rattle.cell_layout.specs.Cells.{IsRow}
-use Rattle.heap_table.specs.Seats.{heap_words}
+use Rattle.write_barrier.specs.Seats.{heap_words}
 use Rattle.heap_model.specs.Heaps.{Heap, words_of_cell}
 use Rattle.write_barrier.specs.MutatorState.{Mutator, heap_of}
 use Rattle.object_cells.specs.SlotChanges.{WritesFields}

@@ -2,13 +2,13 @@
 use Rattle.std.specs.Prelude.{slice_set}
 use Rattle.std.proofs.lemmas.Bool.{lt-ltb}
 use Rattle.heap_model.specs.Types.{Header, Value, Held, Field, Path}
-use Rattle.tagged_word.specs.Cells.{plain_head, store_slot}
+use Rattle.tagged_word.specs.Cells.{plain_head}
 use Rattle.object_graph.specs.declared.value.Rep.TheVariants as rep
 use Rattle.object_graph.specs.Values.{rep_of}
 use Rattle.object_graph.specs.Objects.{with_field}
 use Rattle.object_graph.specs.Graphs.{Graph, PlainObject}
 use Rattle.shape_tree.specs.Shapes.{shape_path, stepped}
-use Rattle.heap_table.specs.Seats.{heap_words}
+use Rattle.write_barrier.specs.Seats.{heap_words}
 use Rattle.heap_model.specs.Heaps.{words_of_cell}
 use Rattle.heap_model.proofs.CellsApart.{IsOfCell, first_of_cell}
 use Rattle.heap_model.proofs.BoundHeaps.{none_in}
@@ -20,7 +20,6 @@ use Rattle.shape_change.specs.Additions.{AddsOwn, AddsPath, added_path, count_of
 use Rattle.shape_change.specs.Shifts.{field_touch}
 use Rattle.heap_model.specs.Needs.{capacity_at}
 use Rattle.object_cells.specs.Capacities.{ChangesObjectUsing}
-use Rattle.object_cells.proofs.OwnCapacities.{one_keeps}
 use Rattle.object_cells.proofs.OwnSteps.{written_places_stay}
 use Rattle.object_cells.proofs.OwnerWrites.{plain_owns}
 use Rattle.object_cells.proofs.HeldNeeds.{new_value_held}
@@ -35,7 +34,7 @@ use Rattle.std.proofs.lemmas.List.{length-map}
 use Rattle.std.proofs.Common.{◌≡◌, ℕ, ◌+◌, ◌<◌, true, [], length, Some, refl, sym, ◌∙◌, ap, subst, arith, nat_lt}
 use Rattle.shape_tree.specs.ShapeLayouts.{layout_of}
 use Rattle.object_graph.specs.Paths.{path_of}
-use Rattle.shape_change.proofs.OneAdded.{one_adds}
+use Rattle.shape_change.proofs.OneAdded.{added_keeps, one_adds}
 use Rattle.object_cells.proofs.MadeBoxes.{row_of_none}
 use Rattle.shape_change.proofs.FullStores.{length-slots}
 use Rattle.object_cells.proofs.NumberedSlots.{IsNumbered}
@@ -155,6 +154,5 @@ module _ {old : Mutator} {graph : Graph} {plain : PlainObject} {object : ℕ} {h
   pub own_keeps : {new : Mutator} → AddsOwn old new object header name value
       → ChangesObjectUsing old new 0 known.cell.at (capacity_at (heap_of old) known.cell.at)
   own_keeps {new} adds =
-      one_keeps (own_adding adds).adds.puts (row_of_none (heap_of new) (next_at old))
-      (λ other among. (known.cell.at + store_slot, ((own_adding adds).adds.place.stores other among).named))
+      added_keeps (own_adding adds).adds (row_of_none (heap_of new) (next_at old))
       (λ other there. absurd (none_in other there))

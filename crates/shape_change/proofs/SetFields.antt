@@ -9,7 +9,7 @@ use Rattle.object_graph.specs.Paths.{path_of, with_path}
 use Rattle.object_graph.specs.Objects.{with_field, revalued}
 use Rattle.object_graph.specs.Graphs.{Graph, PlainObject}
 use Rattle.object_graph.specs.Limits.{paths_most}
-use Rattle.heap_table.specs.Seats.{heap_words}
+use Rattle.write_barrier.specs.Seats.{heap_words}
 use Rattle.heap_model.specs.Types.{Value, Field, Path, Cell}
 use Rattle.heap_model.specs.Heaps.{words_of_cell}
 use Rattle.heap_model.specs.Needs.{capacity_at}
@@ -111,5 +111,6 @@ module _ {old : Mutator} {graph : Graph} {object slot : ℕ} {plain : PlainObjec
             shows = subst (ShowsRefilled new graph plain) (sym same)
                 (written_fields_show old new graph plain s.cell next others made fields s.shows s.is.object s.carries
                 s.cap shown new_fields added takes sets.puts.writes (refills_slots sets fills) remembers);
-            changes = one_keeps sets.puts row fills.belong fills.kinds;
+            changes = one_keeps sets.puts row fills.belong fills.kinds sets.shown.has.slot
+                (λ other among is. (fills.stores other among is).1);
           }

@@ -9,7 +9,7 @@ use Rattle.page_space.specs.Extents.{marks_start}
 use Rattle.heap_model.specs.Types.{Path, PathField, Rep}
 use Rattle.object_graph.specs.declared.value.Rep.TheVariants as rep
 use Rattle.shape_tree.specs.Shapes.{shape_path}
-use Rattle.heap_table.specs.Seats.{heap_words}
+use Rattle.write_barrier.specs.Seats.{heap_words}
 use Rattle.heap_model.specs.Remembered.{Touch}
 use Rattle.write_barrier.specs.MutatorState.{Mutator, with_word, with_slot}
 use Rattle.write_barrier.specs.Recording.{Touches, touched_one, touched_again, touched_then}

@@ -1,19 +1,19 @@
 -- A field that comes to a slot that the property store has is shown, in a box where it needs one.
 use Rattle.std.proofs.Common.{◌≡◌, ℕ, ◌+◌, ◌≤◌, ◌<◌, false, List, ◌∷◌, length, sym}
-use Rattle.std.proofs.Common.{◌∙◌, ap, subst, arith, inl, inr, nat_lt, slice_get, Some, Contains}
+use Rattle.std.proofs.Common.{◌∙◌, ap, subst, arith, inl, nat_lt, slice_get, Some, Contains}
 use Rattle.std.specs.Prelude.{ℤ, slice_set}
 use Rattle.std.proofs.lemmas.Bool.{false≢true}
 use Rattle.std.proofs.lemmas.Bool.Decides.{nat_tests}
 use Rattle.std.proofs.lemmas.List.Elements.{Contains-append_right}
 use Rattle.heap_model.specs.Types.{Header, Value, Cell, Held}
-use Rattle.tagged_word.specs.Cells.{store_head, store_slot}
+use Rattle.tagged_word.specs.Cells.{store_head}
 use Rattle.object_graph.specs.Values.{rep_of}
 use Rattle.object_graph.specs.Objects.{with_field}
 use Rattle.object_graph.specs.Graphs.{Graph, PlainObject}
 use Rattle.page_space.specs.Extents.{Space, marks_start}
 use Rattle.shape_tree.specs.Shapes.{shape_path}
 use Rattle.cell_layout.specs.Cells.{IsRow}
-use Rattle.heap_table.specs.Seats.{heap_words}
+use Rattle.write_barrier.specs.Seats.{heap_words}
 use Rattle.heap_model.specs.Heaps.{HasCell, words_of_cell}
 use Rattle.heap_model.specs.Showing.{ShowsField}
 use Rattle.heap_model.proofs.CellOutcomes.{object_is_no_filler}
@@ -38,7 +38,6 @@ use Rattle.object_cells.proofs.StoresRead.{StoredAt, stored_at}
 use Rattle.heap_model.specs.Needs.{capacity_at}
 use Rattle.heap_model.specs.Remembered.{Touch}
 use Rattle.object_cells.specs.Capacities.{ChangesObjectUsing}
-use Rattle.object_cells.proofs.OwnCapacities.{one_keeps}
 use Rattle.object_cells.proofs.OwnSteps.{written_places_stay}
 use Rattle.object_cells.proofs.OwnerWrites.{plain_owns}
 use Rattle.object_cells.proofs.RunCells.{AreOfRegion}
@@ -57,7 +56,7 @@ use Rattle.object_cells.proofs.NewBoxes.{box_cell}
 use Rattle.object_cells.proofs.OwnPlaces.{plain_is_object}
 use Rattle.object_cells.proofs.TouchedCells.{IsBeside}
 use Rattle.object_cells.proofs.TouchedFields.{TouchesObject}
-use Rattle.shape_change.proofs.OneAdded.{one_adds}
+use Rattle.shape_change.proofs.OneAdded.{added_keeps, one_adds}
 use Rattle.shape_change.proofs.RunTouches.{TouchesWith, numbered_beside, touches_box}
 use Rattle.shape_change.proofs.OneAdding.{OneAdding, one_adding}
 use Rattle.shape_change.proofs.AddedTouches.{path_touches, one_remembered}
@@ -257,7 +256,4 @@ module _ {old new : Mutator} {graph : Graph} {plain : PlainObject} {object : ℕ
   -- each property store has as many slots as before
   pub store_keeps : ChangesObjectUsing old new (content_need (store_content value)) adding.known.cell.at
       (capacity_at (heap_of old) adding.known.cell.at)
-  store_keeps =
-      one_keeps one.adds.puts row
-      (λ other among. (adding.known.cell.at + store_slot, (one.adds.place.stores other among).named))
-      (λ other there. inr (made_boxed (store_content value) (next_at old) other there))
+  store_keeps = added_keeps one.adds row (made_boxed (store_content value) (next_at old))

@@ -5,9 +5,9 @@ use Rattle.std.specs.Prelude.{slice_set}
 use Rattle.std.proofs.lemmas.Bool.{cases_lt}
 use Rattle.page_space.specs.Extents.{marks_start}
 use Rattle.object_graph.proofs.Lists.{slice_get-set_same, slice_get-set_other}
-use Rattle.heap_table.specs.Seats.{Seat, heap_words, RestStays}
-use Rattle.heap_table.specs.Staying.{rest_stays_again}
-use Rattle.heap_table.proofs.HeapWords.{stays_beside-put}
+use Rattle.write_barrier.specs.Seats.{Seat, heap_words, RestStays}
+use Rattle.write_barrier.specs.Staying.{rest_stays_again}
+use Rattle.write_barrier.proofs.HeapWords.{stays_beside-put}
 use Rattle.heap_model.specs.Remembered.{Touch}
 use Rattle.write_barrier.specs.MutatorState.{Mutator, put_word, with_word, with_slot}
 use Rattle.write_barrier.specs.Recording.{Touches, touched_one}

@@ -2,7 +2,7 @@
 use Rattle.std.proofs.Common.{◌≡◌, ◌<◌, ℕ, refl, sym, subst}
 use Rattle.heap_model.specs.Types.{Word}
 use Rattle.page_space.specs.Extents.{marks_start}
-use Rattle.heap_table.specs.Seats.{RestStays}
+use Rattle.write_barrier.specs.Seats.{RestStays}
 use Rattle.write_barrier.specs.MutatorState.{Mutator, with_word, with_slot}
 use Rattle.object_cells.specs.declared.content.SlotContent.TheVariants as content
 use Rattle.object_cells.specs.declared.content.SlotWrite.TheVariants as filling

@@ -11,7 +11,7 @@ use Rattle.page_space.specs.Extents.{layouts_start, marks_start}
 use Rattle.nursery.specs.Young.{HasRoom}
 use Rattle.shape_tree.specs.Shapes.{IsPathShape, Leads, LacksPathsFor, shape_path, has_name, stepped}
 use Rattle.shape_tree.specs.Growth.{IsStep}
-use Rattle.heap_table.specs.Seats.{heap_words, RestStays}
+use Rattle.write_barrier.specs.Seats.{heap_words, RestStays}
 use Rattle.heap_model.specs.Heaps.{Heap, HasCell}
 use Rattle.heap_model.specs.Wholeness.{HasSizes}
 use Rattle.heap_model.specs.Needs.{grown}

@@ -10,7 +10,7 @@ use Rattle.heap_model.specs.Heaps.{HasCell}
 use Rattle.heap_model.specs.Kinds.{HasSlots, HasWord}
 use Rattle.heap_model.specs.Showing.{ShowsHeld, ShowsField}
 use Rattle.handle_roots.specs.Roots.{FitsHeld, with_root}
-use Rattle.heap_table.specs.Seats.{heap_words}
+use Rattle.write_barrier.specs.Seats.{heap_words}
 use Rattle.object_graph.specs.declared.value.Value.TheVariants.{Undefined}
 use Rattle.object_graph.specs.Objects.{field_value, with_field, without_field}
 use Rattle.object_graph.specs.Paths.{path_of}

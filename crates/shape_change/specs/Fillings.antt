@@ -7,7 +7,7 @@ use Rattle.object_graph.specs.Paths.{with_path}
 use Rattle.object_graph.specs.Limits.{paths_most}
 use Rattle.object_graph.specs.Values.{join}
 use Rattle.shape_tree.specs.Shapes.{IsPathShape, shape_path, Leads, LacksPathsFor}
-use Rattle.heap_table.specs.Seats.{RestStays}
+use Rattle.write_barrier.specs.Seats.{RestStays}
 use Rattle.heap_model.specs.Heaps.{Heap}
 use Rattle.heap_model.specs.Needs.{word_at}
 use Rattle.heap_model.specs.Wholeness.{HasSizes}

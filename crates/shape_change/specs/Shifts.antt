@@ -7,7 +7,7 @@ use Rattle.heap_model.specs.Types.{Path, PathField, Rep}
 use Rattle.object_graph.specs.declared.value.Rep.TheVariants.{Small, Wide, Tagged}
 use Rattle.remembered_set.specs.Recorded.{is_between}
 use Rattle.shape_tree.specs.Shapes.{shape_path}
-use Rattle.heap_table.specs.Seats.{heap_words, RestStays}
+use Rattle.write_barrier.specs.Seats.{heap_words, RestStays}
 use Rattle.heap_model.specs.Slots.{hole_word}
 use Rattle.heap_model.specs.Remembered.{Touch}
 use Rattle.write_barrier.specs.MutatorState.{Mutator}

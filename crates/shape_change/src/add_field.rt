@@ -9,7 +9,7 @@ ghost use Rattle.object_graph.specs.Graphs.{Graph, PlainObject};
 ghost use Rattle.object_graph.specs.declared.value.Value.{Value as GraphValue};
 ghost use Rattle.object_graph.specs.Objects.{field_value};
 ghost use Rattle.shape_tree.specs.Shapes.{IsPathShape, shape_path, has_name};
-ghost use Rattle.heap_table.specs.Seats.{heap_words};
+ghost use Rattle.write_barrier.specs.Seats.{heap_words};
 ghost use Rattle.write_barrier.specs.MutatorState.{MayStore, heap_of, MainShows};
 ghost use Rattle.write_barrier.specs.Recording.{Touches, touched_one};
 ghost use Rattle.write_barrier.specs.Reading.{IsHeaderAt};

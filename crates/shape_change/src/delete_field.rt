@@ -1,7 +1,7 @@
 //! The call `delete`. How slots move down is in `shift_slots.rt`.
-ghost use Rattle.std.specs.Prelude.{◌≡◌, ℕ, ◌<◌, ◌≤◌, length, IfOk, IfErr, ℤ};
+ghost use Rattle.std.specs.Prelude.{◌≡◌, ℕ, ◌<◌, ◌≤◌, length, ℤ};
 ghost use Rattle.object_graph.specs.Graphs.{Graph, PlainObject};
-ghost use Rattle.shape_tree.specs.Shapes.{IsPathShape, shape_path, without, Leads, LacksPathsFor};
+ghost use Rattle.shape_tree.specs.Shapes.{IsPathShape, shape_path};
 ghost use Rattle.heap_model.specs.Slots.{RefersToBox, raw_word};
 ghost use Rattle.write_barrier.specs.MutatorState.{heap_of, MainShows};
 ghost use Rattle.object_cells.specs.CellsAt.{IsQuietWhole, HasField};
@@ -11,25 +11,12 @@ ghost use Rattle.shape_change.specs.Deletions.{HasStoreAt, HasFirstBeside, Draws
 ghost use Rattle.shape_change.specs.Deletions.{FindsWithout, TakingOut};
 
 use crate::shift_slots::{close_both, close_own};
-use crate::transitions::{put_new_layouts, set_shape};
+use crate::transitions::set_shape;
 use object_graph::Rep;
 use shape_tree::ShapesFull;
 use tagged_word::cell::{STORE_HEAD, STORE_SLOT};
 use tagged_word::{Header, Word};
 use write_barrier::Main;
-
-/// Adds the path of a shape without one field. No other part changes.
-fn path_without(main: &mut Main, shape: u32, slot: u32) -> Result<u32, ShapesFull>
-    requires path { IsPathShape main.old.paths shape }
-    requires there { slot < length (shape_path main.old.paths shape).fields }
-    ensures taken_out { let path = without (shape_path main.old.paths shape) slot in
-        IfOk result (λ next. Leads main.old.paths main.new.paths path next) }
-    ensures full { let path = without (shape_path main.old.paths shape) slot in
-        IfErr result (λ full. LacksPathsFor main.old.paths main.new.paths path full) }
-    ensures rest { main.new ≡ record main.old { paths = main.new.paths } }
-{
-    main.shapes_mut().without(shape, slot)
-}
 
 /// The shape of the path of a shape without one field. The path, its missing prefixes and their
 /// layout words are added; or there may not be as many paths, and nothing has changed.
@@ -39,10 +26,7 @@ fn shape_without(main: &mut Main, shape: u32, slot: u32) -> Result<u32, ShapesFu
     requires there { slot < length (shape_path main.old.paths shape).fields }
     ensures { FindsWithout main.old main.new shape slot result }
 {
-    let before = main.shapes().paths();
-    let next = path_without(main, shape, slot)?;
-    put_new_layouts(main, before);
-    Ok(next)
+    main.shorten_path(shape, slot)
 }
 
 /// The address of the property store of the plain object at an address.

@@ -7,7 +7,7 @@ ghost use Rattle.shape_tree.specs.declared.located.Located.{Located as Found};
 ghost use Rattle.shape_change.specs.WordPlaces.{StandsWord};
 ghost use Rattle.handle_roots.specs.declared.held.Held.TheVariants as held;
 ghost use Rattle.handle_roots.specs.Roots.{with_root};
-ghost use Rattle.heap_table.specs.Seats.{heap_words};
+ghost use Rattle.write_barrier.specs.Seats.{heap_words};
 ghost use Rattle.write_barrier.specs.MutatorState.{MayStore, heap_of, MainShows, with_variable};
 ghost use Rattle.object_cells.specs.PlainObjects.{IsPlainAt, IsShownPlain};
 ghost use Rattle.shape_change.specs.FieldChanges.{HoldsSlot, HoldsValue, value_or_undefined};

@@ -23,7 +23,7 @@ ghost use Rattle.object_cells.specs.Contents.{HoldsSlotWord, LacksRoom, FillsSlo
 
 use crate::slots::{Place, fill, filling_of, slot_place};
 use crate::stop::FieldStop;
-use crate::transitions::{put_new_layouts, set_shape};
+use crate::transitions::set_shape;
 use handle_roots::Held;
 use object_cells::{SlotContent, SlotWrite, content_of, rep_of};
 use object_graph::Rep;
@@ -109,11 +109,9 @@ fn changed_shape(main: &mut Main, shape: u32, slot: u32, rep: Rep) -> u32
         let before = with_paths main.old main.new.paths in
         ChangesWithin before main.new (layouts_start space) (marks_start space) }
 {
-    let before = main.shapes().paths();
-    let Ok(next) = main.shapes_mut().change(shape, slot, rep) else {
+    let Ok(next) = main.change_path(shape, slot, rep) else {
         unreachable!()
     };
-    put_new_layouts(main, before);
     next
 }
 

@@ -3,7 +3,7 @@ ghost use Rattle.std.specs.Prelude.{◌≡◌, ◌+◌, ◌-◌, ◌<◌, ◌≤
 ghost use Rattle.tagged_word.specs.Cells.{plain_head, store_head};
 ghost use Rattle.page_space.specs.Extents.{marks_start};
 ghost use Rattle.shape_tree.specs.Shapes.{IsPathShape, shape_path};
-ghost use Rattle.heap_table.specs.Seats.{heap_words};
+ghost use Rattle.write_barrier.specs.Seats.{heap_words};
 ghost use Rattle.heap_model.specs.Slots.{hole_word};
 ghost use Rattle.write_barrier.specs.Recording.{Touches, touched_one};
 ghost use Rattle.shape_change.specs.Shifts.{KeepsRest, MovesDown, ClosesGap, ClosesSlots, SlotsWithin};

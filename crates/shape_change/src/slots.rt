@@ -10,7 +10,7 @@ ghost use Rattle.object_graph.specs.declared.value.Value.{Value};
 ghost use Rattle.heap_model.specs.Slots.{IsFieldWord};
 ghost use Rattle.heap_model.specs.Showing.{ShowsField};
 ghost use Rattle.write_barrier.specs.MutatorState.{MayStore, heap_of, IsTied, with_variable};
-ghost use Rattle.heap_table.specs.Seats.{heap_words};
+ghost use Rattle.write_barrier.specs.Seats.{heap_words};
 ghost use Rattle.std.specs.Int.{cast_signed, w64};
 ghost use Rattle.handle_roots.specs.declared.held.Held.TheVariants as held;
 ghost use Rattle.handle_roots.specs.Roots.{FitsHeld, with_root};

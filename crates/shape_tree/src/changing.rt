@@ -98,8 +98,7 @@ impl ShapeTree {
         ensures full { let path = stepped (shape_path self.now shape) field.name field.rep in
             IfErr result (λ full. LacksPathsFor self.now self.now path full) }
     {
-        // Opens the tree: the proof needs what holds of each.
-        let _ = &self.nodes;
+        self.paths_fit();
         match self.child(shape, field) {
             Some(next) => Ok(Step::Found(next)),
             None => {
@@ -120,8 +119,7 @@ impl ShapeTree {
         ensures { let path = stepped (shape_path self.old shape) field.name field.rep in
             Leads self.old self.new path result }
     {
-        // Opens the tree: the proof needs what holds of each.
-        let _ = &self.nodes;
+        self.paths_fit();
         match step {
             Step::Found(next) => next,
             Step::Missing => self.add(shape, field),
@@ -142,8 +140,7 @@ impl ShapeTree {
         ensures full { let path = changed (shape_path self.old shape) at rep in
             IfErr result (λ full. LacksPathsFor self.old self.new path full) }
     {
-        // Opens the tree: the proof needs what holds of each.
-        let _ = &self.nodes;
+        self.paths_fit();
         match self.there_changed(shape, at, rep) {
             Some(next) => Ok(next),
             None => self.lead_to_changed(shape, at, rep),
@@ -175,8 +172,7 @@ impl ShapeTree {
         ensures full { let path = without (shape_path self.old shape) at in
             IfErr result (λ full. LacksPathsFor self.old self.new path full) }
     {
-        // Opens the tree: the proof needs what holds of each.
-        let _ = &self.nodes;
+        self.paths_fit();
         match self.there_without(shape, at) {
             Some(next) => Ok(next),
             None => self.lead_without(shape, at),
@@ -223,8 +219,7 @@ impl ShapeTree {
         ensures { let path = changed (shape_path self.now shape) at rep in
             result ≡ length (missing self.now path) }
     {
-        // Opens the tree: the proof needs what holds of each.
-        let _ = &self.nodes;
+        self.paths_fit();
         let fields = self.fields_of(shape);
         let name = fields[at as usize].name;
         let Some(next) = self.child(self.ancestor(shape, at), PathField { name, rep }) else {

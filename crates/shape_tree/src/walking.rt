@@ -74,8 +74,7 @@ impl ShapeTree {
         requires { IsPathShape self.now from }
         ensures { WalksTo self.now (extended (shape_path self.now from) tail.now) result }
     {
-        // Opens the tree: the proof needs what holds of each.
-        let _ = &self.nodes;
+        self.paths_fit();
         let mut shape = from;
         let mut rest = tail;
         while let [field, later @ ..] = rest {

@@ -3,8 +3,6 @@ use Rattle.std.proofs.Common.{◌≡◌, ◌≤◌, ℕ, ◌+◌, ◌==◌, Bool
 use Rattle.std.proofs.Common.{slice_index}
 use Rattle.std.proofs.Common.{replicate, refl, sym, ap, subst, ◌∙◌, arith}
 use Rattle.std.specs.List.{count_by}
-use Rattle.std.specs.declared.vec.Vec.{Vec}
-use Rattle.std.specs.declared.alloc.Global.{Global}
 use Rattle.std.proofs.lemmas.List.{length-replicate, replicate-append-replicate}
 use Rattle.std.proofs.lemmas.List.Elements.{All-replicate}
 use Rattle.std.proofs.lemmas.Bool.Decides.{nat_tests}
@@ -23,9 +21,10 @@ use Rattle.shared_table.specs.declared.overview.Overview.{Overview}
 use Rattle.shared_table.specs.declared.overview.View.{View}
 use Rattle.shared_table.specs.declared.overview.View.TheVariants.{Main}
 use Rattle.shared_table.specs.declared.phase.Phase.TheVariants.{Mark}
+use Rattle.shared_table.specs.Owned.{Own}
 use Rattle.shared_table.specs.Worlds.{beginning, views_of, world, world_at_home}
 use Rattle.shared_table.specs.Keeping.{AreLent, KeepsRule, KeptBy, is_out}
-use Rattle.shared_table.specs.Changes.{opened, resumed}
+use Rattle.shared_table.specs.Changes.{IsContinued, opened, resumed}
 use Rattle.shared_table.specs.Told.{tells_opened, tells_resumed}
 use Rattle.shared_table.proofs.KeptRule.{main_rule, view_rule}
 use Rattle.shared_table.proofs.OtherViews.{all_gone, none_seen}
@@ -61,13 +60,14 @@ begins {S} counts words is = (
   },
 )
 
--- an exchange of 0 for 0 leaves the word
-same_by : (m : ℕ) (b : Bool) → (m == 0) ≡ b → either b 0 m ≡ m
-same_by m true e = grind (arith, nat_tests)
-same_by m false e = refl
+-- an exchange of a number for itself leaves the word, by the value of the test
+same_by : (n m : ℕ) (b : Bool) → (m == n) ≡ b → either b n m ≡ m
+same_by n m true e = grind (arith, nat_tests)
+same_by n m false e = refl
 
-same_either : (m : ℕ) → either (m == 0) 0 m ≡ m
-same_either m = same_by m (m == 0) refl
+-- an exchange of a number for itself leaves the word
+same_either : (n m : ℕ) → either (m == n) n m ≡ m
+same_either n m = same_by n m (m == n) refl
 
 -- with no seat out the world is what the main seat knows alone
 pub home_world : (counts : Counts) (others : List View) (colours board : List ℕ) (main : Overview)
@@ -103,12 +103,12 @@ abbrev entered : Overview → MainView → List ℕ → ℕ → Overview
 entered main view reached made = record main { phase = Mark; view = view; reached = reached; made = made }
 
 -- a cycle is entered for which the world is whole
-enter_allowed : (counts : Counts) (slots : ℕ) (main : Overview) (view : MainView) (reached : List ℕ) (made : ℕ)
-    (told : ℕ → Me (Vec ℕ Global) View → Type 0) → main.home ≡ true
+enter_allowed : (counts : Counts) (slots number : ℕ) (main : Overview) (view : MainView) (reached : List ℕ) (made : ℕ)
+    (told : ℕ → Me Own View → Type 0) → main.home ≡ true
     → IsSoundAndBorn (world_at_home (entered main view reached made))
     → ((n : ℕ) → told n (Main (entered main view reached made), []))
-    → Allows (KeepsRule counts) slots 0 (Main main, []) 0 (λ m. either (m == 0) 0 m) told
-enter_allowed counts slots main view reached made told home whole tells s kept deep at bound =
+    → Allows (KeepsRule counts) slots 0 (Main main, []) 0 (λ m. either (m == number) number m) told
+enter_allowed counts slots number main view reached made told home whole tells s kept deep at bound =
     let k = main_rule counts s main kept at in
     let q : Overview = entered main view reached made in
     let rule : KeptBy counts (stepped s 0 (slice_index s.words 0) 0 [] (Main q) keeps) q =
@@ -122,31 +122,32 @@ enter_allowed counts slots main view reached made told home whole tells s kept d
       (
         q,
         subst (λ (x : ℕ). KeptBy counts (stepped s 0 x 0 [] (Main q) keeps) q)
-            (sym (same_either (slice_index s.words 0)))
+            (sym (same_either number (slice_index s.words 0)))
             rule,
       ),
       tells (slice_index s.words 0),
     )
 
-module _ (key counts : Counts) (id slots : ℕ) (me : Me (Vec ℕ Global) View) (main : Overview) (own : Vec ℕ Global)
-    (fits : List ℕ → Overview → Cycle → Type 0) (is_key : key ≡ counts) (is_id : id ≡ 0) (is_me : me ≡ (Main main, []))
+module _ (key counts : Counts) (id slots number : ℕ) (me : Me Own View) (main : Overview) (own : Own)
+    (fits : Own → ℕ → Overview → Cycle → Type 0) (is_key : key ≡ counts) (is_id : id ≡ 0) (is_me : me ≡ (Main main, []))
     (home : main.home ≡ true) where
   -- a cycle is opened
-  pub open_may : (cycle : Cycle) × fits own.items main cycle × Fresh (world_at_home (opened main cycle))
-      → Allows (KeepsRule key) slots id me 0 (λ m. either (m == 0) 0 m) (tells_opened fits (step slots 0 0 0 (some own))
-      me)
+  pub open_may : (cycle : Cycle) × fits own number main cycle × Fresh (world_at_home (opened main cycle))
+      → Allows (KeepsRule key) slots id me 0 (λ m. either (m == number) number m)
+      (tells_opened fits (step slots 0 number number (some own)) me)
   open_may chosen =
       rw (is_key, is_id, is_me)
-      (enter_allowed counts slots main (opened main chosen.0).view chosen.0.reached chosen.0.made
-      (tells_opened fits (step slots 0 0 0 (some own)) (Main main, [])) home (chosen.2.sound, chosen.2.born)
+      (enter_allowed counts slots number main (opened main chosen.0).view chosen.0.reached chosen.0.made
+      (tells_opened fits (step slots 0 number number (some own)) (Main main, [])) home (chosen.2.sound, chosen.2.born)
       (λ n. (chosen.0, chosen.1, chosen.2, refl)))
 
   -- a cycle goes on
-  pub resume_may : (cycle : Cycle) × fits own.items main cycle × IsSoundAndBorn (world_at_home (resumed main cycle))
-      → Allows (KeepsRule key) slots id me 0 (λ m. either (m == 0) 0 m) (tells_resumed fits (step slots 0 0 0 (some own))
-      me)
+  pub resume_may : (cycle : Cycle) × fits own number main cycle × IsContinued main.view cycle
+      × IsSoundAndBorn (world_at_home (resumed main cycle))
+      → Allows (KeepsRule key) slots id me 0 (λ m. either (m == number) number m)
+      (tells_resumed fits (step slots 0 number number (some own)) me)
   resume_may chosen =
       rw (is_key, is_id, is_me)
-      (enter_allowed counts slots main (resumed main chosen.0).view main.reached main.made
-      (tells_resumed fits (step slots 0 0 0 (some own)) (Main main, [])) home chosen.2
-      (λ n. (chosen.0, chosen.1, refl)))
+      (enter_allowed counts slots number main (resumed main chosen.0).view main.reached main.made
+      (tells_resumed fits (step slots 0 number number (some own)) (Main main, [])) home chosen.3
+      (λ n. (chosen.0, chosen.1, chosen.2, refl)))

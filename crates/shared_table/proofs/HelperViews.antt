@@ -74,6 +74,7 @@ not_white_by colours [] at k are low is = absurd (omega arith)
 not_white_by colours (one ∷ rest) at zero are low is = subst (λ (i : ℕ). slice_index colours i ≢ white) is are.0
 not_white_by colours (one ∷ rest) at (suc k) are low is = not_white_by colours rest at k are.1 (omega arith) is
 
+-- so is no cell of the list
 pub not_white : (colours list : List ℕ) (at : ℕ) → AreNotWhite colours list → Contains list at
     → slice_index colours at ≢ white
 not_white colours list at are has = not_white_by colours list at has.0 are has.1 has.2
@@ -84,11 +85,13 @@ not_white_more : (colours list : List ℕ) (at : ℕ) → AreNotWhite colours li
 not_white_more colours [] at are is = (is, tt)
 not_white_more colours (one ∷ rest) at are is = (are.0, not_white_more colours rest at are.1 is)
 
+-- whether it joins the list or not, none of them is white
 not_white_if : (colours list : List ℕ) (at : ℕ) (b : Bool) → AreNotWhite colours list → slice_index colours at ≢ white
     → AreNotWhite colours (if b then list else list ++ at ∷ [])
 not_white_if colours list at true are is = are
 not_white_if colours list at false are is = not_white_more colours list at are is
 
+-- so where it joins once
 pub not_white_joined : (colours list : List ℕ) (at : ℕ) → AreNotWhite colours list → slice_index colours at ≢ white
     → AreNotWhite colours (joined list at)
 not_white_joined colours list at are is = not_white_if colours list at (is_in list at) are is
@@ -107,7 +110,7 @@ some_out (view ∷ rest) (suc j) lent at out =
     let front = out_first view rest in
     omega (arith, low, front)
 
--- where not only in Mark, no seat is out
+-- a seat is out in Mark alone
 in_phase : (phase : Phase) (out : ℕ) → ((phase ≡ Mark → ⊥) → out ≡ 0) → 0 < out → phase ≡ Mark
 in_phase Mark out idle more = refl
 in_phase Quiet out idle more =

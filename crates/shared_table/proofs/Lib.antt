@@ -1,3 +1,6 @@
+pub mod PageEnds
+mod MarksStart
+mod OwnKeeps
 mod Joined
 mod SpotWords
 mod KeptRule

@@ -1,6 +1,7 @@
 -- What seats know after their steps.
-use Rattle.std.specs.Prelude.{ℕ, ◌+◌, ◌-◌, true, false, List, [], length, replicate, Option, Some, None}
-use Rattle.mark_laws.specs.Types.{Event, HelperView, Spot}
+use Rattle.std.specs.Prelude.{ℕ, ◌+◌, ◌-◌, true, false, List, [], Contains, length, replicate, Option, Some, None}
+use Rattle.mark_laws.specs.Restarts.{HasJoined}
+use Rattle.mark_laws.specs.Types.{Event, HelperView, MainView, Spot}
 use Rattle.mark_world.specs.Conditions.{MayMain}
 use Rattle.mark_world.specs.Cycles.{Cycle, with_cycle}
 use Rattle.mark_world.specs.Steps.{becomes, main_learns, main_spot, lent, taken_back}
@@ -39,6 +40,15 @@ opened main cycle = record main {
   reached = cycle.reached;
   made = cycle.made;
 }
+
+-- The lists of a cycle are those of the mutator's view, with promoted cells joined, which were not published.
+pub record IsContinued (view : MainView) (cycle : Cycle) : Type 0 where
+  pub promoted : List ℕ
+  pub unpublished : (at : ℕ) → Contains promoted at → Contains view.starts at → ⊥
+  pub starts : HasJoined view.starts promoted cycle.starts
+  pub born : HasJoined view.born promoted cycle.born
+  pub mine : HasJoined view.mine promoted cycle.mine
+  pub sure : HasJoined view.sure promoted cycle.sure
 
 -- a cycle goes on with the lists of this one; what was found at its opening stays
 abbrev pub resumed : Overview → Cycle → Overview

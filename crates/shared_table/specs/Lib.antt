@@ -1,3 +1,5 @@
+pub mod Owned
+pub mod OwnKept
 pub mod Colours
 pub mod Worlds
 pub mod Keeping

@@ -1,7 +1,5 @@
 -- What each step on a word of the table tells its seat.
 use Rattle.std.specs.Prelude.{◌≡◌, ◌≤◌, ℕ, ◌+◌, ◌-◌, true, List, [], length, slice_index, Option, Some, None}
-use Rattle.std.specs.declared.vec.Vec.{Vec}
-use Rattle.std.specs.declared.alloc.Global.{Global}
 use mathlib.Core.Option as core
 use Rattle.atomic_table.specs.Table.{Me, Step}
 use Rattle.tagged_word.specs.Readings.{reference_in}
@@ -16,19 +14,24 @@ use Rattle.shared_table.specs.declared.overview.Overview.{Overview}
 use Rattle.shared_table.specs.declared.overview.View.{View}
 use Rattle.shared_table.specs.declared.overview.View.TheVariants.{Main}
 use Rattle.shared_table.specs.declared.phase.Phase.TheVariants.{Mark}
+use Rattle.shared_table.specs.Owned.{Own}
 use Rattle.shared_table.specs.Worlds.{overview_of, world_at_home}
 use Rattle.shared_table.specs.Spots.{with_spot, Finds, FindsInMark}
-use Rattle.shared_table.specs.Changes.{told, opened, resumed, paused, closed, home_with}
+use Rattle.shared_table.specs.Changes.{IsContinued, told, opened, resumed, paused, closed, home_with}
 
 -- what the main seat knows of the word found by an event
 abbrev pub FindsBy : Overview → Option Spot → ℕ → Type 0
 FindsBy main None found = Unit {0}
 FindsBy main (Some spot) found = Finds main spot found
 
--- the words that a step announces
-abbrev pub said_words : core.Option (Vec ℕ Global) → List ℕ
-said_words core.none = []
-said_words (core.some words) = words.items
+-- no own words, and no regions
+abbrev pub no_own : Own
+no_own = record { space = record { sizes = record { pages = 0; young = 0; helpers = 0 }; variables = 0 }; words = [] }
+
+-- the own words that a step announces
+abbrev pub said_own : core.Option Own → Own
+said_own core.none = no_own
+said_own (core.some own) = own
 
 -- the cell that a word refers to; 0 where there is none
 abbrev pub cell_referred : Option ℕ → ℕ
@@ -134,16 +137,16 @@ module _ {S : Type 0} where
   tells_home st me found now = (colours : List ℕ) × (board : List ℕ) × (length colours ≡ (overview_of me.0).old)
       × (now ≡ (Main (home_with (overview_of me.0) colours board), me.1))
 
--- a cycle is opened, one that the caller's predicate allows for the announced words and what the main seat knew; the
--- world with no seat out is fresh
-abbrev pub tells_opened : (List ℕ → Overview → Cycle → Type 0) → Step (Vec ℕ Global) → Me (Vec ℕ Global) View → ℕ
-    → Me (Vec ℕ Global) View → Type 0
-tells_opened fits st me found now = (cycle : Cycle) × fits (said_words st.said) (overview_of me.0) cycle
+-- A cycle is opened, one that the caller's predicate allows for the announced own words, the number of objects made,
+-- and what the main seat knew. The world with no seat out is fresh.
+abbrev pub tells_opened : (Own → ℕ → Overview → Cycle → Type 0) → Step Own → Me Own View → ℕ → Me Own View → Type 0
+tells_opened fits st me found now = (cycle : Cycle) × fits (said_own st.said) st.first (overview_of me.0) cycle
     × Fresh (world_at_home (opened (overview_of me.0) cycle))
     × (now ≡ (Main (opened (overview_of me.0) cycle), me.1))
 
--- a cycle goes on, as one that the caller's predicate allows
-abbrev pub tells_resumed : (List ℕ → Overview → Cycle → Type 0) → Step (Vec ℕ Global) → Me (Vec ℕ Global) View → ℕ
-    → Me (Vec ℕ Global) View → Type 0
-tells_resumed fits st me found now = (cycle : Cycle) × fits (said_words st.said) (overview_of me.0) cycle
+-- A cycle goes on, as one that the caller's predicate allows. Its lists are those of the cycle that waited, with
+-- promoted cells joined.
+abbrev pub tells_resumed : (Own → ℕ → Overview → Cycle → Type 0) → Step Own → Me Own View → ℕ → Me Own View → Type 0
+tells_resumed fits st me found now = (cycle : Cycle) × fits (said_own st.said) st.first (overview_of me.0) cycle
+    × IsContinued (overview_of me.0).view cycle
     × (now ≡ (Main (resumed (overview_of me.0) cycle), me.1))

@@ -7,30 +7,31 @@ ghost use Rattle.mark_world.specs.BetweenCommands.{Fresh};
 ghost use Rattle.mark_world.specs.Cycles.{Cycle};
 ghost use Rattle.mark_world.specs.Steps.{black};
 ghost use Rattle.shared_table.specs.declared.phase.Phase.TheVariants.{Quiet, Mark, Paused};
-ghost use Rattle.shared_table.specs.Changes.{opened, resumed, paused, closed, whitened};
+ghost use Rattle.shared_table.specs.Changes.{IsContinued, opened, resumed, paused, closed, whitened};
 ghost use Rattle.shared_table.specs.Spots.{with_spot};
 ghost use Rattle.shared_table.specs.Worlds.{world_at_home};
 
 use crate::main_side::MainSide;
+use crate::own_words::OwnWords;
 use crate::phase::Phase;
 use crate::plays::{Choice, Closes, Opens, Pauses, PutsColour, Resumes};
 
 impl MainSide {
-    /// Opens a cycle, one that the caller's predicate allows for the caller's words and what the seat knew. Nothing is
-    /// copied.
-    pub fn open_cycle<M: Choice>(&mut self, words: &Vec<u64>)
+    /// Opens a cycle, one that the caller's predicate allows for the own words, how many objects were made, and what
+    /// the seat knew. Nothing is copied.
+    pub fn open_cycle<M: Choice>(&mut self, own: &OwnWords, made: u32)
         requires quiet { self.old.main.phase ≡ Quiet }
         requires home { self.old.main.home ≡ true }
-        requires chosen { (cycle : Cycle) × M.fits words.now.items self.old.main cycle
+        requires chosen { (cycle : Cycle) × M.fits own.now made self.old.main cycle
             × Fresh (world_at_home (opened self.old.main cycle)) }
-        ensures opened { (cycle : Cycle) × M.fits words.now.items self.old.main cycle
+        ensures opened { (cycle : Cycle) × M.fits own.now made self.old.main cycle
             × Fresh (world_at_home (opened self.old.main cycle))
             × (self.new ≡ record self.old { main = opened self.old.main cycle }) }
     {
         self.shared
             .table
             .shared
-            .compare_exchange_with::<Opens<M>>(&mut self.seat, 0, 0, 0, words);
+            .compare_exchange_with::<Opens<M>>(&mut self.seat, 0, made as u64, made as u64, own);
         self.phase = Phase::Mark;
     }
 
@@ -81,20 +82,23 @@ impl MainSide {
             .store::<PutsColour>(&mut self.seat, place, 2);
     }
 
-    /// Goes on with a cycle that waited, as one that the caller's predicate allows for the caller's words and what the
-    /// seat knew. What was found at the opening stays.
-    pub fn resume_cycle<M: Choice>(&mut self, words: &Vec<u64>)
+    /// Goes on with a cycle that waited, as one that the caller's predicate allows for the own words, how many objects
+    /// were made, and what the seat knew. Its lists are those of the cycle that waited, with promoted cells joined.
+    /// What was found at the opening stays.
+    pub fn resume_cycle<M: Choice>(&mut self, own: &OwnWords, made: u32)
         requires paused { self.old.main.phase ≡ Paused }
         requires home { self.old.main.home ≡ true }
-        requires chosen { (cycle : Cycle) × M.fits words.now.items self.old.main cycle
+        requires chosen { (cycle : Cycle) × M.fits own.now made self.old.main cycle
+            × IsContinued self.old.main.view cycle
             × IsSoundAndBorn (world_at_home (resumed self.old.main cycle)) }
-        ensures resumed { (cycle : Cycle) × M.fits words.now.items self.old.main cycle
+        ensures resumed { (cycle : Cycle) × M.fits own.now made self.old.main cycle
+            × IsContinued self.old.main.view cycle
             × (self.new ≡ record self.old { main = resumed self.old.main cycle }) }
     {
         self.shared
             .table
             .shared
-            .compare_exchange_with::<Resumes<M>>(&mut self.seat, 0, 0, 0, words);
+            .compare_exchange_with::<Resumes<M>>(&mut self.seat, 0, made as u64, made as u64, own);
         self.phase = Phase::Mark;
     }
 }

@@ -2,6 +2,7 @@
 ghost use Rattle.std.specs.Prelude.{◌≡◌};
 
 use crate::overview::{Counts, View};
+use crate::own_words::OwnWords;
 use atomic_table::Seat;
 use std::marker::Model;
 
@@ -9,7 +10,7 @@ use std::marker::Model;
 #[derive(Drop)]
 pub struct HelperSeat {
     pub(crate) counts: Counts,
-    pub(crate) seat: Seat<Vec<u64>, View>,
+    pub(crate) seat: Seat<OwnWords, View>,
 }
 
 impl Model for HelperSeat {

@@ -1,12 +1,13 @@
 //! What each step of a lent seat on a word of the table tells it.
 
 use crate::overview::View;
+use crate::own_words::OwnWords;
 use atomic_table::Play;
 
 /// The header of a cell is read.
 pub(crate) struct LoadsHeader;
 
-impl Play<Vec<u64>, View> for LoadsHeader {
+impl Play<OwnWords, View> for LoadsHeader {
     ghost use Rattle.shared_table.specs.HelperTold.{tells_learned, header_load};
 
     ghost then = { tells_learned header_load };
@@ -15,7 +16,7 @@ impl Play<Vec<u64>, View> for LoadsHeader {
 /// A layout word is read.
 pub(crate) struct LoadsLayout;
 
-impl Play<Vec<u64>, View> for LoadsLayout {
+impl Play<OwnWords, View> for LoadsLayout {
     ghost use Rattle.shared_table.specs.HelperTold.{tells_learned, layout_load};
 
     ghost then = { tells_learned layout_load };
@@ -24,7 +25,7 @@ impl Play<Vec<u64>, View> for LoadsLayout {
 /// The length of a cell is read.
 pub(crate) struct LoadsLength;
 
-impl Play<Vec<u64>, View> for LoadsLength {
+impl Play<OwnWords, View> for LoadsLength {
     ghost use Rattle.shared_table.specs.HelperTold.{tells_learned, length_load};
 
     ghost then = { tells_learned length_load };
@@ -33,7 +34,7 @@ impl Play<Vec<u64>, View> for LoadsLength {
 /// A slot is read.
 pub(crate) struct LoadsSlot;
 
-impl Play<Vec<u64>, View> for LoadsSlot {
+impl Play<OwnWords, View> for LoadsSlot {
     ghost use Rattle.shared_table.specs.HelperTold.{tells_learned, slot_load};
 
     ghost then = { tells_learned slot_load };
@@ -42,7 +43,7 @@ impl Play<Vec<u64>, View> for LoadsSlot {
 /// A snap is settled.
 pub(crate) struct Settles;
 
-impl Play<Vec<u64>, View> for Settles {
+impl Play<OwnWords, View> for Settles {
     ghost use Rattle.shared_table.specs.HelperTold.{tells_settled};
 
     ghost then = { tells_settled };
@@ -51,7 +52,7 @@ impl Play<Vec<u64>, View> for Settles {
 /// A cell is shaded.
 pub(crate) struct ShadesTarget;
 
-impl Play<Vec<u64>, View> for ShadesTarget {
+impl Play<OwnWords, View> for ShadesTarget {
     ghost use Rattle.shared_table.specs.HelperTold.{tells_shaded};
 
     ghost then = { tells_shaded };
@@ -60,7 +61,7 @@ impl Play<Vec<u64>, View> for ShadesTarget {
 /// A cell that is not white is shaded: its colour stays.
 pub(crate) struct SeesTarget;
 
-impl Play<Vec<u64>, View> for SeesTarget {
+impl Play<OwnWords, View> for SeesTarget {
     ghost use Rattle.shared_table.specs.HelperTold.{tells_seen};
 
     ghost then = { tells_seen };
@@ -69,7 +70,7 @@ impl Play<Vec<u64>, View> for SeesTarget {
 /// A cell is given to the board.
 pub(crate) struct GivesCell;
 
-impl Play<Vec<u64>, View> for GivesCell {
+impl Play<OwnWords, View> for GivesCell {
     ghost use Rattle.shared_table.specs.HelperTold.{tells_learned, giving};
 
     ghost then = { tells_learned giving };
@@ -78,7 +79,7 @@ impl Play<Vec<u64>, View> for GivesCell {
 /// A cell is taken from the board.
 pub(crate) struct TakesOne;
 
-impl Play<Vec<u64>, View> for TakesOne {
+impl Play<OwnWords, View> for TakesOne {
     ghost use Rattle.shared_table.specs.HelperTold.{tells_taken};
 
     ghost then = { tells_taken };
@@ -87,7 +88,7 @@ impl Play<Vec<u64>, View> for TakesOne {
 /// Nothing is taken from a place of the board where nothing is.
 pub(crate) struct TakesNone;
 
-impl Play<Vec<u64>, View> for TakesNone {
+impl Play<OwnWords, View> for TakesNone {
     ghost use Rattle.shared_table.specs.HelperTold.{tells_none};
 
     ghost then = { tells_none };
@@ -96,7 +97,7 @@ impl Play<Vec<u64>, View> for TakesNone {
 /// A word is read, and nothing is learned of it.
 pub(crate) struct Looks;
 
-impl Play<Vec<u64>, View> for Looks {
+impl Play<OwnWords, View> for Looks {
     ghost use Rattle.shared_table.specs.HelperTold.{tells_nothing};
 
     ghost then = { tells_nothing };

@@ -6,6 +6,7 @@ ghost use Rattle.shared_table.specs.declared.phase.Phase.TheVariants.{Mark};
 ghost use Rattle.shared_table.specs.Spots.{with_spot};
 
 use crate::overview::{Counts, View};
+use crate::own_words::OwnWords;
 use crate::phase::Phase;
 use crate::plays::{PutsLayout, PutsWord};
 use crate::rule::SharedTable;
@@ -23,7 +24,7 @@ pub struct MainSide {
     // How many seats are out.
     pub(crate) out: u64,
     pub(crate) shared: Arc<SharedTable, Global>,
-    pub(crate) seat: Seat<Vec<u64>, View>,
+    pub(crate) seat: Seat<OwnWords, View>,
 }
 
 impl Model for MainSide {

@@ -1,16 +1,18 @@
 //! What each step on a word of the table tells its seat.
-ghost use Rattle.std.specs.Prelude.{List, ℕ};
+ghost use Rattle.std.specs.Prelude.{ℕ};
 ghost use Rattle.mark_world.specs.Cycles.{Cycle};
 ghost use Rattle.shared_table.specs.declared.overview.Overview.{Overview};
+ghost use Rattle.shared_table.specs.Owned.{Own};
 
 use crate::overview::View;
+use crate::own_words::OwnWords;
 use atomic_table::{Join, Play, Split};
 use std::marker::PhantomData;
 
 /// A word is stored in a slot.
 pub(crate) struct StoresSlot;
 
-impl Play<Vec<u64>, View> for StoresSlot {
+impl Play<OwnWords, View> for StoresSlot {
     ghost use Rattle.shared_table.specs.Told.{tells_event, slot_event};
 
     ghost then = { tells_event slot_event };
@@ -19,7 +21,7 @@ impl Play<Vec<u64>, View> for StoresSlot {
 /// A word is stored where no helper reads one that it visits by.
 pub(crate) struct StoresOwned;
 
-impl Play<Vec<u64>, View> for StoresOwned {
+impl Play<OwnWords, View> for StoresOwned {
     ghost use Rattle.shared_table.specs.Told.{tells_event, owned_event};
 
     ghost then = { tells_event owned_event };
@@ -28,7 +30,7 @@ impl Play<Vec<u64>, View> for StoresOwned {
 /// The shape of a plain cell changes.
 pub(crate) struct StoresHeader;
 
-impl Play<Vec<u64>, View> for StoresHeader {
+impl Play<OwnWords, View> for StoresHeader {
     ghost use Rattle.shared_table.specs.Told.{tells_event, header_event};
 
     ghost then = { tells_event header_event };
@@ -37,7 +39,7 @@ impl Play<Vec<u64>, View> for StoresHeader {
 /// A layout word comes to its place.
 pub(crate) struct AddsLayout;
 
-impl Play<Vec<u64>, View> for AddsLayout {
+impl Play<OwnWords, View> for AddsLayout {
     ghost use Rattle.shared_table.specs.Told.{tells_event, layout_event};
 
     ghost then = { tells_event layout_event };
@@ -46,7 +48,7 @@ impl Play<Vec<u64>, View> for AddsLayout {
 /// A white cell turns grey.
 pub(crate) struct Shades;
 
-impl Play<Vec<u64>, View> for Shades {
+impl Play<OwnWords, View> for Shades {
     ghost use Rattle.shared_table.specs.Told.{tells_found, shade_event};
 
     ghost then = { tells_found shade_event };
@@ -55,7 +57,7 @@ impl Play<Vec<u64>, View> for Shades {
 /// A cell that is not white is shaded: its colour stays.
 pub(crate) struct LeavesColour;
 
-impl Play<Vec<u64>, View> for LeavesColour {
+impl Play<OwnWords, View> for LeavesColour {
     ghost use Rattle.shared_table.specs.Told.{tells_left, shade_event};
 
     ghost then = { tells_left shade_event };
@@ -64,7 +66,7 @@ impl Play<Vec<u64>, View> for LeavesColour {
 /// A cell that is black is made black: its colour stays.
 pub(crate) struct LeavesBlack;
 
-impl Play<Vec<u64>, View> for LeavesBlack {
+impl Play<OwnWords, View> for LeavesBlack {
     ghost use Rattle.shared_table.specs.Told.{tells_left, blacken_event};
 
     ghost then = { tells_left blacken_event };
@@ -73,7 +75,7 @@ impl Play<Vec<u64>, View> for LeavesBlack {
 /// A cell turns black.
 pub(crate) struct Blackens;
 
-impl Play<Vec<u64>, View> for Blackens {
+impl Play<OwnWords, View> for Blackens {
     ghost use Rattle.shared_table.specs.Told.{tells_found, blacken_event};
 
     ghost then = { tells_found blacken_event };
@@ -82,7 +84,7 @@ impl Play<Vec<u64>, View> for Blackens {
 /// A new cell is black.
 pub(crate) struct MakesBlack;
 
-impl Play<Vec<u64>, View> for MakesBlack {
+impl Play<OwnWords, View> for MakesBlack {
     ghost use Rattle.shared_table.specs.Told.{tells_event, new_event};
 
     ghost then = { tells_event new_event };
@@ -91,7 +93,7 @@ impl Play<Vec<u64>, View> for MakesBlack {
 /// A cell is given to the board.
 pub(crate) struct PutsCell;
 
-impl Play<Vec<u64>, View> for PutsCell {
+impl Play<OwnWords, View> for PutsCell {
     ghost use Rattle.shared_table.specs.Told.{tells_found, give_event};
 
     ghost then = { tells_found give_event };
@@ -100,7 +102,7 @@ impl Play<Vec<u64>, View> for PutsCell {
 /// A cell is taken from the board.
 pub(crate) struct TakesCell;
 
-impl Play<Vec<u64>, View> for TakesCell {
+impl Play<OwnWords, View> for TakesCell {
     ghost use Rattle.shared_table.specs.Told.{tells_found, take_event};
 
     ghost then = { tells_found take_event };
@@ -109,7 +111,7 @@ impl Play<Vec<u64>, View> for TakesCell {
 /// A word of a page is put while helpers may not mark.
 pub(crate) struct PutsWord;
 
-impl Play<Vec<u64>, View> for PutsWord {
+impl Play<OwnWords, View> for PutsWord {
     ghost use Rattle.shared_table.specs.Told.{tells_put, heap_spot};
 
     ghost then = { tells_put heap_spot };
@@ -118,7 +120,7 @@ impl Play<Vec<u64>, View> for PutsWord {
 /// A layout word is put.
 pub(crate) struct PutsLayout;
 
-impl Play<Vec<u64>, View> for PutsLayout {
+impl Play<OwnWords, View> for PutsLayout {
     ghost use Rattle.shared_table.specs.Told.{tells_put, shape_spot};
 
     ghost then = { tells_put shape_spot };
@@ -127,7 +129,7 @@ impl Play<Vec<u64>, View> for PutsLayout {
 /// A colour is put.
 pub(crate) struct PutsColour;
 
-impl Play<Vec<u64>, View> for PutsColour {
+impl Play<OwnWords, View> for PutsColour {
     ghost use Rattle.shared_table.specs.Told.{tells_put, colour_spot};
 
     ghost then = { tells_put colour_spot };
@@ -136,7 +138,7 @@ impl Play<Vec<u64>, View> for PutsColour {
 /// A colour is read.
 pub(crate) struct SeesColour;
 
-impl Play<Vec<u64>, View> for SeesColour {
+impl Play<OwnWords, View> for SeesColour {
     ghost use Rattle.shared_table.specs.Told.{tells_colour};
 
     ghost then = { tells_colour };
@@ -145,7 +147,7 @@ impl Play<Vec<u64>, View> for SeesColour {
 /// The mutator's view is as it is in a sound world.
 pub(crate) struct IsSound;
 
-impl Play<Vec<u64>, View> for IsSound {
+impl Play<OwnWords, View> for IsSound {
     ghost use Rattle.shared_table.specs.Told.{tells_sound};
 
     ghost then = { tells_sound };
@@ -154,7 +156,7 @@ impl Play<Vec<u64>, View> for IsSound {
 /// With no seat out the world is sound.
 pub(crate) struct IsWhole;
 
-impl Play<Vec<u64>, View> for IsWhole {
+impl Play<OwnWords, View> for IsWhole {
     ghost use Rattle.shared_table.specs.Told.{tells_whole};
 
     ghost then = { tells_whole };
@@ -163,7 +165,7 @@ impl Play<Vec<u64>, View> for IsWhole {
 /// A cycle waits.
 pub(crate) struct Pauses;
 
-impl Play<Vec<u64>, View> for Pauses {
+impl Play<OwnWords, View> for Pauses {
     ghost use Rattle.shared_table.specs.Told.{tells_paused};
 
     ghost then = { tells_paused };
@@ -172,7 +174,7 @@ impl Play<Vec<u64>, View> for Pauses {
 /// A cycle is closed.
 pub(crate) struct Closes;
 
-impl Play<Vec<u64>, View> for Closes {
+impl Play<OwnWords, View> for Closes {
     ghost use Rattle.shared_table.specs.Told.{tells_closed};
 
     ghost then = { tells_closed };
@@ -181,15 +183,16 @@ impl Play<Vec<u64>, View> for Closes {
 /// The colours and the board are known again.
 pub(crate) struct ComesHome;
 
-impl Play<Vec<u64>, View> for ComesHome {
+impl Play<OwnWords, View> for ComesHome {
     ghost use Rattle.shared_table.specs.Told.{tells_home};
 
     ghost then = { tells_home };
 }
 
-/// Which cycle a main seat may come to be in, by the words that the caller has and what the seat knew before.
+/// Which cycle a main seat may come to be in, by the own words with their regions, how many objects were made, and what
+/// the seat knew before.
 pub trait Choice {
-    ghost fits: { List ℕ → Overview → Cycle → Type 0 };
+    ghost fits: { Own → ℕ → Overview → Cycle → Type 0 };
 }
 
 /// A cycle is opened, one that may be.
@@ -197,7 +200,7 @@ pub(crate) struct Opens<M> {
     choice: PhantomData<M>,
 }
 
-impl<M: Choice> Play<Vec<u64>, View> for Opens<M> {
+impl<M: Choice> Play<OwnWords, View> for Opens<M> {
     ghost use Rattle.shared_table.specs.Told.{tells_opened};
 
     ghost then = { tells_opened M.fits };
@@ -208,7 +211,7 @@ pub(crate) struct Resumes<M> {
     choice: PhantomData<M>,
 }
 
-impl<M: Choice> Play<Vec<u64>, View> for Resumes<M> {
+impl<M: Choice> Play<OwnWords, View> for Resumes<M> {
     ghost use Rattle.shared_table.specs.Told.{tells_resumed};
 
     ghost then = { tells_resumed M.fits };

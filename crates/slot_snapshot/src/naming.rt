@@ -1,12 +1,11 @@
 //! Which slots a cell has, by its header, its layout word and its length, each of which may be no such word.
-ghost use Rattle.std.specs.Prelude.{◌≡◌, ◌+◌, ◌*◌, ◌/◌, ◌↔◌, IsSome, IfSome, IsTrue, Some};
+ghost use Rattle.std.specs.Prelude.{◌≡◌, ◌↔◌, IsSome, IfSome, IsTrue, Some};
 ghost use Rattle.tagged_word.specs.Layouts.{IsLayout};
 ghost use Rattle.mark_world.specs.Naming.{is_in_page, known_size, named_slots};
-ghost use Rattle.mark_world.specs.Pages.{page_end};
 ghost use Rattle.mark_world.specs.Steps.{snap_begun};
 ghost use Rattle.slot_snapshot.specs.Loads.{named_as, shape_in, AreSlots, IsLoaded, IsLaid};
 
-use page_space::PAGE_WORDS;
+use mark_world::{known_size, page_end};
 use shared_table::{HelperSeat, SharedTable};
 use tagged_word::{Header, LayoutWord, Word, shape};
 
@@ -39,27 +38,6 @@ impl Slots {
     }
 }
 
-/// The size of a cell as far as marking asks for it: a table and a gap have no slots to visit, and are taken for empty.
-#[inline(always)]
-fn known_size(layout: LayoutWord, length: u64) -> Option<u32>
-    ensures { result ≡ known_size layout length }
-{
-    if layout.kind.has_length() && !layout.kind.marks_by_length() {
-        Some(0)
-    } else {
-        layout.size(length)
-    }
-}
-
-/// The address behind the page that an address lies in.
-#[inline(always)]
-fn page_end(at: u32) -> u64
-    ensures { result ≡ page_end at }
-{
-    let words = PAGE_WORDS as u64;
-    words * (at as u64 / words + 1)
-}
-
 /// The shape of a header, if the word is one's and there may be such a shape.
 #[inline(always)]
 fn shape_of(header: u64) -> Option<u32>
@@ -74,8 +52,7 @@ fn shape_of(header: u64) -> Option<u32>
 }
 
 /// Loads the layout word of the cell whose header was loaded, and its length if that tells its slots. Returns the
-/// slots,
-/// or nothing where the words that were found are those of no cell in its page.
+/// slots, or nothing where the words that were found are those of no cell in its page.
 pub(crate) fn load_slots(
     seat: &mut HelperSeat,
     table: &SharedTable,

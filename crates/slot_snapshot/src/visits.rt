@@ -49,8 +49,7 @@ impl Helper {
     }
 
     /// Visits a grey cell that waits with a seat: loads what it needs of the cell, word by word, and then makes it
-    /// black
-    /// if it is grey still. The gate is passed before the exchange and after it.
+    /// black if it is grey still. The gate is passed before the exchange and after it.
     #[inline]
     pub fn visit<G: Gate>(
         &mut self,

@@ -48,7 +48,7 @@ fn root_of(image: &HeapImage, variable: u32) -> Held
     ensures { HeldBy (image_heap image.now) variable result }
 {
     // No heap has 2^32 words or more.
-    let _words_count = image.regions.count();
+    image.regions.sizes_fit();
     let mut words = SliceWords::new(image.words.as_slice());
     held_by(&mut words, &image.regions, variable)
 }

@@ -57,7 +57,7 @@ fn has_page_dead(image: &HeapImage, page: u32, n: u32) -> bool
     ensures { IsTrue result ↔ HasPageDead (image_heap image.now) n page }
 {
     // No address of a heap is past 32 bits.
-    let _words_count = image.regions.count();
+    image.regions.sizes_fit();
     has_dead(image, PAGE_WORDS * page, PAGE_WORDS * (page + 1), n)
 }
 

@@ -65,7 +65,7 @@ fn comes_to(old: &HeapImage, new: &HeapImage, moves: &[Move], cell: Cell, now: u
         ↔ ComesTo (image_heap old.now) (image_heap new.now) (to_of moves.now) cell now }
 {
     // No address of a heap is past 32 bits.
-    let _words_count = old.regions.count();
+    old.regions.sizes_fit();
     if comer_from(old, moves, now, cell.at + cell.size).is_some() {
         return false;
     }

@@ -68,7 +68,7 @@ fn slot_next_to(image: &HeapImage, object: Cell, named: u32) -> Option<u32>
     ensures { IsFound (IsSlotNextTo (image_heap image.now) object named) result }
 {
     // No address of a heap is past 32 bits.
-    let _words_count = image.regions.count();
+    image.regions.sizes_fit();
     let Some(at) = Word(word_of(image, object, STORE_SLOT)).address() else {
         return None;
     };
@@ -92,7 +92,7 @@ fn slot_in(image: &HeapImage, cell: Cell, named: u32) -> Option<u32>
     ensures { IsFound (IsSlotIn (image_heap image.now) cell named) result }
 {
     // No address of a heap is past 32 bits.
-    let _words_count = image.regions.count();
+    image.regions.sizes_fit();
     let mut from = 0;
     while let Some(offset) = next_scavenge_slot(&cell, from) {
         let slot = cell.at + offset;

@@ -47,7 +47,7 @@ fn are_recorded(image: &HeapImage, slots: &[u32]) -> bool
         ↔ AreRecordedTo (image_heap image.now) slots.now (eden_start image.now.regions) }
 {
     // No address of a heap is past 32 bits.
-    let _words_count = image.regions.count();
+    image.regions.sizes_fit();
     for at in 0..PAGE_WORDS * image.regions.sizes().pages {
         if slots.contains(&at) != must_be_recorded(image, at) {
             return false;

@@ -13,7 +13,7 @@ use Rattle.cell_layout.proofs.Rows.{cell_within, rows_stay}
 use Rattle.heap_model.specs.Types.{Cell}
 use Rattle.heap_model.specs.Heaps.{Heap}
 use Rattle.heap_model.proofs.RegionRows.{row_between}
-use Rattle.heap_table.specs.Seats.{heap_words}
+use Rattle.write_barrier.specs.Seats.{heap_words}
 use Rattle.write_barrier.specs.MutatorState.{Mutator, heap_of}
 use Rattle.heap_walk.specs.Limits.{IsLimit}
 use Rattle.heap_walk.specs.Walks.{StandAhead, IsNext}

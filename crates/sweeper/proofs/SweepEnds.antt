@@ -1,17 +1,18 @@
 -- A sweep that has come to the roots is at its end.
-use Rattle.std.proofs.Common.{◌≡◌, ℕ, ◌≤◌, ◌⊎◌, inl, inr, List, slice_get, sym, ◌∙◌, ap, subst}
+use Rattle.std.proofs.Common.{◌≡◌, ℕ, ◌+◌, ◌<◌, ◌≤◌, ◌⊎◌, inl, inr, List, slice_get, sym, ◌∙◌, ap, subst, arith}
 use Rattle.page_space.specs.Extents.{roots_start}
 use Rattle.free_runs.specs.FreeRuns.{AreFree}
 use Rattle.nursery.specs.Young.{Young}
-use Rattle.heap_table.specs.Seats.{heap_words}
+use Rattle.write_barrier.specs.Seats.{heap_words}
 use Rattle.heap_model.specs.Heaps.{Heap, words_of_cell}
 use Rattle.heap_model.specs.Changes.{Patch}
 use Rattle.heap_model.specs.Collectable.{IsCollectable, IsInHalf, AreFreeRuns}
 use Rattle.heap_model.specs.Remembered.{AreRemembered}
 use Rattle.heap_model.proofs.Patches.{before_has}
+use Rattle.heap_model.proofs.RowCovers.{covered}
 use Rattle.heap_moves.specs.Moved.{IsMoved}
 use Rattle.write_barrier.specs.MutatorState.{Mutator, heap_of}
-use Rattle.sweeper.specs.Swept.{IsOfMarked, IsSweepable, Sweeps, place_if_marked}
+use Rattle.sweeper.specs.Swept.{IsOfMarked, IsCellWord, IsSweepable, Sweeps, place_if_marked}
 use Rattle.sweeper.specs.Sweeping.{IsBegun, Sweeping}
 use Rattle.sweeper.proofs.FreedParts.{first_of}
 use Rattle.sweeper.proofs.SweptHeap.{Swept, after, gap_is, outside_stays, marked_word_stays, cell_from}
@@ -33,6 +34,26 @@ collectable_again {heap} all half collectable = record {
     | inr stood ↦ collectable.empty cell now stood.0 inside
   ];
 }
+
+-- a word of a cell was one of a cell
+cell_words_were : {heap : Heap} {words marked : List ℕ} {gaps : List Patch} (all : Swept heap words marked gaps)
+    (at : ℕ) → IsCellWord (after all) at → IsCellWord heap at
+cell_words_were {heap} all at is = elim (cell_from all is.has) [
+  | inl of_gap ↦
+      let gap : Patch = of_gap.gap in
+      let freed = gap_is all gap of_gap.among in
+      let one = covered heap.space heap.words gap.from gap.to gap.before at freed.is.stood
+      (omega (arith, of_gap.fills.begins, is.from)) (omega (arith, of_gap.fills.ends, is.below)) in
+      record {
+        cell = one.cell;
+        words = words_of_cell heap one.cell;
+        has = before_has freed.is one.among;
+        from = one.of_cell.from;
+        below = one.of_cell.below;
+      }
+  | inr stood ↦
+      record { cell = is.cell; words = is.words; has = stood.0; from = is.from; below = is.below }
+]
 
 module _ {first new : Mutator} {marked : List ℕ} (begun : IsBegun first)
     (sweeping : Sweeping first new marked (roots_start first.seat.space)) where
@@ -63,6 +84,8 @@ module _ {first new : Mutator} {marked : List ℕ} (begun : IsBegun first)
   sweep_ends closed apart = record {
     moved = subst (λ (heap : Heap). IsMoved (heap_of first) heap (place_if_marked marked)) heap_is
         (swept_is_moved all closed);
+    cells = λ at is.
+        cell_words_were all at (subst (λ (heap : Heap). IsCellWord heap at) (sym heap_is) is);
     seat = sweeping.seat;
     paths = sweeping.paths;
     young = sweeping.young;

@@ -5,7 +5,8 @@ use Rattle.std.proofs.lemmas.Bool.{cases_lt}
 use Rattle.page_space.specs.Extents.{Space}
 use Rattle.remembered_set.specs.Recorded.{Recorded}
 use Rattle.heap_table.specs.Phases.{Quiet}
-use Rattle.heap_table.specs.Seats.{Seat, RestStays, heap_words}
+use Rattle.write_barrier.specs.Seats.{Seat, RestStays, heap_words}
+use Rattle.write_barrier.specs.Staying.{rest_stays_again}
 use Rattle.heap_model.specs.Types.{Run}
 use Rattle.heap_model.specs.Changes.{Patch}
 use Rattle.write_barrier.specs.MutatorState.{Mutator, heap_of}
@@ -14,14 +15,6 @@ use Rattle.sweeper.proofs.FreedParts.{DeadPart, gap_of, part_is_swept}
 use Rattle.sweeper.proofs.SweptRows.{nothing_swept}
 use Rattle.sweeper.proofs.GapRuns.{no_runs, gap_elsewhere, runs_with_gap}
 use Rattle.sweeper.proofs.GapRecords.{none_forgotten, forgotten_with_gap}
-
--- what stays twice stays
-pub stays_again : (first old new : Seat) → RestStays first old → RestStays old new → RestStays first new
-stays_again first old new one then = record {
-  space = then.space ∙ one.space;
-  phase = then.phase ∙ one.phase;
-  count = then.count ∙ one.count;
-}
 
 -- only the mutator runs, as when the sweep began
 pub sweep_is_quiet : {first now : Mutator} {marked : List ℕ} {to : ℕ} → IsBegun first → Sweeping first now marked to
@@ -39,7 +32,7 @@ sweep_begins first now marked rows cleared =
     let Rests : Seat → Type 0 = λ one. RestStays first.seat one in
     let Forgotten : Recorded → Type 0 = λ one. AreForgotten [] first.recorded one in
     record {
-      seat = subst Rests (sym seat) (record { space = refl; phase = refl; count = refl });
+      seat = subst Rests (sym seat) (record { space = refl; phase = refl; count = refl; shared = refl });
       paths = ap (λ (main : Mutator). main.paths) same;
       young = ap (λ (main : Mutator). main.young) same;
       gaps = [];
@@ -80,7 +73,7 @@ module _ {first old new : Mutator} {marked : List ℕ} {from to : ℕ} (sweeping
   sweep_covers =
       let Swept : List ℕ → Type 0 = λ words. IsSweptTo (heap_of first) words marked now_gaps to in
       record {
-        seat = stays_again first.seat old.seat new.seat sweeping.seat covers.seat;
+        seat = rest_stays_again first.seat old.seat new.seat sweeping.seat covers.seat;
         paths = covers.paths ∙ sweeping.paths;
         young = covers.young ∙ sweeping.young;
         gaps = now_gaps;

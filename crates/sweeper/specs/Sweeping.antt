@@ -11,7 +11,7 @@ use Rattle.cell_layout.specs.Cells.{IsRow}
 use Rattle.free_runs.specs.FreeRuns.{LiesIn, IsBehind, row_of}
 use Rattle.remembered_set.specs.Recorded.{Recorded}
 use Rattle.heap_table.specs.Phases.{Quiet}
-use Rattle.heap_table.specs.Seats.{RestStays, heap_words}
+use Rattle.write_barrier.specs.Seats.{RestStays, heap_words}
 use Rattle.heap_model.specs.Types.{Cell, Run}
 use Rattle.heap_model.specs.Heaps.{Heap, Row, HasCell}
 use Rattle.heap_model.specs.Kinds.{HasNoNumber}

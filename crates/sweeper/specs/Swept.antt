@@ -6,7 +6,7 @@ use Rattle.page_space.specs.Extents.{eden_start, roots_start}
 use Rattle.handle_roots.specs.Roots.{root_at}
 use Rattle.free_runs.specs.FreeRuns.{AreFree}
 use Rattle.free_runs.specs.Laws.{IsFreeWord}
-use Rattle.heap_table.specs.Seats.{RestStays, heap_words}
+use Rattle.write_barrier.specs.Seats.{RestStays, heap_words}
 use Rattle.heap_model.specs.Types.{Cell}
 use Rattle.heap_model.specs.Heaps.{Heap, HasCell}
 use Rattle.heap_model.specs.Slots.{reference_word}
@@ -39,12 +39,22 @@ pub record IsOfMarked (heap : Heap) (marked : List ℕ) (at : ℕ) : Type 0 wher
   pub from : cell.at ≤ at
   pub below : at < cell.at + cell.size
 
+-- the word at the address is one of a cell
+pub record IsCellWord (heap : Heap) (at : ℕ) : Type 0 where
+  pub cell : Cell
+  pub words : List ℕ
+  pub has : HasCell heap cell words
+  pub from : cell.at ≤ at
+  pub below : at < cell.at + cell.size
+
 -- A sweep that keeps the marked cells. Each of them stands where it stood, and each other cell is free and has no
--- number. No word of a marked cell has changed, no root word and no layout word. Each page has a row of free runs. They are
--- single cells, and neither overlap nor touch; together they have the words of pages that no marked cell has. Recorded
--- are again the slots of pages that refer to young cells, if they were, and a half that was empty is.
+-- number, and has words of cells alone. No word of a marked cell has changed, no root word and no layout word. Each page
+-- has a row of free runs. They are single cells, and neither overlap nor touch; together they have the words of pages that
+-- no marked cell has. Recorded are again the slots of pages that refer to young cells, if they were, and a half that was
+-- empty is.
 pub record Sweeps (old new : Mutator) (marked : List ℕ) : Type 0 where
   pub moved : IsMoved (heap_of old) (heap_of new) (place_if_marked marked)
+  pub cells : (at : ℕ) → IsCellWord (heap_of new) at → IsCellWord (heap_of old) at
   pub seat : RestStays old.seat new.seat
   pub paths : new.paths ≡ old.paths
   pub young : new.young ≡ old.young

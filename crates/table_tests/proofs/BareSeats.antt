@@ -1,5 +1,5 @@
 -- A seat that was just opened is bare, and so is one whose cycle was closed.
-use Rattle.std.proofs.Common.{◌≡◌, ◌<◌, ◌%◌, ℕ, true, is_some, replicate, refl, sym, ap}
+use Rattle.std.proofs.Common.{◌≡◌, ◌%◌, ℕ, true, is_some, replicate, refl, sym, ap}
 use Rattle.std.proofs.Common.{subst, ◌∙◌, arith, Some, slice_get, Result, Ok, Err, IfOk}
 use Rattle.std.proofs.Math.Nat.{mul-mod_right}
 use Rattle.std.proofs.lemmas.List.{length-replicate, get_or-replicate}
@@ -10,7 +10,7 @@ use Rattle.page_space.specs.Extents.{Space, eden_start}
 use Rattle.shared_table.specs.declared.overview.Overview.{Overview}
 use Rattle.shared_table.specs.Worlds.{beginning}
 use Rattle.shared_table.specs.Seats.{Side}
-use Rattle.heap_table.specs.Owned.{zeros}
+use Rattle.shared_table.specs.Owned.{zeros}
 use Rattle.heap_table.specs.Seats.{Seat, IsFresh, counts_of}
 use Rattle.heap_table.specs.Overviews.{overview}
 use Rattle.heap_table.proofs.Agreeing.{zeros_agree}
@@ -74,10 +74,9 @@ one_page = record {
 
 -- a seat that was opened with them has all words of the page
 pub opened_page : (space : Space) (seat : Seat) → space ≡ one_page_space → IsFresh space true seat
-    → 2047 < eden_start seat.space
+    → eden_start seat.space ≡ 2048
 opened_page space seat is fresh =
-    let same : seat.space ≡ one_page_space = ap (λ (one : Seat). one.space) fresh.1 ∙ is in
-    omega (arith, ap (λ (one : Space). eden_start one) same)
+    ap (λ (one : Seat). eden_start one.space) fresh.1 ∙ ap (λ (one : Space). eden_start one) is
 
 -- what follows where a seat was opened
 pub if_ok : {P Q : Seat → Type 0} {E : Type 0} (result : Result Seat E) → ((seat : Seat) → P seat → Q seat)

@@ -7,7 +7,7 @@ use Rattle.mark_laws.specs.Types.{MainView}
 use Rattle.mark_world.specs.Pages.{EachFree}
 use Rattle.heap_table.specs.Seats.{Seat}
 use Rattle.heap_table.specs.Overviews.{overview}
-use Rattle.heap_table.proofs.SharedWords.{pages_before_marks}
+use Rattle.shared_table.proofs.PageEnds.{pages_before_marks}
 use Rattle.table_tests.specs.BareSeats.{HasOneCellOpen}
 
 never : (b : Bool) → b && not b ≡ true → ⊥

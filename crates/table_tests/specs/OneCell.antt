@@ -1,22 +1,23 @@
 -- A cycle that begins with no cell, and then has one.
-use Rattle.std.specs.Prelude.{◌≡◌, ◌%◌, ◌^◌, ◌<◌, ℕ, true, List, [], ◌∷◌, length, replicate}
+use Rattle.std.specs.Prelude.{◌≡◌, ◌%◌, ◌^◌, ◌<◌, ℕ, true, [], ◌∷◌, length, replicate}
 use Rattle.tagged_word.specs.Shapes.{shapes_most}
 use Rattle.page_space.specs.Sizes.{page_words}
 use Rattle.core_parts.specs.Boards.{empty_board}
 use Rattle.mark_world.specs.Cycles.{Cycle, cycle_of}
 use Rattle.shared_table.specs.declared.overview.Overview.{Overview}
 use Rattle.shared_table.specs.declared.phase.Phase.TheVariants.{Quiet, Mark}
+use Rattle.shared_table.specs.Owned.{Own}
 
 -- no cell is published so far, and nothing was reached
 abbrev pub no_cells : Cycle
 no_cells = record { starts = []; born = []; mine = []; sure = []; reached = []; made = 0 }
 
-abbrev pub IsEmpty : List ℕ → Overview → Cycle → Type 0
-IsEmpty words main cycle = cycle ≡ no_cells
+abbrev pub IsEmpty : Own → ℕ → Overview → Cycle → Type 0
+IsEmpty own made main cycle = cycle ≡ no_cells
 
 -- no cell was promoted while the cycle waited: its lists are as they were
-abbrev pub IsSame : List ℕ → Overview → Cycle → Type 0
-IsSame words main cycle = cycle ≡ cycle_of main.view main.reached main.made
+abbrev pub IsSame : Own → ℕ → Overview → Cycle → Type 0
+IsSame own made main cycle = cycle ≡ cycle_of main.view main.reached main.made
 
 -- a table with whole pages and all shapes, on which no cycle is open and no cell has a colour
 pub record IsBare (main : Overview) : Type 0 where

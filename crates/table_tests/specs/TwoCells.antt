@@ -1,16 +1,17 @@
 -- A list at 0 with its store at 3, both published and white when a cycle begins.
-use Rattle.std.specs.Prelude.{◌≡◌, ◌≤◌, ℕ, true, List, [], ◌∷◌, Some, slice_get, slice_index}
+use Rattle.std.specs.Prelude.{◌≡◌, ◌≤◌, ℕ, true, [], ◌∷◌, Some, slice_get, slice_index}
 use Rattle.mark_world.specs.Cycles.{Cycle}
 use Rattle.shared_table.specs.declared.overview.Overview.{Overview}
 use Rattle.shared_table.specs.declared.phase.Phase.TheVariants.{Mark}
+use Rattle.shared_table.specs.Owned.{Own}
 use Rattle.table_tests.specs.OneCell.{IsBare}
 
 -- the two cells are published and born
 abbrev pub two_cells : Cycle
 two_cells = record { starts = 0 ∷ 3 ∷ []; born = 0 ∷ 3 ∷ []; mine = []; sure = []; reached = []; made = 0 }
 
-abbrev pub IsTwo : List ℕ → Overview → Cycle → Type 0
-IsTwo words main cycle = cycle ≡ two_cells
+abbrev pub IsTwo : Own → ℕ → Overview → Cycle → Type 0
+IsTwo own made main cycle = cycle ≡ two_cells
 
 -- no cycle is open, and the words of the first page begin with a list and its store, which has no slot
 pub record HasTwoCells (main : Overview) : Type 0 where

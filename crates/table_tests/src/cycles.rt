@@ -4,7 +4,8 @@ ghost use Rattle.tagged_word.specs.Shapes.{shapes_most};
 ghost use Rattle.page_space.specs.Sizes.{page_words};
 ghost use Rattle.table_tests.specs.OneCell.{IsBare, HasOneCell};
 
-use shared_table::{Choice, Colour, Counts, MainSide, SharedTable};
+use page_space::{Regions, Sizes};
+use shared_table::{Choice, Colour, Counts, MainSide, OwnWords, SharedTable};
 use std::alloc::Global;
 use std::test::Fail;
 use tagged_word::NoMemory;
@@ -36,25 +37,35 @@ pub(crate) fn bare(alloc: Global, counts: Counts) -> Result<MainSide, NoMemory>
     SharedTable::open(alloc, counts)
 }
 
+/// The own words of a heap of one page. No choice of these tests asks for them.
+pub(crate) fn own_words(alloc: Global) -> Result<OwnWords, NoMemory> {
+    let sizes = Sizes {
+        pages: 1,
+        young: 64,
+        helpers: 0,
+    };
+    OwnWords::open(alloc, Regions::new(sizes, 1))
+}
+
 /// Opens a cycle, and makes a black cell in it.
-pub(crate) fn begin(side: &mut MainSide, words: &Vec<u64>, at: u32)
+pub(crate) fn begin(side: &mut MainSide, own: &OwnWords, at: u32)
     requires bare { IsBare side.old.main }
     requires within { at < side.old.main.old }
     ensures { HasOneCell side.new.main at }
 {
-    side.open_cycle::<Empty>(words);
+    side.open_cycle::<Empty>(own, 0);
     side.new_black(at);
 }
 
 /// Lets the cycle wait, and goes on with it. What it was opened with stays.
-fn wait(side: &mut MainSide, words: &Vec<u64>, at: u32)
+fn wait(side: &mut MainSide, own: &OwnWords, at: u32)
     requires { HasOneCell side.old.main at }
     ensures cell { HasOneCell side.new.main at }
     ensures reached { side.new.main.reached ≡ side.old.main.reached }
     ensures made { side.new.main.made ≡ side.old.main.made }
 {
     side.pause_cycle();
-    side.resume_cycle::<Same>(words);
+    side.resume_cycle::<Same>(own, 0);
 }
 
 /// Which colours the cell has had: when it was shaded, when it was blackened, and at the end of the cycle.
@@ -81,7 +92,7 @@ fn lent(side: &mut MainSide, at: u32) -> [Colour; 2]
 
 #[test]
 fn a_new_cell_is_black_until_the_end_of_its_cycle(rt: HostRuntime) -> Result<(), Fail> {
-    let words = Vec::new(rt.alloc());
+    let own = own_words(rt.alloc())?;
     let counts = Counts {
         old: 2_048,
         shapes: 8_200,
@@ -89,8 +100,8 @@ fn a_new_cell_is_black_until_the_end_of_its_cycle(rt: HostRuntime) -> Result<(),
     for at in [0, 10, 2_047] {
         let mut side = bare(rt.alloc(), counts)?;
         if at < side.counts().old {
-            begin(&mut side, &words, at);
-            wait(&mut side, &words, at);
+            begin(&mut side, &own, at);
+            wait(&mut side, &own, at);
             assert!(rt; colours(&mut side, at) == [Colour::Black; 3]);
         }
     }
@@ -99,14 +110,14 @@ fn a_new_cell_is_black_until_the_end_of_its_cycle(rt: HostRuntime) -> Result<(),
 
 #[test]
 fn seats_are_lent_and_come_back(rt: HostRuntime) -> Result<(), Fail> {
-    let words = Vec::new(rt.alloc());
+    let own = own_words(rt.alloc())?;
     let counts = Counts {
         old: 2_048,
         shapes: 8_200,
     };
     let mut side = bare(rt.alloc(), counts)?;
     if 10 < side.counts().old {
-        begin(&mut side, &words, 10);
+        begin(&mut side, &own, 10);
         assert!(rt; lent(&mut side, 10) == [Colour::Black; 2]);
     }
     Ok(())

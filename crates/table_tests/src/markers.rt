@@ -2,7 +2,7 @@
 ghost use Rattle.std.specs.Prelude.{◌≡◌, [], None};
 ghost use Rattle.shared_table.specs.declared.phase.Phase.TheVariants.{Mark};
 
-use crate::cycles::{bare, begin};
+use crate::cycles::{bare, begin, own_words};
 use crew::OpenGate;
 use marker::{Marker, Outcome};
 use shared_table::{Counts, MainSide};
@@ -30,14 +30,14 @@ pub(crate) fn runs(side: &mut MainSide, marker: Marker, turns: [u32; 2]) -> [Opt
 
 #[test]
 fn a_marker_that_finds_nothing_is_drained_after_a_round(rt: HostRuntime) -> Result<(), Fail> {
-    let words = Vec::new(rt.alloc());
+    let own = own_words(rt.alloc())?;
     let counts = Counts {
         old: 2_048,
         shapes: 8_200,
     };
     let mut side = bare(rt.alloc(), counts)?;
     if 10 < side.counts().old {
-        begin(&mut side, &words, 10);
+        begin(&mut side, &own, 10);
         let marker = Marker::new(rt.alloc(), side.table()?, side.counts().old)?;
         let [first, second] = runs(&mut side, marker, [63, 65]);
         assert!(rt; first == Some(Outcome::Spent { turns: 63 }));

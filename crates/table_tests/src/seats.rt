@@ -2,6 +2,7 @@
 //! made. What is expected is worked out by hand.
 ghost use Rattle.std.specs.Prelude.{◌≡◌, ◌+◌, ◌<◌, IfOk};
 ghost use Rattle.page_space.specs.Extents.{eden_start};
+ghost use Rattle.heap_table.specs.Overviews.{overview};
 ghost use Rattle.table_tests.specs.BareSeats.{HasNoLayout, HasOneCellOpen, IsBareSeat};
 
 use crate::cycles::Empty;
@@ -16,7 +17,7 @@ use word_store::Reads;
 fn bare(alloc: Global) -> Result<MainSeat, NoMemory>
     ensures bare { IfOk result (λ seat. IsBareSeat seat) }
     ensures layouts { IfOk result (λ seat. HasNoLayout seat 17) }
-    ensures page { IfOk result (λ seat. 2047 < eden_start seat.space) }
+    ensures page { IfOk result (λ seat. eden_start seat.space ≡ 2048) }
 {
     let sizes = Sizes {
         pages: 1,
@@ -31,10 +32,10 @@ fn begin(seat: &mut MainSeat, at: u32)
     requires bare { IsBareSeat seat.old }
     requires within { at < eden_start seat.old.space }
     ensures cell { HasOneCellOpen seat.new at }
-    ensures table { seat.new.table ≡ seat.old.table }
+    ensures layouts { (overview seat.new).layouts ≡ (overview seat.old).layouts }
     ensures space { seat.new.space ≡ seat.old.space }
 {
-    seat.open_cycle::<Empty>();
+    seat.open_cycle::<Empty>(0);
     seat.new_black(at);
 }
 
@@ -46,7 +47,7 @@ fn store_owned(seat: &mut MainSeat, at: u32)
     ensures space { seat.new.space ≡ seat.old.space }
 {
     // No address of a heap is past 32 bits.
-    let _words_count = seat.regions().count();
+    seat.regions().sizes_fit();
     seat.store_owned(at + 1, 5);
 }
 
@@ -58,8 +59,29 @@ fn store_slot(seat: &mut MainSeat, at: u32)
     ensures space { seat.new.space ≡ seat.old.space }
 {
     // No address of a heap is past 32 bits.
-    let _words_count = seat.regions().count();
+    seat.regions().sizes_fit();
     seat.store_slot(at + 2, 10);
+}
+
+/// Fills four words of eden with 7 in the open cycle, and copies two of them.
+fn put_behind(seat: &mut MainSeat, at: u32)
+    requires cell { HasOneCellOpen seat.old at }
+    requires page { eden_start seat.old.space ≡ 2048 }
+    ensures cell { HasOneCellOpen seat.new at }
+    ensures space { seat.new.space ≡ seat.old.space }
+{
+    let _regions = seat.regions();
+    if seat.count() >= 2_102 {
+        seat.fill_own(2_048, 4, 7);
+        seat.copy_own(2_050, 2_100, 2);
+    }
+}
+
+/// Puts the layout word of shape 5 while no cycle is open.
+fn lay(seat: &mut MainSeat)
+    requires { IsBareSeat seat.old }
+{
+    seat.put_layout(5, 0x12);
 }
 
 /// Lends seven seats, and takes them back.
@@ -99,8 +121,7 @@ fn finish(seat: &mut MainSeat, at: u32) -> [Colour; 3]
     ensures bare { IsBareSeat seat.new }
     ensures space { seat.new.space ≡ seat.old.space }
 {
-    // The sizes are within their limits.
-    let _words_count = seat.regions().count();
+    seat.regions().sizes_fit();
     let shaded = seat.shade(at);
     let blackened = seat.blacken(at);
     seat.close_cycle();
@@ -143,6 +164,18 @@ fn a_cycle_follows_another_on_a_seat(rt: HostRuntime) -> Result<(), Fail> {
     store_owned(&mut seat, 1_000);
     store_slot(&mut seat, 1_000);
     assert!(rt; word_at(&seat, 1_001) == Some(5) && word_at(&seat, 1_002) == Some(10));
+    put_behind(&mut seat, 1_000);
+    assert!(rt; word_at(&seat, 2_051) == Some(7) && word_at(&seat, 2_052) == Some(0));
+    assert!(rt; word_at(&seat, 2_101) == Some(7) && word_at(&seat, 2_102) == Some(0));
     lend_seven(&mut seat, 1_000);
+    Ok(())
+}
+
+#[test]
+fn a_layout_word_is_put_while_no_cycle_is_open(rt: HostRuntime) -> Result<(), Fail> {
+    let mut seat = bare(rt.alloc())?;
+    lay(&mut seat);
+    assert!(rt; word_at(&seat, seat.regions().layout_at(5)) == Some(0x12));
+    assert!(rt; word_at(&seat, seat.regions().layout_at(6)) == Some(0));
     Ok(())
 }

@@ -3,10 +3,10 @@ ghost use Rattle.std.specs.Prelude.{◌≡◌, ◌≤◌};
 ghost use Rattle.table_tests.specs.OneCell.{IsBare};
 ghost use Rattle.table_tests.specs.TwoCells.{HasBegun, HasTwoCells};
 
-use crate::cycles::bare;
+use crate::cycles::{bare, own_words};
 use crate::markers::runs;
 use marker::{Marker, Outcome};
-use shared_table::{Choice, Colour, Counts, MainSide};
+use shared_table::{Choice, Colour, Counts, MainSide, OwnWords};
 use std::test::Fail;
 
 /// The cycle that begins with the two cells.
@@ -19,7 +19,7 @@ impl Choice for Two {
 }
 
 /// Puts a list at 0 and its store at 3, and their layout words.
-fn fill(side: &mut MainSide)
+pub(crate) fn fill(side: &mut MainSide)
     requires bare { IsBare side.old.main }
     requires page { 2048 ≤ side.old.main.old }
     ensures { HasTwoCells side.new.main }
@@ -33,11 +33,11 @@ fn fill(side: &mut MainSide)
 }
 
 /// Opens a cycle with the two cells.
-fn begin(side: &mut MainSide, words: &Vec<u64>)
+pub(crate) fn begin(side: &mut MainSide, own: &OwnWords)
     requires { HasTwoCells side.old.main }
     ensures { HasBegun side.new.main }
 {
-    side.open_cycle::<Two>(words);
+    side.open_cycle::<Two>(own, 0);
 }
 
 /// Shades the list, and gives it to the board. Returns the colour that it had.
@@ -56,7 +56,7 @@ fn give_list(side: &mut MainSide) -> Colour
 fn a_marker_takes_a_list_from_the_board_and_blackens_its_store_too(
     rt: HostRuntime,
 ) -> Result<(), Fail> {
-    let words = Vec::new(rt.alloc());
+    let own = own_words(rt.alloc())?;
     let counts = Counts {
         old: 2_048,
         shapes: 8_200,
@@ -64,7 +64,7 @@ fn a_marker_takes_a_list_from_the_board_and_blackens_its_store_too(
     let mut side = bare(rt.alloc(), counts)?;
     if side.counts().old >= 2_048 {
         fill(&mut side);
-        begin(&mut side, &words);
+        begin(&mut side, &own);
         assert!(rt; give_list(&mut side) == Colour::White);
         let marker = Marker::new(rt.alloc(), side.table()?, side.counts().old)?;
         let [first, second] = runs(&mut side, marker, [2, 1_000]);

@@ -1,13 +1,14 @@
 //! A table of one page and a nursery of 64 words, with one variable: the heap words are 2,048, 64,
 //! twice 64, 2 and 8,200 (`heap_table`).
-ghost use Rattle.std.specs.Prelude.{◌≡◌, None};
+ghost use Rattle.std.specs.Prelude.{◌≡◌};
 ghost use Rattle.heap_table.specs.Phases.{Quiet};
 
 use cell_layout::cell_at;
 use heap_table::{HeapTable, MainSeat, OwnWords, Phase};
 use page_space::{Regions, Sizes};
 use std::test::Fail;
-use word_store::{Reads, copy};
+use tagged_word::shape;
+use word_store::Reads;
 
 /// How many words stand before the marks.
 const HEAP_WORDS: u32 = 10_442;
@@ -23,9 +24,8 @@ fn one_page() -> Regions {
 
 /// Puts a word of the heap, if it stands before the marks.
 fn put_at(seat: &mut MainSeat, a: u32, word: u64)
-    requires quiet { seat.old.phase ≡ Quiet }
-    ensures phase { seat.new.phase ≡ Quiet }
-    ensures shared { seat.new.shared ≡ seat.old.shared }
+    requires { seat.old.phase ≡ Quiet }
+    ensures { seat.new.phase ≡ Quiet }
 {
     let _regions = seat.regions();
     if a < seat.count() {
@@ -43,21 +43,24 @@ fn word_at(seat: &MainSeat, a: u32) -> Option<u64> {
     }
 }
 
-/// Copies the three words at 3 to 1,000 among all words. Returns how many words the seat has, and the size of the cell
-/// at 1,000.
-fn while_paused(seat: &mut MainSeat) -> (u32, u32)
-    requires { seat.old.shared ≡ None }
-    ensures { seat.new.phase ≡ seat.old.phase }
+/// Puts a layout word of a shape that there may be.
+fn put_layout_at(seat: &mut MainSeat, shape: u32, word: u64)
+    requires { seat.old.phase ≡ Quiet }
+    ensures { seat.new.phase ≡ Quiet }
 {
-    let mut paused = seat.paused();
-    let count = paused.count();
-    if count < 1_003 {
-        return (count, 0);
+    if shape < shape::COUNT {
+        seat.put_layout(shape, word);
     }
-    copy(&mut paused, 3, 1_000, 3);
-    match cell_at(&mut paused, &one_page(), 1_000) {
-        Ok(cell) => (count, cell.size),
-        Err(_) => (count, 0),
+}
+
+/// Copies the three words at 3 to 1,000.
+fn copy_three(seat: &mut MainSeat)
+    requires { seat.old.phase ≡ Quiet }
+    ensures { seat.new.phase ≡ Quiet }
+{
+    let _regions = seat.regions();
+    if seat.count() >= 1_003 {
+        seat.copy(3, 1_000, 3);
     }
 }
 
@@ -77,9 +80,9 @@ fn a_new_table_is_0_and_what_is_put_and_copied_is_read_again(rt: HostRuntime) ->
     // A gap of 3 words at 3, and the layout word of gaps.
     put_at(&mut seat, 3, 30);
     put_at(&mut seat, 4, 3);
-    put_at(&mut seat, 2_249, 8);
+    put_layout_at(&mut seat, 7, 8);
     put_at(&mut seat, HEAP_WORDS - 1, u64::MAX);
-    assert!(rt; while_paused(&mut seat) == (HEAP_WORDS, 3));
+    copy_three(&mut seat);
     match cell_at(&mut seat, &one_page(), 1_000) {
         Ok(cell) => assert!(rt; cell.size == 3 && cell.length == 3),
         Err(_) => return Err(Fail::from("no cell")),

@@ -1,7 +1,12 @@
 //! Values that variables hold, each with the two root words that it makes (`handle_roots`).
 
+ghost use Rattle.std.specs.Prelude.{◌≡◌, ℕ, ◌+◌, ◌<◌, ◌≤◌, length, slice_set};
+ghost use Rattle.page_space.specs.Extents.{layouts_start};
+ghost use Rattle.handle_roots.specs.declared.held.Held.{Held as What};
+ghost use Rattle.handle_roots.specs.Roots.{root_at, Holds, IsRoot, with_root};
+
 use crate::places::loaded;
-use handle_roots::{Held, copy, held_by, hold, is_bound};
+use handle_roots::{Held, RootPair, held_by, is_bound, root_words, words_of};
 use page_space::{Regions, Sizes};
 use std::test::Fail;
 use word_store::{Reads, VecWords, Words};
@@ -28,7 +33,7 @@ const VALUES: [(u32, Held, u64, u64, bool); 11] = [
 ];
 
 /// The words of all three variables, which begin at 2,240.
-fn root_words(words: &mut VecWords) -> [Option<u64>; 6] {
+fn all_root_words(words: &mut VecWords) -> [Option<u64>; 6] {
     [
         loaded(words, 2_240),
         loaded(words, 2_241),
@@ -37,6 +42,44 @@ fn root_words(words: &mut VecWords) -> [Option<u64>; 6] {
         loaded(words, 2_244),
         loaded(words, 2_245),
     ]
+}
+
+/// Puts both root words of a variable.
+fn put_pair(words: &mut VecWords, regions: &Regions, variable: u32, pair: RootPair)
+    requires known { variable < regions.now.variables }
+    requires within { layouts_start regions.now ≤ length words.old }
+    ensures { let at = root_at regions.now variable in
+        words.new ≡ slice_set (slice_set words.old at pair.first) (at + 1) pair.second }
+{
+    regions.sizes_fit();
+    let root = regions.root_at(variable);
+    words.put(root, pair.first);
+    words.put(root + 1, pair.second);
+}
+
+/// Makes a variable hold a value.
+fn hold(words: &mut VecWords, regions: &Regions, variable: u32, value: Held)
+    requires known { variable < regions.now.variables }
+    requires within { layouts_start regions.now ≤ length words.old }
+    ensures held { words.new ≡ with_root regions.now words.old variable value }
+    ensures holds { Holds regions.now words.new variable value }
+{
+    put_pair(words, regions, variable, words_of(value));
+}
+
+/// Makes a variable hold what another one holds.
+fn copy(words: &mut VecWords, regions: &Regions, from: u32, to: u32)
+    requires known { from < regions.now.variables }
+    requires target_known { to < regions.now.variables }
+    requires within { layouts_start regions.now ≤ length words.old }
+    requires root { IsRoot regions.now words.old from }
+    ensures held { (held : What) → Holds regions.now words.old from held
+        → words.new ≡ with_root regions.now words.old to held }
+    ensures holds { (held : What) → Holds regions.now words.old from held
+        → Holds regions.now words.new to held }
+{
+    let pair = root_words(words, regions, from);
+    put_pair(words, regions, to, pair);
 }
 
 #[test]
@@ -61,7 +104,7 @@ fn a_variable_holds_each_value_by_its_two_words(rt: HostRuntime) -> Result<(), F
         assert!(rt; held_by(&mut words, &regions, 2) == value, "row {row}");
         let (first, second) = (Some(first), Some(second));
         let roots = [Some(0), Some(0), first, second, first, second];
-        assert!(rt; root_words(&mut words) == roots, "words of row {row}");
+        assert!(rt; all_root_words(&mut words) == roots, "words of row {row}");
     }
     Ok(())
 }

@@ -1,5 +1,5 @@
 -- Words that change one after another while a heap is opened.
-use Rattle.std.proofs.Common.{◌≡◌, ◌≢◌, ℕ, ◌+◌, ◌*◌, ◌<◌, ◌≤◌, ◌⊎◌, inl, inr, List}
+use Rattle.std.proofs.Common.{◌≡◌, ◌≢◌, ℕ, ◌+◌, ◌*◌, ◌<◌, ◌≤◌, ◌⊎◌, inl, inr, Bool, List}
 use Rattle.std.proofs.Common.{length, Some, slice_get}
 use Rattle.std.proofs.Common.{refl, sym, ◌∙◌, ap, subst, arith, length-set, below_more}
 use Rattle.std.specs.Prelude.{slice_set}
@@ -11,9 +11,9 @@ use Rattle.page_space.specs.Extents.{Space, marks_start}
 use Rattle.page_space.proofs.Starts.{roots_start_is, layouts_start_is, marks_start_is}
 use Rattle.object_graph.proofs.Lists.{slice_get-set_same, slice_get-set_other}
 use Rattle.handle_roots.specs.Roots.{root_at}
-use Rattle.heap_table.specs.Seats.{RestStays, heap_words, fresh}
-use Rattle.heap_table.specs.Staying.{rest_stays_itself, rest_stays_again}
-use Rattle.heap_table.proofs.HeapWords.{stays_beside-put}
+use Rattle.write_barrier.specs.Seats.{RestStays, heap_words, fresh}
+use Rattle.write_barrier.specs.Staying.{rest_stays_itself, rest_stays_again}
+use Rattle.write_barrier.proofs.HeapWords.{stays_beside-put}
 use Rattle.write_barrier.specs.MutatorState.{Mutator, put_word, IsOneGap, gap_header}
 use Rattle.write_barrier.specs.Opening.{ChangesWithin, AreZero}
 
@@ -92,9 +92,10 @@ gap_put words between new page at is within first second =
     }
 
 -- the words of a blank heap are 0
-pub blank_zero : (space : Space) → AreZero (heap_words (fresh space)) 0 (marks_start space)
-blank_zero space a from below =
-    slice_get-get_or (heap_words (fresh space)) a 0 (omega (arith, length-replicate {A = ℕ} (marks_start space) 0))
+pub blank_zero : (space : Space) (shared : Bool) → AreZero (heap_words (fresh space shared)) 0 (marks_start space)
+blank_zero space shared a from below =
+    slice_get-get_or (heap_words (fresh space shared)) a 0
+    (omega (arith, length-replicate {A = ℕ} (marks_start space) 0))
     ∙ ap (λ word. Some word) (get_or-replicate (marks_start space) a 0 0 below)
 
 -- a root stands before the marks

@@ -19,7 +19,7 @@ use Rattle.nursery.specs.Young.{Young}
 use Rattle.cell_layout.specs.Cells.{IsCell}
 use Rattle.cell_layout.specs.Cells.IsRow.{none, next}
 use Rattle.cell_layout.proofs.CellsThere.{slice_get-layouts_in}
-use Rattle.heap_table.specs.Seats.{heap_words}
+use Rattle.write_barrier.specs.Seats.{heap_words}
 use Rattle.heap_model.specs.Heaps.{Row, IsUsedRow, HasCell, cell_extents}
 use Rattle.heap_model.proofs.CellsApart.{cell_extent_stands}
 use Rattle.heap_model.proofs.RowEnds.{one_used_row}

@@ -1,3 +1,4 @@
+pub mod HeapWords
 pub mod Places
 pub mod Headers
 mod FirstCells
@@ -5,6 +6,9 @@ pub mod FirstRuns
 mod FirstHeaps
 mod Changes
 mod PutLayouts
+pub mod AddedPaths
+mod RootsPut
+mod Opened
 mod Starting
 mod ClassValues
 pub mod JudgedSlots

@@ -7,7 +7,7 @@ use Rattle.tagged_word.specs.Readings.{reference_in}
 use Rattle.page_space.specs.Extents.{eden_start, marks_start}
 use Rattle.object_graph.proofs.Lists.{slice_get-set_same, slice_get-set_other}
 use Rattle.remembered_set.specs.Recorded.{Recorded, IsBetween}
-use Rattle.heap_table.specs.Seats.{heap_words}
+use Rattle.write_barrier.specs.Seats.{heap_words}
 use Rattle.heap_model.specs.Types.{Cell}
 use Rattle.heap_model.specs.Wholeness.{HasRows, Whole}
 use Rattle.heap_model.specs.Changes.{CellsChange}

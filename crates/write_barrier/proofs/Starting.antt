@@ -4,167 +4,135 @@ use Rattle.std.proofs.Common.{sym, ◌∙◌, ap, subst, arith}
 use Rattle.page_space.specs.Sizes.{page_words, AreWithin}
 use Rattle.page_space.specs.Extents.{Space, eden_start, segments_start, roots_start, layouts_start, marks_start}
 use Rattle.page_space.proofs.Starts.{roots_start_is, layouts_start_is, marks_start_is}
-use Rattle.handle_roots.specs.declared.held.Held.TheVariants.{Unbound}
-use Rattle.handle_roots.specs.Roots.{root_at, first_word}
-use Rattle.heap_table.specs.Seats.{RestStays, fresh, heap_words}
-use Rattle.heap_table.specs.Staying.{rest_stays_again}
+use Rattle.handle_roots.specs.Roots.{root_at}
+use Rattle.shape_tree.specs.ShapeLayouts.{layout_word}
+use Rattle.write_barrier.specs.Seats.{RestStays, fresh, heap_words}
+use Rattle.write_barrier.specs.Staying.{rest_stays_again}
 use Rattle.write_barrier.specs.MutatorState.{Mutator, IsOneGap}
-use Rattle.write_barrier.specs.Opening.{ChangesWithin, AreZero, AreGaps, AreUnbound, HasLayouts, IsStarted, blank}
+use Rattle.write_barrier.specs.Layouts.{HasLayouts}
+use Rattle.write_barrier.specs.Opening.{ChangesWithin, AreZero, AreGaps, AreUnbound, IsLaid, IsStarted, blank}
 use Rattle.write_barrier.proofs.Changes.{blank_zero}
 
--- from a blank heap on, first words of pages have changed alone, and then root words
-pub record IsPutTo (space : Space) (first gaps last : Mutator) : Type 0 where
-  pub is : first ≡ blank space
-  pub pages : ChangesWithin first gaps 0 (eden_start space)
+-- from a heap with its layout words on, first words of pages have changed alone, and then root words
+pub record IsPutAll (space : Space) (laid gaps last : Mutator) : Type 0 where
+  pub laid_is : IsLaid laid space
+  pub pages : ChangesWithin laid gaps 0 (eden_start space)
+  pub gaps_are : AreGaps gaps
   pub roots : ChangesWithin gaps last (roots_start space) (layouts_start space)
+  pub unbound : AreUnbound last
+  pub seconds : (variable : ℕ) → variable < space.variables
+      → slice_get (heap_words last.seat) (root_at space variable + 1)
+      ≡ slice_get (heap_words gaps.seat) (root_at space variable + 1)
 
 -- the same, where each change says its own space
-pub put_to : (space : Space) (first gaps last : Mutator) → first ≡ blank space
-    → ChangesWithin first gaps 0 (eden_start first.seat.space)
-    → ChangesWithin gaps last (roots_start gaps.seat.space) (layouts_start gaps.seat.space)
-    → IsPutTo space first gaps last
-put_to space first gaps last is pages roots =
-    let same : first.seat.space ≡ space = ap (λ (main : Mutator). main.seat.space) is in
+pub put_all : (space : Space) (laid gaps last : Mutator) → IsLaid laid space
+    → ChangesWithin laid gaps 0 (eden_start laid.seat.space) → AreGaps gaps
+    → ChangesWithin gaps last (roots_start gaps.seat.space) (layouts_start gaps.seat.space) → AreUnbound last
+    → ((variable : ℕ) → variable < gaps.seat.space.variables
+    → slice_get (heap_words last.seat) (root_at gaps.seat.space variable + 1)
+    ≡ slice_get (heap_words gaps.seat) (root_at gaps.seat.space variable + 1))
+    → IsPutAll space laid gaps last
+put_all space laid gaps last is pages gaps_are roots unbound seconds =
+    let first : laid.seat.space ≡ space = is.changes.seat.space in
+    let same : gaps.seat.space ≡ space = pages.seat.space ∙ first in
     record {
-      is = is;
-      pages = subst (λ (s : Space). ChangesWithin first gaps 0 (eden_start s)) same pages;
-      roots = subst (λ (s : Space). ChangesWithin gaps last (roots_start s) (layouts_start s))
-          (pages.seat.space ∙ same) roots;
+      laid_is = is;
+      pages = subst (λ (s : Space). ChangesWithin laid gaps 0 (eden_start s)) first pages;
+      gaps_are = gaps_are;
+      roots = subst (λ (s : Space). ChangesWithin gaps last (roots_start s) (layouts_start s)) same roots;
+      unbound = unbound;
+      seconds = subst (λ (s : Space). (variable : ℕ) → variable < s.variables
+          → slice_get (heap_words last.seat) (root_at s variable + 1)
+          ≡ slice_get (heap_words gaps.seat) (root_at s variable + 1)) same seconds;
     }
 
 -- the space is the same
-put_space : {space : Space} {first gaps last : Mutator} → IsPutTo space first gaps last → last.seat.space ≡ space
-put_space put = put.roots.seat.space ∙ put.pages.seat.space ∙ ap (λ (main : Mutator). main.seat.space) put.is
+gaps_space : {space : Space} {laid gaps last : Mutator} → IsPutAll space laid gaps last → gaps.seat.space ≡ space
+gaps_space all = all.pages.seat.space ∙ all.laid_is.changes.seat.space
 
--- a word before the marks is 0 where neither a page nor a root stands
-put_zero : {space : Space} {first gaps last : Mutator} (a : ℕ) → IsPutTo space first gaps last → eden_start space ≤ a
-    → a < marks_start space → slice_get (heap_words gaps.seat) a ≡ Some 0
-put_zero {space} a put from below =
-    put.pages.beside a (inr from) ∙ ap (λ (main : Mutator). slice_get (heap_words main.seat) a) put.is
-    ∙ blank_zero space a (omega arith) below
+pub last_space : {space : Space} {laid gaps last : Mutator} → IsPutAll space laid gaps last → last.seat.space ≡ space
+last_space all = all.roots.seat.space ∙ gaps_space all
 
--- the layout words are still 0
-pub layouts_zero : (space : Space) (first gaps last : Mutator) → IsPutTo space first gaps last
-    → AreZero (heap_words last.seat) (layouts_start last.seat.space) (marks_start last.seat.space)
-layouts_zero space first gaps last put a from below =
-    let same = put_space put in
-    let low : layouts_start space ≤ a = subst (λ (s : Space). layouts_start s ≤ a) same from in
-    let high : a < marks_start space = subst (λ (s : Space). a < marks_start s) same below in
-    put.roots.beside a (inr low) ∙ put_zero a put (omega (arith, roots_start_is space, layouts_start_is space)) high
-
--- what is before the layout words stays when these are put
-pub record IsPutAll (space : Space) (first gaps bound last : Mutator) : Type 0 where
-  pub put : IsPutTo space first gaps bound
-  pub gaps_are : AreGaps gaps
-  pub unbound : AreUnbound bound
-  pub seconds : (variable : ℕ) → variable < space.variables
-      → slice_get (heap_words bound.seat) (root_at space variable + 1)
-      ≡ slice_get (heap_words gaps.seat) (root_at space variable + 1)
-  pub layouts : ChangesWithin bound last (layouts_start space) (marks_start space)
-  pub layouts_are : HasLayouts last
-
--- the same, where each change says its own space
-pub put_all : (space : Space) (first gaps bound last : Mutator) → IsPutTo space first gaps bound → AreGaps gaps
-    → AreUnbound bound
-    → ((variable : ℕ) → variable < gaps.seat.space.variables
-    → slice_get (heap_words bound.seat) (root_at gaps.seat.space variable + 1)
-    ≡ slice_get (heap_words gaps.seat) (root_at gaps.seat.space variable + 1))
-    → ChangesWithin bound last (layouts_start bound.seat.space) (marks_start bound.seat.space) → HasLayouts last
-    → IsPutAll space first gaps bound last
-put_all space first gaps bound last put gaps_are unbound seconds layouts layouts_are =
-    let same : gaps.seat.space ≡ space = put.pages.seat.space ∙ ap (λ (main : Mutator). main.seat.space) put.is in
-    record {
-      put = put;
-      gaps_are = gaps_are;
-      unbound = unbound;
-      seconds = subst (λ (s : Space). (variable : ℕ) → variable < s.variables
-          → slice_get (heap_words bound.seat) (root_at s variable + 1)
-          ≡ slice_get (heap_words gaps.seat) (root_at s variable + 1)) same seconds;
-      layouts = subst (λ (s : Space). ChangesWithin bound last (layouts_start s) (marks_start s))
-          (put_space put) layouts;
-      layouts_are = layouts_are;
-    }
+-- a word before the layout words is 0 where neither a page nor a root stands
+put_zero : {space : Space} {laid gaps last : Mutator} (a : ℕ) → IsPutAll space laid gaps last → eden_start space ≤ a
+    → a < layouts_start space → slice_get (heap_words gaps.seat) a ≡ Some 0
+put_zero {space} {laid} a all from below =
+    all.pages.beside a (inr from) ∙ all.laid_is.changes.beside a (inl below)
+    ∙ blank_zero space laid.seat.shared a (omega arith) (omega (arith, marks_start_is space))
 
 -- the pages are still gaps
-all_gaps : {space : Space} {first gaps bound last : Mutator} → IsPutAll space first gaps bound last → (page : ℕ)
+all_gaps : {space : Space} {laid gaps last : Mutator} → IsPutAll space laid gaps last → (page : ℕ)
     → page < space.sizes.pages → IsOneGap (heap_words last.seat) page
-all_gaps {space} {first} all page below =
-    let same = all.put.pages.seat.space ∙ ap (λ (main : Mutator). main.seat.space) all.put.is in
-    let gap = all.gaps_are page (subst (λ (s : Space). page < s.sizes.pages) (sym same) below) in
+all_gaps {space} all page below =
+    let gap = all.gaps_are page (subst (λ (s : Space). page < s.sizes.pages) (sym (gaps_space all)) below) in
     let within : page_words * page + page_words ≤ roots_start space = omega (arith, roots_start_is space) in
-    let early : roots_start space ≤ layouts_start space = omega (arith, layouts_start_is space) in
     record {
-      header = all.layouts.beside (page_words * page) (inl (omega arith))
-          ∙ all.put.roots.beside (page_words * page) (inl (omega arith)) ∙ gap.header;
-      size = all.layouts.beside (page_words * page + 1) (inl (omega arith))
-          ∙ all.put.roots.beside (page_words * page + 1) (inl (omega arith)) ∙ gap.size;
+      header = all.roots.beside (page_words * page) (inl (omega arith)) ∙ gap.header;
+      size = all.roots.beside (page_words * page + 1) (inl (omega arith)) ∙ gap.size;
     }
 
 -- the segments are still 0
-all_zero : {space : Space} {first gaps bound last : Mutator} → IsPutAll space first gaps bound last
+all_zero : {space : Space} {laid gaps last : Mutator} → IsPutAll space laid gaps last
     → AreZero (heap_words last.seat) (segments_start space) (roots_start space)
 all_zero {space} all a from below =
     let early : roots_start space ≤ layouts_start space = omega (arith, layouts_start_is space) in
-    let earlier : layouts_start space ≤ marks_start space = omega (arith, marks_start_is space) in
-    all.layouts.beside a (inl (omega arith)) ∙ all.put.roots.beside a (inl below)
-    ∙ put_zero a all.put (omega arith) (omega arith)
+    all.roots.beside a (inl below) ∙ put_zero a all (omega arith) (omega arith)
 
--- the variables are still bound to nothing
-all_unbound : {space : Space} {first gaps bound last : Mutator} → IsPutAll space first gaps bound last → (variable : ℕ)
-    → variable < space.variables
-    → slice_get (heap_words last.seat) (root_at space variable) ≡ Some (first_word Unbound)
-all_unbound {space} {bound = bound} all variable below =
-    let same = put_space all.put in
-    let there = all.unbound variable (subst (λ (s : Space). variable < s.variables) (sym same) below) in
-    all.layouts.beside (root_at space variable) (inl (omega (arith, layouts_start_is space)))
-    ∙ subst (λ (s : Space). slice_get (heap_words bound.seat) (root_at s variable) ≡ Some (first_word Unbound))
-    same there
-
--- and their second words are 0
-all_seconds : {space : Space} {first gaps bound last : Mutator} → IsPutAll space first gaps bound last → (variable : ℕ)
+-- the second words of variables are still 0
+all_seconds : {space : Space} {laid gaps last : Mutator} → IsPutAll space laid gaps last → (variable : ℕ)
     → variable < space.variables → slice_get (heap_words last.seat) (root_at space variable + 1) ≡ Some 0
 all_seconds {space} all variable below =
     let second = root_at space variable + 1 in
-    let before : second < layouts_start space = omega (arith, layouts_start_is space) in
-    let early : second < marks_start space = omega (arith, before, marks_start_is space) in
-    all.layouts.beside second (inl before) ∙ all.seconds variable below
-    ∙ put_zero second all.put (omega (arith, roots_start_is space)) early
+    all.seconds variable below
+    ∙ put_zero second all (omega (arith, roots_start_is space)) (omega (arith, layouts_start_is space))
+
+-- the layout words stay
+all_laid : {space : Space} {laid gaps last : Mutator} → IsPutAll space laid gaps last → HasLayouts last
+all_laid {space} {laid} {last = last} all shape few =
+    let start : layouts_start last.seat.space ≡ layouts_start space = ap layouts_start (last_space all) in
+    let before : layouts_start laid.seat.space ≡ layouts_start space =
+    ap layouts_start all.laid_is.changes.seat.space in
+    ap (λ (from : ℕ). slice_get (heap_words last.seat) (from + shape)) start
+    ∙ all.roots.beside (layouts_start space + shape) (inr (omega arith))
+    ∙ all.pages.beside (layouts_start space + shape)
+    (inr (omega (arith, roots_start_is space, layouts_start_is space)))
+    ∙ ap (λ (from : ℕ). slice_get (heap_words laid.seat) (from + shape)) (sym before)
+    ∙ all.laid_is.layouts shape few
+    ∙ ap (λ paths. Some (layout_word paths shape)) (sym (all.roots.paths ∙ all.pages.paths))
 
 -- behind the heap words all is as in words of 0
-all_beside : {space : Space} {first gaps bound last : Mutator} → IsPutAll space first gaps bound last
-    → RestStays (fresh space) last.seat
-all_beside {first = first} {gaps = gaps} {bound = bound} {last = last} all =
-    subst (λ (main : Mutator). RestStays main.seat last.seat) all.put.is
-    (rest_stays_again first.seat bound.seat last.seat
-    (rest_stays_again first.seat gaps.seat bound.seat all.put.pages.seat all.put.roots.seat) all.layouts.seat)
+all_beside : {space : Space} {laid gaps last : Mutator} → IsPutAll space laid gaps last
+    → RestStays (fresh space laid.seat.shared) last.seat
+all_beside {space} {laid} {gaps} {last} all =
+    let start = fresh space laid.seat.shared in
+    rest_stays_again start gaps.seat last.seat
+    (rest_stays_again start laid.seat gaps.seat all.laid_is.changes.seat all.pages.seat) all.roots.seat
 
 -- all that a heap begins with is there
-pub all_started : (space : Space) (first gaps bound last : Mutator) → IsPutAll space first gaps bound last
+pub all_started : (space : Space) (laid gaps last : Mutator) → IsPutAll space laid gaps last
     → AreWithin space.sizes space.variables → length (heap_words last.seat) ≡ marks_start last.seat.space
     → IsStarted last
-all_started space first gaps bound last all within counted =
-    let same : space ≡ last.seat.space = sym (all.layouts.seat.space ∙ put_space all.put) in
+all_started space laid gaps last all within counted =
+    let same : space ≡ last.seat.space = sym (last_space all) in
     let words = heap_words last.seat in
+    let shared = laid.seat.shared in
+    let still : shared ≡ last.seat.shared = sym (all.roots.seat.shared ∙ all.pages.seat.shared) in
     record {
-      beside = subst (λ (s : Space). RestStays (fresh s) last.seat) same (all_beside all);
-      paths = all.layouts.paths ∙ all.put.roots.paths ∙ all.put.pages.paths
-          ∙ ap (λ (main : Mutator). main.paths) all.put.is;
-      young = all.layouts.young ∙ all.put.roots.young ∙ all.put.pages.young
-          ∙ ap (λ (main : Mutator). main.young) all.put.is
-          ∙ ap (λ (s : Space). (blank s).young) same;
-      free = all.layouts.free ∙ all.put.roots.free ∙ all.put.pages.free
-          ∙ ap (λ (main : Mutator). main.free) all.put.is
-          ∙ ap (λ (s : Space). (blank s).free) same;
-      recorded = all.layouts.recorded ∙ all.put.roots.recorded ∙ all.put.pages.recorded
-          ∙ ap (λ (main : Mutator). main.recorded) all.put.is
-          ∙ ap (λ (s : Space). (blank s).recorded) same;
+      beside = subst (λ one. RestStays (fresh last.seat.space one) last.seat) still
+          (subst (λ (s : Space). RestStays (fresh s shared) last.seat) same (all_beside all));
+      paths = all.roots.paths ∙ all.pages.paths ∙ all.laid_is.changes.paths;
+      young = all.roots.young ∙ all.pages.young ∙ all.laid_is.changes.young
+          ∙ ap (λ (s : Space). (blank s shared).young) same;
+      free = all.roots.free ∙ all.pages.free ∙ all.laid_is.changes.free
+          ∙ ap (λ (s : Space). (blank s shared).free) same;
+      recorded = all.roots.recorded ∙ all.pages.recorded ∙ all.laid_is.changes.recorded
+          ∙ ap (λ (s : Space). (blank s shared).recorded) same;
       within = subst (λ (s : Space). AreWithin s.sizes s.variables) same within;
       count = counted;
       gaps = subst (λ (s : Space). (page : ℕ) → page < s.sizes.pages → IsOneGap words page) same (all_gaps all);
       segments = subst (λ (s : Space). AreZero words (segments_start s) (roots_start s)) same (all_zero all);
-      unbound = subst (λ (s : Space). (variable : ℕ) → variable < s.variables
-          → slice_get words (root_at s variable) ≡ Some (first_word Unbound)) same (all_unbound all);
+      unbound = all.unbound;
       seconds = subst (λ (s : Space). (variable : ℕ) → variable < s.variables
           → slice_get words (root_at s variable + 1) ≡ Some 0) same (all_seconds all);
-      layouts = all.layouts_are;
+      layouts = all_laid all;
     }

@@ -4,7 +4,7 @@ use Rattle.std.proofs.Common.{sym, ◌∙◌, ap, subst, arith}
 use Rattle.std.proofs.lemmas.Bool.{cases_lt}
 use Rattle.std.proofs.lemmas.Option.{none-some, same_Some}
 use Rattle.tagged_word.specs.Readings.{reference_in}
-use Rattle.heap_table.specs.Seats.{heap_words}
+use Rattle.write_barrier.specs.Seats.{heap_words}
 use Rattle.heap_model.specs.Slots.{hole_word}
 use Rattle.heap_model.specs.Remembered.{Touch, IsRecordedBy, RefersToYoung}
 use Rattle.write_barrier.specs.MutatorState.{Mutator, judged}

@@ -3,7 +3,7 @@ use Rattle.std.proofs.Common.{◌≡◌, ℕ, ◌+◌, ◌≤◌, inl, inr, List
 use Rattle.std.specs.Prelude.{slice_range}
 use Rattle.word_store.specs.Copies.{copied}
 use Rattle.word_store.proofs.CopiedWords.{length-piece}
-use Rattle.heap_table.specs.Seats.{heap_words}
+use Rattle.write_barrier.specs.Seats.{heap_words}
 use Rattle.heap_model.specs.Remembered.{Touch}
 use Rattle.write_barrier.specs.MutatorState.{Mutator, forgets, with_table}
 use Rattle.write_barrier.specs.Recording.{Touches, touched}

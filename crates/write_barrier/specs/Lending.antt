@@ -1,16 +1,9 @@
 -- What the mutator is after one of its parts was lent.
-use Rattle.std.specs.Prelude.{List}
 use Rattle.std.specs.Borrow.{Lends, MutBor, Fml}
-use Rattle.heap_model.specs.Types.{Path}
 use Rattle.nursery.specs.Young.{Young}
-use Rattle.shape_tree.specs.contracts.tree.ShapeTree.{the_row as tree_row}
 use Rattle.nursery.specs.contracts.Nursery.{the_row as nursery_row}
 use Rattle.write_barrier.specs.contracts.main_side.Main.{the_row}
 use Rattle.write_barrier.specs.MutatorState.{Mutator}
-
--- the mutator ends with the last paths behind the reference
-abbrev pub LendsShapes : MutBor Mutator → MutBor (List Path) → Fml
-LendsShapes main shapes = Lends the_row tree_row main shapes (λ last. record main.now { paths = last })
 
 -- the mutator ends with the last young generation behind the reference
 abbrev pub LendsNursery : MutBor Mutator → MutBor Young → Fml

@@ -1,6 +1,9 @@
+pub mod Seats
+pub mod Staying
 pub mod MutatorState
 pub mod Recording
 pub mod FreeCells
+pub mod Layouts
 pub mod Model
 pub mod Lending
 pub mod Reading

@@ -15,7 +15,7 @@ use Rattle.nursery.specs.Young.{Young, new_young, next_of, bumped, other_half}
 use Rattle.free_runs.specs.FreeRuns.{whole_rows}
 use Rattle.remembered_set.specs.Recorded.{Recorded, noted, forgotten}
 use Rattle.heap_table.specs.Phases.{Quiet}
-use Rattle.heap_table.specs.Seats.{Seat, RestStays, fresh, heap_words}
+use Rattle.write_barrier.specs.Seats.{Seat, RestStays, fresh, heap_words}
 use Rattle.heap_model.specs.Heaps.{Heap}
 use Rattle.heap_model.specs.Showing.{Shows}
 use Rattle.heap_model.specs.Changes.{AreFillers}
@@ -55,8 +55,8 @@ pub record IsTied (main : Mutator) : Type 0 where
   pub space : main.young.space ≡ main.seat.space
   pub granted : AreGranted (heap_of main) main.young.granted
 
--- The parts agree, only the mutator runs, and the heap shows the graph, which is one that a script makes. A scavenge may
--- come: the half that the survivors are not in is empty, each free run is one free cell, no such begins in what is
+-- The parts agree, only the mutator runs, and the heap shows the graph, which is one that a script makes. A scavenge
+-- may come: the half that the survivors are not in is empty, each free run is one free cell, no such begins in what is
 -- granted, and recorded are exactly the slots of pages that refer to young cells.
 pub record MainShows (main : Mutator) (graph : Graph) : Type 0 where
   pub tied : IsTied main
@@ -140,10 +140,10 @@ abbrev pub none_recorded : Space → Recorded
 none_recorded space = record { bound = eden_start space; slots = [] }
 
 -- A heap that was just opened: nothing is used and nothing has survived, each page is one gap and one free run, nothing
--- is recorded, and the phase is quiet.
+-- is recorded, and the phase is quiet. There may be a shared table.
 pub record IsOpened (main : Mutator) : Type 0 where
   pub young : main.young ≡ new_young main.seat.space
   pub free : main.free ≡ whole_rows main.seat.space.sizes.pages
   pub recorded : main.recorded ≡ none_recorded main.seat.space
-  pub beside : RestStays (fresh main.seat.space) main.seat
+  pub beside : RestStays (fresh main.seat.space main.seat.shared) main.seat
   pub pages : (page : ℕ) → page < main.seat.space.sizes.pages → IsOneGap (heap_words main.seat) page

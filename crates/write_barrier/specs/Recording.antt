@@ -1,7 +1,7 @@
 -- What becomes of the recorded addresses where the mutator puts words.
 use Rattle.std.specs.Prelude.{◌≡◌, ℕ, ◌+◌, if◌then◌else◌, List}
 use Rattle.remembered_set.specs.Recorded.{is_between}
-use Rattle.heap_table.specs.Seats.{heap_words}
+use Rattle.write_barrier.specs.Seats.{heap_words}
 use Rattle.heap_model.specs.Types.{Cell}
 use Rattle.heap_model.specs.Remembered.{Touch, Records, TouchesCells}
 use Rattle.write_barrier.specs.MutatorState.{Mutator, heap_of}

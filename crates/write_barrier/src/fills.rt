@@ -3,7 +3,7 @@ ghost use Rattle.std.specs.Prelude.{◌≡◌, ℕ, ◌+◌, ◌<◌, ◌≤◌,
 ghost use Rattle.page_space.specs.Extents.{marks_start};
 ghost use Rattle.word_store.specs.Copies.{AreDisjoint, copied};
 ghost use Rattle.heap_table.specs.Phases.{Quiet};
-ghost use Rattle.heap_table.specs.Seats.{RestStays, heap_words};
+ghost use Rattle.write_barrier.specs.Seats.{RestStays, heap_words};
 ghost use Rattle.heap_model.specs.Slots.{hole_word};
 ghost use Rattle.heap_model.specs.Remembered.{Touch};
 ghost use Rattle.write_barrier.specs.MutatorState.{MayStore, forgets, with_table};
@@ -28,7 +28,43 @@ impl Main {
         ensures touches { Touches self.old self.new (touched Touch.Wiped at (at + count)) }
     {
         self.addresses_fit();
-        self.forget(at, at + count);
+        if self.remembered.covers(at) {
+            self.fill_in_page(at, count, word);
+        } else {
+            self.fill_behind(at, count, word);
+        }
+    }
+
+    /// The same of words behind all pages, of which nothing is recorded.
+    #[inline(always)]
+    fn fill_behind(&mut self, at: u32, count: u32, word: u64)
+        requires may_store { MayStore self.old }
+        requires within { at + count ≤ marks_start self.old.seat.space }
+        requires behind { self.old.recorded.bound ≤ at }
+        ensures filled { let words = replicate count word in
+            let table = with_range self.old.seat.table at words in
+            self.new ≡ with_table (forgets self.old at (at + count)) table }
+        ensures heap { let words = heap_words self.old.seat in
+            heap_words self.new.seat ≡ with_range words at (replicate count word) }
+    {
+        self.seat.fill_own(at, count, word);
+    }
+
+    /// The same from a word of a page on.
+    #[cold]
+    #[inline(never)]
+    fn fill_in_page(&mut self, at: u32, count: u32, word: u64)
+        requires may_store { MayStore self.old }
+        requires within { at + count ≤ marks_start self.old.seat.space }
+        requires of_page { at < self.old.recorded.bound }
+        ensures filled { let words = replicate count word in
+            let table = with_range self.old.seat.table at words in
+            self.new ≡ with_table (forgets self.old at (at + count)) table }
+        ensures heap { let words = heap_words self.old.seat in
+            heap_words self.new.seat ≡ with_range words at (replicate count word) }
+    {
+        self.addresses_fit();
+        self.remembered.forget_range(at, at + count);
         self.seat.fill(at, count, word);
     }
 
@@ -77,7 +113,43 @@ impl Main {
         ensures touches { Touches self.old self.new (touched Touch.Wiped to (to + count)) }
     {
         self.addresses_fit();
-        self.forget(to, to + count);
+        if self.remembered.covers(to) {
+            self.copy_to_page(from, to, count);
+        } else {
+            self.copy_behind(from, to, count);
+        }
+    }
+
+    /// The same to words behind all pages, of which nothing is recorded.
+    #[inline(always)]
+    fn copy_behind(&mut self, from: u32, to: u32, count: u32)
+        requires may_store { MayStore self.old }
+        requires within { from + count ≤ marks_start self.old.seat.space }
+        requires room { to + count ≤ marks_start self.old.seat.space }
+        requires behind { self.old.recorded.bound ≤ to }
+        ensures copied { let table = copied self.old.seat.table from to count in
+            self.new ≡ with_table (forgets self.old to (to + count)) table }
+        ensures heap { let words = heap_words self.old.seat in
+            heap_words self.new.seat ≡ copied words from to count }
+    {
+        self.seat.copy_own(from, to, count);
+    }
+
+    /// The same to words from one of a page on.
+    #[cold]
+    #[inline(never)]
+    fn copy_to_page(&mut self, from: u32, to: u32, count: u32)
+        requires may_store { MayStore self.old }
+        requires within { from + count ≤ marks_start self.old.seat.space }
+        requires room { to + count ≤ marks_start self.old.seat.space }
+        requires of_page { to < self.old.recorded.bound }
+        ensures copied { let table = copied self.old.seat.table from to count in
+            self.new ≡ with_table (forgets self.old to (to + count)) table }
+        ensures heap { let words = heap_words self.old.seat in
+            heap_words self.new.seat ≡ copied words from to count }
+    {
+        self.addresses_fit();
+        self.remembered.forget_range(to, to + count);
         self.seat.copy(from, to, count);
     }
 

@@ -6,7 +6,7 @@ ghost use Rattle.page_space.specs.Extents.{marks_start};
 ghost use Rattle.free_runs.specs.FreeRuns.{AreFree, FitsNowhere, IsBehind, LiesIn, TakesFront, longest_of, row_of};
 ghost use Rattle.remembered_set.specs.Recorded.{HasNoneFrom, IsNextRecorded};
 ghost use Rattle.heap_table.specs.Phases.{Quiet};
-ghost use Rattle.heap_table.specs.Seats.{RestStays, heap_words};
+ghost use Rattle.write_barrier.specs.Seats.{RestStays, heap_words};
 ghost use Rattle.heap_model.specs.Remembered.{Touch};
 ghost use Rattle.write_barrier.specs.FreeCells.{with_free_cell};
 ghost use Rattle.write_barrier.specs.Recording.{Touches, touched};

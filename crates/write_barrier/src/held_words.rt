@@ -4,7 +4,7 @@ ghost use Rattle.tagged_word.specs.declared.word.Class.{Class};
 ghost use Rattle.tagged_word.specs.Words.{IsClass, bits_of};
 ghost use Rattle.tagged_word.specs.Readings.{reference_in};
 ghost use Rattle.page_space.specs.Extents.{marks_start};
-ghost use Rattle.heap_table.specs.Seats.{heap_words};
+ghost use Rattle.write_barrier.specs.Seats.{heap_words};
 ghost use Rattle.handle_roots.specs.Roots.{FitsHeld, with_root};
 ghost use Rattle.write_barrier.specs.MutatorState.{MayStore, heap_of, with_variable};
 ghost use Rattle.write_barrier.specs.Values as values;
@@ -56,8 +56,8 @@ impl Main {
         ensures fits { (class : Class) → IsClass class → word.0 ≡ bits_of class →
             FitsHeld (values.held_of_class (heap_of self.old) class) }
     {
-        let root = self.regions().root_at(variable);
-        self.put(root, word.0);
-        self.put_slot(root, 1, 0);
+        let root = self.root_of(variable);
+        self.put_own(root, word.0);
+        self.put_own_slot(root, 1, 0);
     }
 }

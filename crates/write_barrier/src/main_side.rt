@@ -1,5 +1,6 @@
 //! What the thread that runs commands has, and what it reads. Stores are in `writes.rt` and `fills.rt`,
-//! room for new cells in `room.rt`, free runs of pages in `free_cells.rt`, variables in `roots.rt`.
+//! room for new cells in `room.rt`, free runs of pages in `free_cells.rt`, variables in `roots.rt`, new field
+//! paths in `paths.rt`.
 ghost use Rattle.std.specs.Prelude.{◌≡◌, ◌+◌, ◌<◌, ◌^◌, ◌↔◌, length, slice_get, Some, refl};
 ghost use Rattle.std.specs.Prelude.{IfSome, IsNone, false};
 ghost use Rattle.std.specs.Borrow.{sem};
@@ -10,8 +11,8 @@ ghost use Rattle.page_space.specs.Extents.{marks_start};
 ghost use Rattle.shape_tree.specs.Shapes.{AreShapes, IsPathShape, IsLocated, shape_path, has_name};
 ghost use Rattle.shape_tree.specs.CachedSlots.{IsCachedSlot};
 ghost use Rattle.nursery.specs.Young.{IsYoung};
-ghost use Rattle.heap_table.specs.Seats.{heap_words};
-ghost use Rattle.write_barrier.specs.Lending.{LendsShapes, LendsNursery};
+ghost use Rattle.write_barrier.specs.Seats.{heap_words};
+ghost use Rattle.write_barrier.specs.Lending.{LendsNursery};
 ghost use Rattle.write_barrier.specs.MutatorState.{heap_of};
 ghost use Rattle.write_barrier.specs.Reading.{HasHeader, IsHeaderAt};
 
@@ -26,7 +27,8 @@ use tagged_word::Header;
 use word_store::Reads;
 
 /// The mutator: the seat of the thread that runs commands, the shapes, the young generation, the
-/// free runs of pages, and which slots of pages refer to young cells.
+/// free runs of pages, and which slots of pages refer to young cells. The seat may have a shared table, which
+/// helpers read: each word that is put in a page, and each layout word, goes there too.
 #[derive(Drop)]
 pub struct Main {
     pub(crate) seat: MainSeat,
@@ -41,11 +43,11 @@ impl Model for Main {
 
     ghost Value = { Mutator };
 
-    ghost use Rattle.write_barrier.specs.Model.{mutator_of, IsUnshared};
+    ghost use Rattle.write_barrier.specs.Model.{mutator_of, IsTold};
 
     ghost view = { mutator_of };
 
-    ghost invariant = { IsUnshared };
+    ghost invariant = { IsTold };
 }
 
 impl Main {
@@ -57,8 +59,7 @@ impl Main {
         ensures within { AreWithin self.now.seat.space.sizes self.now.seat.space.variables }
     {
         let regions = self.seat.regions();
-        // The sizes are within their limits.
-        let _words_count = regions.count();
+        regions.sizes_fit();
         regions
     }
 
@@ -133,14 +134,6 @@ impl Main {
         ensures { result.now ≡ self.now.paths }
     {
         &self.shapes
-    }
-
-    /// The shapes, to add field paths. No other part changes.
-    pub fn shapes_mut(&mut self) -> &mut ShapeTree
-        ensures* lends { sem 𝓛 (LendsShapes self.entry result) }
-        ensures paths { result.now ≡ self.old.paths }
-    {
-        &mut self.shapes
     }
 
     /// Where the field of this name stands in the path of a shape.

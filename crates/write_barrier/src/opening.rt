@@ -1,15 +1,16 @@
 //! How a heap is opened: into words of 0 goes what is not 0.
-ghost use Rattle.std.specs.Prelude.{◌≡◌, ℕ, ◌+◌, ◌*◌, ◌<◌, slice_get, IfOk};
+ghost use Rattle.std.specs.Prelude.{◌≡◌, ℕ, ◌+◌, ◌*◌, ◌<◌, Bool, slice_get, IfOk};
 ghost use Rattle.page_space.specs.Sizes.{page_words};
-ghost use Rattle.page_space.specs.Extents.{eden_start, roots_start, layouts_start, marks_start};
+ghost use Rattle.page_space.specs.Extents.{eden_start, roots_start, layouts_start};
 ghost use Rattle.object_graph.specs.Graphs.{start};
 ghost use Rattle.handle_roots.specs.Roots.{root_at};
 ghost use Rattle.heap_table.specs.Phases.{Quiet};
-ghost use Rattle.heap_table.specs.Seats.{fresh, heap_words};
+ghost use Rattle.heap_table.specs.Seats.{IsFresh};
+ghost use Rattle.write_barrier.specs.Seats.{heap_words};
 ghost use Rattle.write_barrier.specs.MutatorState.{IsOneGap, MainShows, IsOpened};
-ghost use Rattle.write_barrier.specs.Opening.{ChangesWithin, AreZero, AreGaps, AreUnbound};
-ghost use Rattle.write_barrier.specs.Opening.{HasLayouts, IsStarted, blank};
+ghost use Rattle.write_barrier.specs.Opening.{ChangesWithin, AreGaps, AreUnbound, IsLaid, IsStarted};
 
+use crate::layouts::put_layouts;
 use crate::main_side::Main;
 use free_runs::FreeRuns;
 use heap_table::MainSeat;
@@ -28,17 +29,18 @@ impl Main {
     /// # Errors
     /// Memory was refused, for the shapes, the free runs, or what is recorded of pages.
     pub fn open(alloc: Global, seat: MainSeat, regions: Regions) -> Result<Main, NoMemory>
-        requires { seat ≡ fresh regions }
+        requires { (shared : Bool) × IsFresh regions shared seat }
         ensures opened { IfOk result (λ main. MainShows main start × IsOpened main) }
         ensures regions { IfOk result (λ main. main.seat.space ≡ regions) }
     {
         let shapes = ShapeTree::new(alloc)?;
         let nursery = Nursery::new(&regions);
-        // The sizes are within their limits.
-        let _words_count = regions.count();
+        regions.sizes_fit();
         let pages = regions.sizes().pages;
         let free = FreeRuns::new(alloc, pages)?;
         let remembered = Remembered::new(alloc, pages)?;
+        let mut seat = seat;
+        put_layouts(&mut seat, &shapes, 1);
         let mut main = Main {
             seat,
             shapes,
@@ -50,15 +52,14 @@ impl Main {
         Ok(main)
     }
 
-    /// Puts all that is not 0 in a heap that was just opened.
+    /// Puts all else that is not 0 in a heap that has nothing but its layout words.
     fn start(&mut self, regions: &Regions)
-        requires { self.old ≡ blank regions.now }
+        requires { IsLaid self.old regions.now }
         ensures started { IsStarted self.new }
         ensures space { self.new.seat.space ≡ regions.now }
     {
         self.put_gaps();
         self.put_unbound();
-        self.put_layouts();
         // There are as many words as addresses.
         self.addresses_fit();
     }
@@ -107,19 +108,8 @@ impl Main {
     {
         let regions = self.regions();
         for variable in 0..regions.variables() {
-            self.put(regions.root_at(variable), Word::odd(odd::UNBOUND).0);
+            let root = self.root_of(variable);
+            self.put_own(root, Word::odd(odd::UNBOUND).0);
         }
-    }
-
-    /// Puts the layout words of the shapes in use.
-    fn put_layouts(&mut self)
-        requires quiet { self.old.seat.phase ≡ Quiet }
-        requires zero { let space = self.old.seat.space in
-            AreZero (heap_words self.old.seat) (layouts_start space) (marks_start space) }
-        ensures layouts { HasLayouts self.new }
-        ensures changes { let space = self.old.seat.space in
-            ChangesWithin self.old self.new (layouts_start space) (marks_start space) }
-    {
-        self.set_layouts(1);
     }
 }

@@ -4,7 +4,7 @@ ghost use Rattle.tagged_word.specs.Cells.{cell_words_most};
 ghost use Rattle.page_space.specs.Extents.{eden_start};
 ghost use Rattle.nursery.specs.Young.{HasRoom, with_granted};
 ghost use Rattle.heap_table.specs.Phases.{Quiet};
-ghost use Rattle.heap_table.specs.Seats.{RestStays, heap_words};
+ghost use Rattle.write_barrier.specs.Seats.{RestStays, heap_words};
 ghost use Rattle.heap_model.specs.Remembered.{Touch};
 ghost use Rattle.write_barrier.specs.FreeCells.{with_fillers};
 ghost use Rattle.write_barrier.specs.MutatorState.{reserved, IsNextRun};

@@ -1,81 +1,48 @@
 //! What the variables hold.
-ghost use Rattle.std.specs.Prelude.{◌≡◌, ◌≢◌, ◌↔◌, ◌<◌, ℕ, ℤ, IsTrue, IfSome, IsNone, None, false};
+ghost use Rattle.std.specs.Prelude.{◌≡◌, ◌≢◌, ◌↔◌, ◌+◌, ◌<◌, ◌≤◌, ℕ, ℤ, IsTrue, IfSome, IsNone, false};
 ghost use Rattle.tagged_word.specs.Words.{small};
-ghost use Rattle.heap_table.specs.Seats.{heap_words};
+ghost use Rattle.page_space.specs.Extents.{eden_start, marks_start};
+ghost use Rattle.write_barrier.specs.Seats.{heap_words};
 ghost use Rattle.handle_roots.specs.declared.held.Held.TheVariants.{Unbound, Int, Ref};
 ghost use Rattle.handle_roots.specs.Givens.{IsGivenFor, GivesHeld};
-ghost use Rattle.handle_roots.specs.Roots.{Holds, IsRoot, with_root};
+ghost use Rattle.handle_roots.specs.declared.held.Held.{Held};
+ghost use Rattle.handle_roots.specs.RootValues.{AreWordsOf};
+ghost use Rattle.handle_roots.specs.Roots.{Holds, IsRoot, root_at, with_root};
 ghost use Rattle.write_barrier.specs.MutatorState.{MayStore, with_variable};
 
 use crate::main_side::Main;
-use handle_roots::{Given, Held, held_by};
-use heap_table::MainSeat;
+use handle_roots::{Given, Held, RootPair, held_by, root_words, small_word, wide_word, words_of};
 use tagged_word::Word;
 
-/// Both root words of a variable become those of a value.
-#[inline(always)]
-fn hold_in(seat: &mut MainSeat, variable: u32, value: Held)
-    requires unshared { seat.old.shared ≡ None }
-    requires known { variable < seat.old.space.variables }
-    ensures held { let words = with_root seat.old.space seat.old.table variable value in
-        seat.new ≡ record seat.old { table = words } }
-    ensures holds { Holds seat.old.space seat.new.table variable value }
-{
-    let regions = seat.regions();
-    let mut paused = seat.paused();
-    handle_roots::hold(&mut paused, &regions, variable, value);
-}
-
-/// The root words of a variable that holds a small integer become those of another one.
-#[inline(always)]
-fn replace_small_in(seat: &mut MainSeat, variable: u32, v: i64)
-    requires unshared { seat.old.shared ≡ None }
-    requires known { variable < seat.old.space.variables }
-    requires was { (was : ℤ) × IsTrue (small was) × Holds seat.old.space seat.old.table variable (Int was) }
-    requires small { IsTrue (small v) }
-    ensures held { let words = with_root seat.old.space seat.old.table variable (Int v) in
-        seat.new ≡ record seat.old { table = words } }
-    ensures holds { Holds seat.old.space seat.new.table variable (Int v) }
-{
-    let regions = seat.regions();
-    let mut paused = seat.paused();
-    handle_roots::replace_small(&mut paused, &regions, variable, v);
-}
-
-/// The root words of a variable that holds an integer in the second become those of another one.
-#[inline(always)]
-fn replace_wide_in(seat: &mut MainSeat, variable: u32, v: i64)
-    requires unshared { seat.old.shared ≡ None }
-    requires known { variable < seat.old.space.variables }
-    requires was { (was : ℤ) × (small was ≡ false) × Holds seat.old.space seat.old.table variable (Int was) }
-    requires wide { small v ≡ false }
-    ensures held { let words = with_root seat.old.space seat.old.table variable (Int v) in
-        seat.new ≡ record seat.old { table = words } }
-    ensures holds { Holds seat.old.space seat.new.table variable (Int v) }
-{
-    let regions = seat.regions();
-    let mut paused = seat.paused();
-    handle_roots::replace_wide(&mut paused, &regions, variable, v);
-}
-
-/// Both root words of a variable become those of another one.
-fn copy_in(seat: &mut MainSeat, from: u32, to: u32)
-    requires unshared { seat.old.shared ≡ None }
-    requires known { from < seat.old.space.variables }
-    requires target_known { to < seat.old.space.variables }
-    requires root { IsRoot seat.old.space seat.old.table from }
-    ensures copied { (held : Held) → Holds seat.old.space seat.old.table from held →
-        let words = with_root seat.old.space seat.old.table to held in
-        seat.new ≡ record seat.old { table = words } }
-    ensures holds { (held : Held) → Holds seat.old.space seat.old.table from held →
-        Holds seat.old.space seat.new.table to held }
-{
-    let regions = seat.regions();
-    let mut paused = seat.paused();
-    handle_roots::copy(&mut paused, &regions, from, to);
-}
-
 impl Main {
+    /// The address of the first root word of a variable. Both stand behind the pages, and before the marks.
+    #[inline(always)]
+    pub(crate) fn root_of(&self, variable: u32) -> u32
+        requires { variable < self.now.seat.space.variables }
+        ensures at { result ≡ root_at self.now.seat.space variable }
+        ensures behind { eden_start self.now.seat.space ≤ result }
+        ensures before { result + 1 < marks_start self.now.seat.space }
+    {
+        self.regions().root_at(variable)
+    }
+
+    /// Puts both root words of a variable: those of this value.
+    #[inline(always)]
+    fn put_roots(&mut self, variable: u32, pair: RootPair)
+        requires may_store { MayStore self.old }
+        requires known { variable < self.old.seat.space.variables }
+        ensures held { (held : Held) → AreWordsOf held pair → self.new ≡ with_variable self.old variable held }
+        ensures heap { (held : Held) → AreWordsOf held pair → let words = heap_words self.old.seat in
+            heap_words self.new.seat ≡ with_root self.old.seat.space words variable held }
+        ensures holds { (held : Held) → AreWordsOf held pair →
+            Holds self.old.seat.space (heap_words self.new.seat) variable held }
+    {
+        self.addresses_fit();
+        let root = self.root_of(variable);
+        self.put_own(root, pair.first);
+        self.put_own_slot(root, 1, pair.second);
+    }
+
     /// What a variable holds.
     #[inline(always)]
     pub fn held(&mut self, variable: u32) -> Held
@@ -178,9 +145,9 @@ impl Main {
         ensures holds { let words = heap_words self.new.seat in
             Holds self.old.seat.space words variable (Int v) }
     {
-        // The table has a word for each address.
         self.addresses_fit();
-        replace_wide_in(&mut self.seat, variable, v);
+        let root = self.root_of(variable);
+        self.put_own_slot(root, 1, wide_word(v));
     }
 
     /// Makes a variable that holds a small integer hold another one. Only its first root word changes.
@@ -197,9 +164,9 @@ impl Main {
         ensures holds { let words = heap_words self.new.seat in
             Holds self.old.seat.space words variable (Int v) }
     {
-        // The table has a word for each address.
         self.addresses_fit();
-        replace_small_in(&mut self.seat, variable, v);
+        let root = self.root_of(variable);
+        self.put_own(root, small_word(v));
     }
 
     /// Whether a variable is bound to something.
@@ -231,9 +198,9 @@ impl Main {
             Holds self.old.seat.space words from held →
             Holds self.old.seat.space (heap_words self.new.seat) to held }
     {
-        // The table has a word for each address.
-        self.addresses_fit();
-        copy_in(&mut self.seat, from, to);
+        let regions = self.regions();
+        let pair = root_words(self, &regions, from);
+        self.put_roots(to, pair);
     }
 
     /// Makes a variable hold a value. Only its two root words change.
@@ -247,8 +214,6 @@ impl Main {
         ensures holds { let words = heap_words self.new.seat in
             Holds self.old.seat.space words variable value }
     {
-        // The table has a word for each address.
-        self.addresses_fit();
-        hold_in(&mut self.seat, variable, value);
+        self.put_roots(variable, words_of(value));
     }
 }

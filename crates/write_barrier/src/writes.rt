@@ -1,20 +1,19 @@
 //! Stores: the calls by which the words of the heap change. What is put in a page is recorded where it
-//! is a slot's and refers to a young cell, and not else; so no record outlives its slot.
-ghost use Rattle.std.specs.Prelude.{◌≡◌, ◌+◌, ◌<◌, ◌≤◌, ◌⊎◌, length, slice_get, slice_set, Some};
+//! is a slot's and refers to a young cell, and not else; so no record outlives its slot. It goes to the shared
+//! table too, where there is one. A young store asks for nothing but whether it is one.
+ghost use Rattle.std.specs.Prelude.{◌≡◌, ◌+◌, ◌<◌, ◌≤◌, slice_set};
 ghost use Rattle.tagged_word.specs.Headers.{IsHeader, header_bits};
 ghost use Rattle.tagged_word.specs.Readings.{reference_in};
-ghost use Rattle.page_space.specs.Extents.{layouts_start, marks_start};
-ghost use Rattle.heap_table.specs.Seats.{heap_words};
-ghost use Rattle.shape_tree.specs.ShapeLayouts.{IsInUse, layout_word};
-ghost use Rattle.tagged_word.specs.Shapes.{first_path_shape};
+ghost use Rattle.page_space.specs.Extents.{eden_start, marks_start};
+ghost use Rattle.write_barrier.specs.Seats.{heap_words};
 ghost use Rattle.write_barrier.specs.MutatorState.{MayStore, put_word, forgets, is_young, judged, with_slot, with_word};
-ghost use Rattle.write_barrier.specs.Opening.{ChangesWithin, HasLayouts, LayoutsBelow};
 
 use crate::main_side::Main;
-use tagged_word::{Header, Word, shape};
+use tagged_word::{Header, Word};
 
 impl Main {
-    /// Puts a word at an address before the marks. Nothing is recorded.
+    /// Puts a word at an address before the marks: in the shared table too, where it is one of a page. Nothing is
+    /// recorded.
     #[inline(always)]
     pub(crate) fn put(&mut self, a: u32, word: u64)
         requires may_store { MayStore self.old }
@@ -23,14 +22,28 @@ impl Main {
         ensures heap { let words = heap_words self.old.seat in
             heap_words self.new.seat ≡ slice_set words a word }
     {
+        self.seat.put(a, word);
+    }
+
+    /// Puts a word behind all pages, and before the marks: among the own ones alone.
+    #[inline(always)]
+    pub(crate) fn put_own(&mut self, a: u32, word: u64)
+        requires may_store { MayStore self.old }
+        requires within { a < marks_start self.old.seat.space }
+        requires behind { eden_start self.old.seat.space ≤ a }
+        ensures put { self.new ≡ put_word self.old a word }
+        ensures heap { let words = heap_words self.old.seat in
+            heap_words self.new.seat ≡ slice_set words a word }
+    {
         self.seat.put_own(a, word);
     }
 
-    /// Puts a word at an offset of a cell, before the marks. Nothing is recorded.
+    /// The same at an offset of a cell.
     #[inline(always)]
-    pub(crate) fn put_slot(&mut self, cell: u32, offset: u32, word: u64)
+    pub(crate) fn put_own_slot(&mut self, cell: u32, offset: u32, word: u64)
         requires may_store { MayStore self.old }
         requires within { cell + offset < marks_start self.old.seat.space }
+        requires behind { eden_start self.old.seat.space ≤ cell + offset }
         ensures put { self.new ≡ put_word self.old (cell + offset) word }
         ensures heap { let words = heap_words self.old.seat in
             heap_words self.new.seat ≡ slice_set words (cell + offset) word }
@@ -49,16 +62,6 @@ impl Main {
         }
     }
 
-    /// Forgets what is recorded of one word: no slot is there any more.
-    #[inline(always)]
-    fn forget_word(&mut self, a: u32)
-        ensures { self.new ≡ forgets self.old a (a + 1) }
-    {
-        if self.remembered.covers(a) {
-            self.remembered.forget(a);
-        }
-    }
-
     /// Puts a word behind all pages, where nothing is recorded: one that is no slot of a cell. No other
     /// word changes.
     #[inline(always)]
@@ -71,7 +74,21 @@ impl Main {
             heap_words self.new.seat ≡ slice_set words a word }
         ensures bound { self.new.recorded.bound ≡ self.old.recorded.bound }
     {
-        self.put(a, word);
+        self.seat.put_own(a, word);
+    }
+
+    /// Puts a word in a page: one that is no slot of a cell. Nothing is recorded of it any more.
+    #[inline(always)]
+    fn write_in_page(&mut self, a: u32, word: u64)
+        requires may_store { MayStore self.old }
+        requires within { a < marks_start self.old.seat.space }
+        requires of_page { a < self.old.recorded.bound }
+        ensures written { self.new ≡ with_word self.old a word }
+        ensures heap { let words = heap_words self.old.seat in
+            heap_words self.new.seat ≡ slice_set words a word }
+    {
+        self.remembered.forget(a);
+        self.seat.put(a, word);
     }
 
     /// Whether a word refers to a young cell.
@@ -87,8 +104,7 @@ impl Main {
 
     /// Records the slot at an address of a page where the word refers to a young cell, and forgets it
     /// where it does not.
-    #[cold]
-    #[inline(never)]
+    #[inline(always)]
     pub(crate) fn judge(&mut self, slot: u32, word: Word)
         requires of_page { slot < self.old.recorded.bound }
         ensures { self.new ≡ record self.old { recorded = judged self.old.recorded slot word.0 } }
@@ -98,6 +114,21 @@ impl Main {
         } else {
             self.remembered.forget(slot);
         }
+    }
+
+    /// Puts a value in a slot of a page, and judges it.
+    #[cold]
+    #[inline(never)]
+    fn store_in_page(&mut self, slot: u32, value: Word)
+        requires may_store { MayStore self.old }
+        requires within { slot < marks_start self.old.seat.space }
+        requires of_page { slot < self.old.recorded.bound }
+        ensures stored { self.new ≡ with_slot self.old slot value.0 }
+        ensures heap { let words = heap_words self.old.seat in
+            heap_words self.new.seat ≡ slice_set words slot value.0 }
+    {
+        self.judge(slot, value);
+        self.seat.put(slot, value.0);
     }
 
     /// Puts a word at an address before the marks: one that is no slot of a cell. No other word
@@ -110,8 +141,11 @@ impl Main {
         ensures heap { let words = heap_words self.old.seat in
             heap_words self.new.seat ≡ slice_set words a word }
     {
-        self.forget_word(a);
-        self.put(a, word);
+        if self.remembered.covers(a) {
+            self.write_in_page(a, word);
+        } else {
+            self.put_young(a, word);
+        }
     }
 
     /// Puts a word at an offset of a cell, before the marks: in no slot. No other word changes.
@@ -124,8 +158,12 @@ impl Main {
             heap_words self.new.seat ≡ slice_set words (cell + offset) word }
     {
         self.addresses_fit();
-        self.forget_word(cell + offset);
-        self.put_slot(cell, offset, word);
+        let a = cell + offset;
+        if self.remembered.covers(a) {
+            self.write_in_page(a, word);
+        } else {
+            self.seat.put_own_slot(cell, offset, word);
+        }
     }
 
     /// Puts a value in the slot of a cell at an offset. No other word changes.
@@ -140,9 +178,10 @@ impl Main {
         self.addresses_fit();
         let slot = cell + offset;
         if self.remembered.covers(slot) {
-            self.judge(slot, value);
+            self.store_in_page(slot, value);
+        } else {
+            self.seat.put_own(slot, value.0);
         }
-        self.put(slot, value.0);
     }
 
     /// Puts a value in the slot of a weak table at an offset. No other word changes. Marking never looks at
@@ -169,45 +208,6 @@ impl Main {
             heap_words self.new.seat ≡ slice_set words a (header_bits header) }
     {
         self.write(a, header.word().0);
-    }
-
-    /// Makes the layout word of a shape in use that of the shapes. It was 0, or that already: a
-    /// layout word never becomes another.
-    pub fn set_layout(&mut self, shape: u32)
-        requires may_store { MayStore self.old }
-        requires in_use { IsInUse self.old.paths shape }
-        requires free { let at = layouts_start self.old.seat.space + shape in
-            let stands = slice_get (heap_words self.old.seat) at in
-            (stands ≡ Some 0) ⊎ (stands ≡ Some (layout_word self.old.paths shape)) }
-        ensures written { let at = layouts_start self.old.seat.space + shape in
-            self.new ≡ put_word self.old at (layout_word self.old.paths shape) }
-        ensures heap { let at = layouts_start self.old.seat.space + shape in
-            let words = heap_words self.old.seat in
-            heap_words self.new.seat ≡ slice_set words at (layout_word self.old.paths shape) }
-    {
-        self.paths_fit();
-        let word = self.shapes.layout(shape).word();
-        let at = self.regions().layout_at(shape);
-        self.put(at, word);
-    }
-
-    /// Puts the layout words of the shapes from one on: those of the shapes below it are there, and
-    /// from it on they are 0. No other word changes.
-    pub fn set_layouts(&mut self, first: u32)
-        requires may_store { MayStore self.old }
-        requires from { 1 ≤ first }
-        requires below { first ≤ first_path_shape + length self.old.paths }
-        requires layouts { LayoutsBelow self.old first }
-        ensures layouts { HasLayouts self.new }
-        ensures changes { let space = self.old.seat.space in
-            ChangesWithin self.old self.new (layouts_start space) (marks_start space) }
-    {
-        // There are as many words as addresses before the marks.
-        self.addresses_fit();
-        let paths = self.shapes().paths();
-        for shape in first..shape::PATHS + paths {
-            self.set_layout(shape);
-        }
     }
 
     /// Tells the marking that a cell was made whole and needs no look: nothing while the phase is

@@ -3,7 +3,7 @@ use Rattle.std.proofs.Common.{ℕ, ◌+◌, ◌-◌, ◌<◌, ◌∙◌, ap, sym
 use Rattle.tagged_word.specs.Headers.{header_bits}
 use Rattle.tagged_word.specs.Cells.{store_head}
 use Rattle.page_space.specs.Extents.{marks_start}
-use Rattle.heap_table.specs.Seats.{heap_words}
+use Rattle.write_barrier.specs.Seats.{heap_words}
 use Rattle.heap_model.specs.Remembered.{Touch}
 use Rattle.heap_model.specs.Slots.{reference_word}
 use Rattle.write_barrier.specs.MutatorState.{Mutator, with_word}

@@ -1,6 +1,6 @@
 use Rattle.std.proofs.Common.{◌≡◌, ◌-◌, ◌≤◌, ℕ, length, sym, subst, arith}
 use Rattle.std.specs.Prelude.{replicate}
-use Rattle.heap_table.specs.Seats.{heap_words}
+use Rattle.write_barrier.specs.Seats.{heap_words}
 use Rattle.write_barrier.specs.MutatorState.{heap_of}
 use Rattle.write_barrier.specs.Values.{with_range}
 use Rattle.collector.specs.Filling.{BlanksWithin}

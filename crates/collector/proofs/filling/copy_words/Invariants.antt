@@ -1,4 +1,4 @@
-use Rattle.heap_table.specs.Seats.{heap_words}
+use Rattle.write_barrier.specs.Seats.{heap_words}
 use Rattle.collector.specs.Filling.{CopiesWithin}
 use Rattle.collector.proofs.filling.copy_words.Given as goal
 

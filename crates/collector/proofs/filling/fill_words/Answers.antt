@@ -1,7 +1,7 @@
 use Rattle.std.proofs.Common.{◌≡◌, ℕ, ◌∙◌, subst, arith}
 use Rattle.page_space.specs.Extents.{roots_start, marks_start}
 use Rattle.page_space.proofs.Starts.{layouts_start_is, marks_start_is}
-use Rattle.heap_table.specs.Seats.{heap_words}
+use Rattle.write_barrier.specs.Seats.{heap_words}
 use Rattle.write_barrier.specs.MutatorState.{heap_of}
 use Rattle.collector.specs.Filling.{CopiesWithin}
 use Rattle.collector.proofs.FilledWords.{words_filled}

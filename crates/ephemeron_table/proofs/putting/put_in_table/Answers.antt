@@ -1,8 +1,8 @@
 -- The box that is made stands in the words that were reserved; the pair's words are slots, and the count is none.
 use Rattle.std.proofs.Common.{◌≡◌, ◌+◌, ◌<◌, ap, ◌∙◌, subst, arith, rules}
 use Rattle.page_space.specs.Extents.{Space, marks_start}
-use Rattle.heap_table.specs.Seats.{RestStays}
-use Rattle.heap_table.specs.Staying.{rest_stays_again}
+use Rattle.write_barrier.specs.Seats.{RestStays}
+use Rattle.write_barrier.specs.Staying.{rest_stays_again}
 use Rattle.write_barrier.specs.MutatorState.{Mutator}
 use Rattle.write_barrier.specs.Recording.{Touches}
 use Rattle.write_barrier.proofs.Recording.{then_touch}

@@ -1,7 +1,7 @@
 -- Pairs move back, one after the other, until the hole may be free.
 use Rattle.std.proofs.Common.{◌≡◌, ℕ, ◌+◌, ◌<◌, Some, None, sym, ◌∙◌, ap, subst, arith}
 use Rattle.page_space.specs.Extents.{Space, marks_start}
-use Rattle.heap_table.specs.Seats.{heap_words}
+use Rattle.write_barrier.specs.Seats.{heap_words}
 use Rattle.tagged_word.specs.Readings.{reference_in}
 use Rattle.linear_probing.proofs.Turns.{ends_at_last}
 use Rattle.write_barrier.specs.MutatorState.{heap_of}

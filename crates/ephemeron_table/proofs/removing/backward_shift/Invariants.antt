@@ -1,5 +1,5 @@
 -- What is removed so far, and what is left to do.
-use Rattle.heap_table.specs.Seats.{heap_words}
+use Rattle.write_barrier.specs.Seats.{heap_words}
 use Rattle.write_barrier.specs.MutatorState.{heap_of}
 use Rattle.linear_probing.proofs.Removals.{left}
 use Rattle.ephemeron_table.specs.Removals.{ChangesPairs}

@@ -1,6 +1,6 @@
 -- The hole is free, and the count one less.
 use Rattle.std.proofs.Common.{ap, subst, arith}
-use Rattle.heap_table.specs.Seats.{heap_words}
+use Rattle.write_barrier.specs.Seats.{heap_words}
 use Rattle.write_barrier.specs.MutatorState.{Mutator}
 use Rattle.object_cells.specs.Made.{PutsWords}
 use Rattle.weak_pairs.specs.Tables.{made_pair, with_pair}

@@ -5,7 +5,7 @@ use Rattle.handle_roots.proofs.roots.second_at.Goals as goal
 pub overflow_add-result : goal.overflow_add-result
 overflow_add-result c =
     let before = root_before_layouts c.args.regions.now c.args.variable c.requires in
-    let most = layouts_start_most c.args.regions.now c.count-words_count.ensures.within in
+    let most = layouts_start_most c.args.regions.now c.sizes_fit.ensures in
     omega arith
 
 pub returns-clause-within : goal.returns-clause-within

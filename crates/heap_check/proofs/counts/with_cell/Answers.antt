@@ -24,7 +24,7 @@ overflow_add-result c =
       marks_start_is space,
       board_start_is space,
       words_count_is space,
-      words_count_most space c.count-words_count.ensures.within,
+      words_count_most space c.sizes_fit.ensures,
     )
 
 pub overflow_add-result-2 : goal.overflow_add-result-2
@@ -39,7 +39,7 @@ overflow_add-result-2 c =
       marks_start_is space,
       board_start_is space,
       words_count_is space,
-      words_count_most space c.count-words_count.ensures.within,
+      words_count_most space c.sizes_fit.ensures,
     )
 
 pub returns : goal.returns

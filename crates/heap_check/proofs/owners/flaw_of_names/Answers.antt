@@ -8,6 +8,7 @@ use Rattle.heap_check.specs.Cells.{BreaksOwners}
 use Rattle.heap_check.specs.Firsts.{IsFirst}
 use Rattle.heap_check.specs.Names.{NamesBelow}
 use Rattle.heap_check.proofs.NamedSlots.{names_slot, named_again, cell_to_slot, cell_to_end, word_read}
+use Rattle.image_walk.proofs.SpanWords.{words_count_few}
 use Rattle.heap_check.proofs.owners.flaw_of_names.Goals as goal
 
 pub loop-offset-init : goal.loop-offset-init
@@ -34,7 +35,7 @@ overflow_add-result c =
       arith,
       slot_before (image_heap c.args.image.now) c.args.cell c.in-Some.offset c.requires.sized
           (has_is_cell c.requires.stands) c.in-Some.ensures.among,
-      c.count-words_count.ensures.counted,
+      words_count_few c.args.image.now.regions c.sizes_fit.ensures,
     )
 
 pub returns-then-is_named_again-clause-owned : goal.returns-then-is_named_again-clause-owned
@@ -55,7 +56,7 @@ overflow_add-from c =
       arith,
       slot_before (image_heap c.args.image.now) c.args.cell c.in-Some.offset c.requires.sized
           (has_is_cell c.requires.stands) c.in-Some.ensures.among,
-      c.count-words_count.ensures.counted,
+      words_count_few c.args.image.now.regions c.sizes_fit.ensures,
     )
 
 pub loop-offset-smaller : goal.loop-offset-smaller

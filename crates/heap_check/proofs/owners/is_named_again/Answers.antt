@@ -1,6 +1,5 @@
 -- The flag of what the word names is set, and it is told whether it was.
-use Rattle.std.proofs.Common.{◌≡◌, ℕ, ◌<◌, ◌^◌, sym, ◌∙◌, subst, arith}
-use Rattle.page_space.specs.Extents.{words_count}
+use Rattle.std.proofs.Common.{◌≡◌, ℕ, sym, ◌∙◌, subst, arith}
 use Rattle.cell_layout.proofs.OneCell.{cells_have_words}
 use Rattle.std.proofs.lemmas.Bool.{false≢true}
 use Rattle.heap_model.specs.Images.{image_heap}
@@ -10,11 +9,12 @@ use Rattle.heap_model.proofs.CellsApart.{has_is_cell}
 use Rattle.heap_check.specs.Names.{IsOwnedAt}
 use Rattle.heap_check.proofs.OwnedTargets.{no_reference, no_target, target_is}
 use Rattle.heap_check.proofs.SetFlags.{marks_nowhere}
+use Rattle.image_walk.proofs.SpanWords.{words_count_few}
 use Rattle.heap_check.proofs.owners.is_named_again.Goals as goal
 
 pub returns-in_default-clause-fresh : goal.returns-in_default-clause-fresh
 returns-in_default-clause-fresh c was =
-    let few : words_count c.args.image.now.regions < 2 ^ 32 = omega (arith, c.count-words_count.ensures.counted) in
+    let few = words_count_few c.args.image.now.regions c.sizes_fit.ensures in
     let none : (at : ℕ) → IsOwnedAt (image_heap c.args.image.now) c.args.word at → ⊥ =
     λ at is. no_reference {heap = image_heap c.args.image.now} c.requires.sized few
     (λ found reads. c.in_default.not-Some found (c.address.ensures ∙ reads)) is in
@@ -22,7 +22,7 @@ returns-in_default-clause-fresh c was =
 
 pub returns-in-None-clause-fresh : goal.returns-in-None-clause-fresh
 returns-in-None-clause-fresh c was =
-    let few : words_count c.args.image.now.regions < 2 ^ 32 = omega (arith, c.count-words_count.ensures.counted) in
+    let few = words_count_few c.args.image.now.regions c.sizes_fit.ensures in
     let none : (at : ℕ) → IsOwnedAt (image_heap c.args.image.now) c.args.word at → ⊥ =
     λ at is. no_target {heap = image_heap c.args.image.now} c.requires.sized few (sym c.in-Some.ensures)
     c.in-None.ensures is in
@@ -42,7 +42,7 @@ set-requires c =
 
 pub returns-else-is_owned-clause-fresh : goal.returns-else-is_owned-clause-fresh
 returns-else-is_owned-clause-fresh c was =
-    let few : words_count c.args.image.now.regions < 2 ^ 32 = omega (arith, c.count-words_count.ensures.counted) in
+    let few = words_count_few c.args.image.now.regions c.sizes_fit.ensures in
     let found = c.in-Some-find.ensures in
     let none : (at : ℕ) → IsOwnedAt (image_heap c.args.image.now) c.args.word at → ⊥ =
     λ at is.

@@ -1,14 +1,14 @@
 -- The flag of what stands beside an object is set.
-use Rattle.std.proofs.Common.{◌<◌, ◌^◌, sym, ◌∙◌, arith}
+use Rattle.std.proofs.Common.{sym, ◌∙◌, arith}
 use Rattle.std.proofs.lemmas.Bool.{false≢true}
 use Rattle.std.proofs.lemmas.Option.{same_Some}
-use Rattle.page_space.specs.Extents.{words_count}
 use Rattle.cell_layout.proofs.OneCell.{cells_have_words}
 use Rattle.heap_model.specs.Images.{image_heap}
 use Rattle.heap_model.proofs.CellsApart.{has_is_cell}
 use Rattle.image_walk.proofs.ObjectNaming.{slot_within}
 use Rattle.heap_check.proofs.BesideFlags.{beside_at}
 use Rattle.heap_check.proofs.SetFlags.{marks_nowhere}
+use Rattle.image_walk.proofs.SpanWords.{words_count_few}
 use Rattle.heap_check.proofs.owners.mark_beside_cell.Goals as goal
 
 pub returns-then-not-is_object : goal.returns-then-not-is_object
@@ -22,7 +22,7 @@ word_of-requires-clause-within c =
 
 pub returns-in_default : goal.returns-in_default
 returns-in_default c =
-    let few : words_count c.args.image.now.regions < 2 ^ 32 = omega (arith, c.count-words_count.ensures.counted) in
+    let few = words_count_few c.args.image.now.regions c.sizes_fit.ensures in
     marks_nowhere (λ at is.
     c.in_default.not-Some at (c.address.ensures ∙ beside_at c.requires.sized few c.word_of.ensures is))
 
@@ -40,7 +40,7 @@ set-was-requires c =
 
 pub returns-in_default-find : goal.returns-in_default-find
 returns-in_default-find c =
-    let few : words_count c.args.image.now.regions < 2 ^ 32 = omega (arith, c.count-words_count.ensures.counted) in
+    let few = words_count_few c.args.image.now.regions c.sizes_fit.ensures in
     marks_nowhere (λ at is.
     let reads = beside_at c.requires.sized few c.word_of.ensures is in
     c.in_default-find.ensures is.other _ is.next_to.stands

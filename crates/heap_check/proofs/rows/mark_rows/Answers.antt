@@ -12,12 +12,12 @@ loop-end-init c = record { to = marked_none (image_heap c.args.image.now) c.args
 pub mark_region-requires-clause-stands : goal.mark_region-requires-clause-stands
 mark_region-requires-clause-stands c =
     seam_stands c.args.image.now.regions c.loop-end.at c.in-Some.end c.loop-end.invariant.to.seam
-    c.count-words_count.ensures.within c.in-Some.ensures.cells
+    c.sizes_fit.ensures c.in-Some.ensures.cells
 
 pub mark_region-requires-clause-room : goal.mark_region-requires-clause-room
 mark_region-requires-clause-room c =
     let stands = seam_stands c.args.image.now.regions c.loop-end.at c.in-Some.end c.loop-end.invariant.to.seam
-    c.count-words_count.ensures.within c.in-Some.ensures.cells in
+    c.sizes_fit.ensures c.in-Some.ensures.cells in
     omega (
       arith,
       region_within (image_heap c.args.image.now) c.loop-end.at c.in-Some.end c.requires.sized stands,
@@ -30,19 +30,19 @@ returns-in_err-row_end-clause-breaks c =
     let p = err_from_is_err_and c.from_residual.result c.from_residual.ensures.1 in
     rw (p.1, p.2)
     (rows_first (image_heap c.args.image.now) c.loop-end.at c.in-Some.end c.loop-end.survivors c.args.starts.now
-    c.loop-end.starts c.in_err-row_end.field-0.0 c.count-words_count.ensures.within c.requires.few
+    c.loop-end.starts c.in_err-row_end.field-0.0 c.sizes_fit.ensures c.requires.few
     c.in-Some.ensures.cells c.loop-end.invariant.to c.in_err-row_end.ensures.breaks)
 
 pub survivors_at-survivors-requires-clause-stands : goal.survivors_at-survivors-requires-clause-stands
 survivors_at-survivors-requires-clause-stands c =
     seam_stands c.args.image.now.regions c.loop-end.at c.in-Some.end c.loop-end.invariant.to.seam
-    c.count-words_count.ensures.within c.in-Some.ensures.cells
+    c.sizes_fit.ensures c.in-Some.ensures.cells
 
 pub loop-end-preserved : goal.loop-end-preserved
 loop-end-preserved c = record {
   to = marked_more (image_heap c.args.image.now) c.loop-end.at c.in-Some.end c.in_ok-row_end.row_end
       c.loop-end.survivors c.survivors_at-survivors.result c.args.starts.now c.loop-end.starts
-      c.mark_region.new.starts c.count-words_count.ensures.within c.in-Some.ensures.cells c.loop-end.invariant.to
+      c.mark_region.new.starts c.sizes_fit.ensures c.in-Some.ensures.cells c.loop-end.invariant.to
       c.in_ok-row_end.ensures.marks c.survivors_at-survivors.ensures.counted;
   few = omega (arith, c.loop-end.invariant.few, c.survivors_at-survivors.ensures.within);
 }
@@ -50,4 +50,4 @@ loop-end-preserved c = record {
 pub returns-clause-marks : goal.returns-clause-marks
 returns-clause-marks c =
     marked_all (image_heap c.args.image.now) c.loop-end.at c.loop-end.survivors c.args.starts.now c.loop-end.starts
-    c.count-words_count.ensures.within (c.in_default.ensures.behind.0 refl) c.loop-end.invariant.to
+    c.sizes_fit.ensures (c.in_default.ensures.behind.0 refl) c.loop-end.invariant.to

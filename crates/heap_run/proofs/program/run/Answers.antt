@@ -55,13 +55,13 @@ returns-in-Err-NoMemory g c =
 
 pub returns-in-Ok-Run : goal.returns-in-Ok-Run
 returns-in-Ok-Run g c = record {
-  answers = c.run_read.ensures (map string_bytes c.args.words.now)
+  answers = c.run_read.ensures (map string_bytes c.args.words.now) false refl
       (c.in-Ok-Run.ensures.invocation ∙ ap Some c.in-Ok-Run.field-0-is);
 }
 
 pub returns-in-Ok-Check : goal.returns-in-Ok-Check
 returns-in-Ok-Check g c = record {
-  answers = c.run_read-in-Ok-Check.ensures (map string_bytes c.args.words.now)
+  answers = c.run_read-in-Ok-Check.ensures (map string_bytes c.args.words.now) true refl
       (c.in-Ok-Check.ensures.invocation ∙ ap Some c.in-Ok-Check.field-0-is);
 }
 

@@ -1,10 +1,9 @@
 use Rattle.std.proofs.Common.{◌∙◌, true}
 use Rattle.std.proofs.lemmas.Bool.{cases_eq}
-use Rattle.heap_run.specs.declared.opened.Inspects.TheVariants.{Counts}
 use Rattle.heap_run.specs.Texts.{sink_fault_status}
 use Rattle.heap_run.proofs.Concluding.{IsKeepable}
 use Rattle.heap_run.proofs.Imaged.{laws_hold, finishes_imaged}
-use Rattle.heap_run.proofs.Inspections.{counts_asked}
+use Rattle.heap_run.proofs.Inspections.{counts_soaked}
 use Rattle.heap_run.proofs.SoakLines.{Soaks-finished}
 use Rattle.heap_run.proofs.soaking.soak_opened.Goals as goal
 
@@ -14,8 +13,10 @@ returns g c sizes seed forms is ready =
     let script = c.args.script.now in
     let kept = c.keep.ensures in
     let image = c.keep.result.image in
-    let finishes = finishes_imaged true finished _ _ _ _ laws_hold kept.image
-    (rw (counts_asked Counts c.args.opened.heap.main.seat.space c.args.opened.inspection ready.inspected, c.new-tally.ensures) at c.run-heap.ensures.finishes) in
+    let opened = c.args.opened in
+    let counts = counts_soaked opened.heap.main.seat.space opened.inspection ready.inspected in
+    let (later, told, ends) = rw (counts, c.new-tally.ensures) at c.run-heap.ensures.finishes in
+    let finishes = finishes_imaged true finished _ _ _ _ laws_hold kept.image told in
     let keepable : IsKeepable sizes script image = record {
       regions = kept.image.space ∙ c.run-heap.ensures.space ∙ ready.space;
     } in

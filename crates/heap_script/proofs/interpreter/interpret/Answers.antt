@@ -132,14 +132,14 @@ stopped-how-requires g c =
     r.left in
     let below : n < lines_most = omega (arith, r.reached.few) in
     let after = c.execute_line.new.heap in
-    let (text, carries, out-is) = c.in-Err.ensures.carried r.reached.so_far.graph r.shown r.made in
+    let (text, noted, out-is) = c.in-Err.ensures.carried r.reached.so_far.graph r.shown r.made in
     let stopped = Stopped-line script heap after _ c.flush_if_full.new.out _ _ c.loop-at.at _ c.loop-at.turns _ n
-    line.number _ text c.in-Err.stop r below goes c.in-Err.ensures.rest carries in
+    line.number _ text c.in-Err.stop r below goes c.in-Err.ensures.rest noted.carries in
     record {
       shown = (stopped.running.reached.so_far.graph, stopped.running.shown);
       for_heap = is_for c.args.heap.now after c.loop-at.invariant.same
           (line_space script.fields heap.rest.in_cycle heap.main after.main r.reached.so_far.graph
-          (command_in line.what) text (Err c.in-Err.stop) carries ∙ c.loop-at.invariant.space)
+          (command_in line.what) text (Err c.in-Err.stop) noted.carries ∙ c.loop-at.invariant.space)
           c.requires.for_heap;
     }
 
@@ -156,9 +156,9 @@ returns-in-Err g c =
     r.left in
     let below : n < lines_most = omega (arith, r.reached.few) in
     let after = c.execute_line.new.heap in
-    let (text, carries, out-is) = c.in-Err.ensures.carried r.reached.so_far.graph r.shown r.made in
+    let (text, noted, out-is) = c.in-Err.ensures.carried r.reached.so_far.graph r.shown r.made in
     let stopped = Stopped-line script heap after _ c.flush_if_full.new.out _ _ c.loop-at.at _ c.loop-at.turns _ n
-    line.number _ text c.in-Err.stop r below goes c.in-Err.ensures.rest carries in
+    line.number _ text c.in-Err.stop r below goes c.in-Err.ensures.rest noted.carries in
     let paused =
     Pauses-stopped c.in-Err.stop stopped (c.in-Ok.ensures.steady ∙ c.loop-at.invariant.steady) in
     let judged = c.stopped-how.ensures in
@@ -173,7 +173,7 @@ returns-in-Err g c =
       );
       space = ap (λ (main : Mutator). main.seat.space) judged.main
           ∙ line_space script.fields heap.rest.in_cycle heap.main after.main r.reached.so_far.graph
-          (command_in line.what) text (Err c.in-Err.stop) carries ∙ c.loop-at.invariant.space;
+          (command_in line.what) text (Err c.in-Err.stop) noted.carries ∙ c.loop-at.invariant.space;
       same = judged.same ∙ c.loop-at.invariant.same;
       taken = λ none. judged.taken;
     }
@@ -191,14 +191,14 @@ flaw_behind-requires g c =
     r.left in
     let below : n < lines_most = omega (arith, r.reached.few) in
     let ran = c.in-Ok-execute_line.ensures in
-    let (text, carries, out-is) = ran.carried r.reached.so_far.graph r.shown r.made in
+    let (text, noted, out-is) = ran.carried r.reached.so_far.graph r.shown r.made in
     let running = Running-line script heap c.execute_line.new.heap c.loop-at.objects c.flush_if_full.new.out _ _
-    c.loop-at.at _ c.loop-at.turns _ n line.number _ text r below goes ran.rest carries in
+    c.loop-at.at _ c.loop-at.turns _ n line.number _ text r below goes ran.rest noted.carries in
     record {
       shown = (running.reached.so_far.graph, running.shown);
       for_heap = is_for c.args.heap.now c.execute_line.new.heap c.loop-at.invariant.same
           (line_space script.fields heap.rest.in_cycle heap.main c.execute_line.new.heap.main
-          r.reached.so_far.graph (command_in line.what) text (Ok tt) carries ∙ c.loop-at.invariant.space)
+          r.reached.so_far.graph (command_in line.what) text (Ok tt) noted.carries ∙ c.loop-at.invariant.space)
           c.requires.for_heap;
     }
 
@@ -215,9 +215,9 @@ run_lines-ran-requires g c =
     r.left in
     let below : n < lines_most = omega (arith, r.reached.few) in
     let ran = c.in-Ok-execute_line.ensures in
-    let (text, carries, out-is) = ran.carried r.reached.so_far.graph r.shown r.made in
+    let (text, noted, out-is) = ran.carried r.reached.so_far.graph r.shown r.made in
     let running = Running-line script heap c.execute_line.new.heap c.loop-at.objects c.flush_if_full.new.out _ _
-    c.loop-at.at _ c.loop-at.turns _ n line.number _ text r below goes ran.rest carries in
+    c.loop-at.at _ c.loop-at.turns _ n line.number _ text r below goes ran.rest noted.carries in
     let judged = c.flaw_behind.ensures in
     let on = Running-judged running judged.main judged.cycle judged.shows in
     record {
@@ -243,9 +243,9 @@ returns-in-Some g c =
     r.left in
     let below : n < lines_most = omega (arith, r.reached.few) in
     let ran = c.in-Ok-execute_line.ensures in
-    let (text, carries, out-is) = ran.carried r.reached.so_far.graph r.shown r.made in
+    let (text, noted, out-is) = ran.carried r.reached.so_far.graph r.shown r.made in
     let running = Running-line script heap c.execute_line.new.heap c.loop-at.objects c.flush_if_full.new.out _ _
-    c.loop-at.at _ c.loop-at.turns _ n line.number _ text r below goes ran.rest carries in
+    c.loop-at.at _ c.loop-at.turns _ n line.number _ text r below goes ran.rest noted.carries in
     let judged = c.flaw_behind.ensures in
     let on = Running-judged running judged.main judged.cycle judged.shows in
     record {
@@ -258,7 +258,7 @@ returns-in-Some g c =
       );
       space = ap (λ (main : Mutator). main.seat.space) judged.main
           ∙ line_space script.fields heap.rest.in_cycle heap.main c.execute_line.new.heap.main
-          r.reached.so_far.graph (command_in line.what) text (Ok tt) carries ∙ c.loop-at.invariant.space;
+          r.reached.so_far.graph (command_in line.what) text (Ok tt) noted.carries ∙ c.loop-at.invariant.space;
       same = judged.same ∙ c.loop-at.invariant.same;
       taken = λ none. judged.taken;
     }
@@ -276,12 +276,12 @@ loop-at-preserved g c =
     r.left in
     let below : n < lines_most = omega (arith, r.reached.few) in
     let ran = c.in-Ok-execute_line.ensures in
-    let (text, carries, out-is) = ran.carried r.reached.so_far.graph r.shown r.made in
+    let (text, noted, out-is) = ran.carried r.reached.so_far.graph r.shown r.made in
     let running = Running-line script heap c.execute_line.new.heap c.loop-at.objects c.flush_if_full.new.out _ _
-    c.loop-at.at _ c.loop-at.turns _ n line.number _ text r below goes ran.rest carries in
+    c.loop-at.at _ c.loop-at.turns _ n line.number _ text r below goes ran.rest noted.carries in
     let judged = c.flaw_behind.ensures in
     let on = Running-judged running judged.main judged.cycle judged.shows in
-    let holds = OutputHolds-line script (heap_of heap.main) _ _ _ _ n line.number _ text _ r.reached goes carries
+    let holds = OutputHolds-line script (heap_of heap.main) _ _ _ _ n line.number _ text _ r.reached goes noted.carries
     c.in-Ok.ensures.waits c.loop-at.invariant.holds in
     let lines_ran = c.run_lines-ran.ensures in
     let runs = lines_ran.runs on.handed.handed
@@ -291,7 +291,7 @@ loop-at-preserved g c =
       holds = lines_ran.holds (rw out-is holds);
       space = lines_ran.space ∙ ap (λ (main : Mutator). main.seat.space) judged.main
           ∙ line_space script.fields heap.rest.in_cycle heap.main c.execute_line.new.heap.main
-          r.reached.so_far.graph (command_in line.what) text (Ok tt) carries ∙ c.loop-at.invariant.space;
+          r.reached.so_far.graph (command_in line.what) text (Ok tt) noted.carries ∙ c.loop-at.invariant.space;
       inspected = inspected_after c.execute_line.new.heap.collected c.execute_line.new.heap.main
           c.loop-at.inspection c.flaw_behind.new.inspection None c.loop-at.invariant.inspected
           c.in_default-flaw_behind.ensures.judged;

@@ -1,7 +1,7 @@
 use Rattle.std.proofs.Common.{◌∙◌}
 use Rattle.heap_script.specs.Inspecting.{counts_at_end, plan_of}
 use Rattle.heap_script.proofs.Inspected.{pauses_inspected, inspected_space, shown_found}
-use Rattle.heap_script.proofs.Inspected.{found_cut, found_written, found_failed}
+use Rattle.heap_script.proofs.FoundEnds.{with_inspected, found_cut, found_written, found_failed}
 use Rattle.heap_script.proofs.Judging.{is_for}
 use Rattle.heap_script.proofs.interpreter.run_script.Goals as goal
 
@@ -23,13 +23,14 @@ returns-in-SinkFault-clause-finishes g c =
     (g.K.Sink.HasTaken ran.new.sink) (g.K.Sink.faults c.args.sink.now) (g.K.Sink.faults ran.new.sink)
     ran.new.inspection c.inspect_end.new.inspection ran.result.how c.inspect_end.result inspected paused
     c.inspect_end.ensures in
-    let ends = rw ran.ensures.same at is in (
-      ends.found,
-      ends.inspected,
-      found_cut (counts_at_end (plan_of g.J.Judge.regions c.args.inspection.now)) c.args.script.now
-          c.inspect_end.new.heap ran.new.out c.inspect_end.result ran.result.line ran.result.executed
-          c.in-SinkFault.need _ _ _ _ c.in-SinkFault.is ends.paused,
-    )
+    let ends = rw ran.ensures.same at is in
+    with_inspected g.J.Judge.Judged c.args.inspection.now c.inspect_end.new.inspection
+    (counts_at_end (plan_of g.J.Judge.regions c.args.inspection.now)) c.args.script.now
+    c.inspect_end.new.heap ran.new.out ends.found ends.inspected
+    (found_cut g.J.Judge.Judged c.args.inspection.now c.inspect_end.new.inspection
+    (counts_at_end (plan_of g.J.Judge.regions c.args.inspection.now)) c.args.script.now
+    c.inspect_end.new.heap ran.new.out c.inspect_end.result ran.result.line ran.result.executed
+    c.in-SinkFault.need _ _ _ _ c.in-SinkFault.is ends.paused)
 
 pub returns-in-SinkFault-clause-shows : goal.returns-in-SinkFault-clause-shows
 returns-in-SinkFault-clause-shows g c =
@@ -63,13 +64,13 @@ returns-in-Ok g c =
     let ends = rw ran.ensures.same at is in
     let (graph, shown) = shown_found paused in
     record {
-      finishes = (
-        ends.found,
-        ends.inspected,
-        found_written (counts_at_end (plan_of g.J.Judge.regions c.args.inspection.now)) c.args.script.now
-            c.inspect_end.new.heap ran.new.out c.inspect_end.result ran.result.line ran.result.executed _ _ _ _ _ _
-            c.in_default.not-SinkFault ends.paused c.in-Ok.ensures.appended c.in-Ok.ensures.steady,
-      );
+      finishes = with_inspected g.J.Judge.Judged c.args.inspection.now c.inspect_end.new.inspection
+          (counts_at_end (plan_of g.J.Judge.regions c.args.inspection.now)) c.args.script.now
+          c.inspect_end.new.heap ran.new.out ends.found ends.inspected
+          (found_written g.J.Judge.Judged c.args.inspection.now c.inspect_end.new.inspection
+          (counts_at_end (plan_of g.J.Judge.regions c.args.inspection.now)) c.args.script.now
+          c.inspect_end.new.heap ran.new.out c.inspect_end.result ran.result.line ran.result.executed _ _ _ _ _ _
+          c.in_default.not-SinkFault ends.paused ends.ends c.in-Ok.ensures.appended c.in-Ok.ensures.steady);
       emptied = λ other. c.in-Ok.ensures.emptied;
       shows = shown_found ends.paused;
       space = inspected_space g.J.Judge.Judged ran.new.inspection c.inspect_end.new.inspection ran.new.heap c.inspect_end.new.heap graph
@@ -88,15 +89,15 @@ returns-in-Err g c =
     let ends = rw ran.ensures.same at is in
     let (graph, shown) = shown_found paused in
     record {
-      finishes = (
-        ends.found,
-        ends.inspected,
-        rw c.need.ensures
-            (found_failed (counts_at_end (plan_of g.J.Judge.regions c.args.inspection.now))
-            c.args.script.now c.inspect_end.new.heap ran.new.out c.inspect_end.result ran.result.line
-            ran.result.executed _ _ _ _ _ _ c.in_default.not-SinkFault ends.paused c.in-Err.ensures.stopped
-            c.in-Err.ensures.failed),
-      );
+      finishes = rw c.need.ensures
+          (with_inspected g.J.Judge.Judged c.args.inspection.now c.inspect_end.new.inspection
+          (counts_at_end (plan_of g.J.Judge.regions c.args.inspection.now)) c.args.script.now
+          c.inspect_end.new.heap ran.new.out ends.found ends.inspected
+          (found_failed g.J.Judge.Judged c.args.inspection.now c.inspect_end.new.inspection
+          (counts_at_end (plan_of g.J.Judge.regions c.args.inspection.now))
+          c.args.script.now c.inspect_end.new.heap ran.new.out c.inspect_end.result ran.result.line
+          ran.result.executed _ _ _ _ _ _ c.in_default.not-SinkFault ends.paused ends.ends
+          c.in-Err.ensures.stopped c.in-Err.ensures.failed));
       emptied = λ other. absurd (other tt);
       shows = shown_found ends.paused;
       space = inspected_space g.J.Judge.Judged ran.new.inspection c.inspect_end.new.inspection ran.new.heap c.inspect_end.new.heap graph

@@ -1,7 +1,7 @@
 -- The parts that are read are those of the cell that stands there.
 use Rattle.std.proofs.Common.{◌≡◌, sym, subst}
 use Rattle.heap_model.specs.Types.{Cell}
-use Rattle.heap_table.specs.Seats.{heap_words}
+use Rattle.write_barrier.specs.Seats.{heap_words}
 use Rattle.heap_walk.specs.Standing.{StandsAt}
 use Rattle.heap_walk.proofs.Parts.{header_word, layout_known, length_known, size_known, cell_is}
 use Rattle.heap_walk.proofs.known_cells.known_cell_by.Goals as goal

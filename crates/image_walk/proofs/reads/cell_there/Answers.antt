@@ -1,6 +1,7 @@
 use Rattle.std.proofs.Common.{ℕ, List, arith, subst, ◌∙◌}
 use Rattle.page_space.proofs.Starts.{board_start_is, words_count_is}
 use Rattle.cell_layout.specs.Cells.{HasNoCell}
+use Rattle.image_walk.proofs.SpanWords.{words_count_few}
 use Rattle.image_walk.proofs.reads.cell_there.Goals as goal
 
 -- the words are no more than those of a heap, whose number is a `u32`
@@ -12,7 +13,7 @@ new-words-requires c =
       c.requires,
       board_start_is space,
       words_count_is space,
-      c.count-words_count.ensures.counted,
+      words_count_few c.args.image.now.regions c.sizes_fit.ensures,
     ))
 
 -- where the words read as no cell, there is none

@@ -2,7 +2,7 @@ use Rattle.std.proofs.Common.{refl, arith}
 use Rattle.tagged_word.specs.declared.word.Class.TheVariants.{Small, Ref, Odd}
 use Rattle.tagged_word.specs.Odds.{undefined_code, hole_code}
 use Rattle.heap_model.specs.Images.{image_heap}
-use Rattle.image_walk.proofs.SpanWords.{address_few}
+use Rattle.image_walk.proofs.SpanWords.{address_few, words_count_few}
 use Rattle.image_walk.proofs.slots.sort_of.Goals as goal
 
 -- a word of no class stands for nothing
@@ -16,6 +16,6 @@ returns-in-None c =
       refers_not = λ cell words refers.
           no_class (Ref cell.at)
           (address_few (image_heap c.args.image.now) cell words c.requires.sized refers.has
-          (omega (arith, c.count-words_count.ensures.counted)))
+          (words_count_few c.args.image.now.regions c.sizes_fit.ensures))
           refers.refers;
     }

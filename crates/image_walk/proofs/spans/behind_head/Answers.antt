@@ -2,6 +2,8 @@ use Rattle.std.proofs.Common.{arith}
 use Rattle.tagged_word.specs.Cells.{store_head}
 use Rattle.heap_model.specs.Images.{image_heap}
 use Rattle.image_walk.proofs.SpanWords.{cell_ends, cell_ends_few, behind_first}
+use Rattle.page_space.specs.Extents.{words_most}
+use Rattle.page_space.proofs.Limits.{words_count_most}
 use Rattle.image_walk.proofs.spans.behind_head.Goals as goal
 
 pub overflow_add-result : goal.overflow_add-result
@@ -10,8 +12,8 @@ overflow_add-result c =
     omega (
       arith,
       c.requires.long,
-      cell_ends_few heap c.args.cell c.count-words_count.result c.requires.sized c.requires.stands
-          (omega (arith, c.count-words_count.ensures.counted)),
+      cell_ends_few heap c.args.cell words_most c.requires.sized c.requires.stands
+          (words_count_most c.args.image.now.regions c.sizes_fit.ensures),
     )
 
 pub overflow_add-result-2 : goal.overflow_add-result-2
@@ -19,8 +21,8 @@ overflow_add-result-2 c =
     let heap = image_heap c.args.image.now in
     omega (
       arith,
-      cell_ends_few heap c.args.cell c.count-words_count.result c.requires.sized c.requires.stands
-          (omega (arith, c.count-words_count.ensures.counted)),
+      cell_ends_few heap c.args.cell words_most c.requires.sized c.requires.stands
+          (words_count_most c.args.image.now.regions c.sizes_fit.ensures),
     )
 
 pub returns-clause-slots : goal.returns-clause-slots

@@ -6,8 +6,8 @@ use Rattle.object_graph.specs.Meaning.{list_most}
 use Rattle.heap_model.specs.Kinds.{count_offset}
 use Rattle.heap_model.specs.Needs.{grown_list}
 use Rattle.heap_model.specs.Remembered.{Touch}
-use Rattle.heap_table.specs.Seats.{RestStays}
-use Rattle.heap_table.specs.Staying.{rest_stays_again}
+use Rattle.write_barrier.specs.Seats.{RestStays}
+use Rattle.write_barrier.specs.Staying.{rest_stays_again}
 use Rattle.write_barrier.specs.MutatorState.{Mutator, heap_of}
 use Rattle.write_barrier.specs.Recording.{Touches, touched_one, touched_then}
 use Rattle.write_barrier.proofs.Recording.{then_touch}

@@ -1,8 +1,8 @@
 -- The box that is made stands in the words that were reserved, and the length in the list's cell.
 use Rattle.std.proofs.Common.{◌≡◌, ℕ, ◌+◌, ◌<◌, length, sym, ap, ◌∙◌, subst, arith, rules}
 use Rattle.page_space.specs.Extents.{Space, marks_start}
-use Rattle.heap_table.specs.Seats.{RestStays, heap_words}
-use Rattle.heap_table.specs.Staying.{rest_stays_again}
+use Rattle.write_barrier.specs.Seats.{RestStays, heap_words}
+use Rattle.write_barrier.specs.Staying.{rest_stays_again}
 use Rattle.write_barrier.specs.MutatorState.{Mutator}
 use Rattle.write_barrier.specs.Recording.{Touches}
 use Rattle.object_cells.specs.Contents.{next_at}

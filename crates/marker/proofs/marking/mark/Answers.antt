@@ -17,6 +17,7 @@ loop-made-init g c = record {
   stays = record { table = refl; counts = refl };
   rests = c.requires.rests;
   place = c.requires.place;
+  bound = refl;
   going = not_begun c.args.seat.now.lent.view.log c.args.room.now.list.addresses c.args.room.now.place c.requires.place;
 }
 
@@ -46,6 +47,7 @@ loop-made-preserved g c =
             stays = stays;
             rests = c.turn.ensures.rests;
             place = omega (arith, t.1);
+            bound = c.turn.ensures.bound ∙ inv.bound;
             going = subst (λ (n : ℕ). IsGoing before later listed (c.loop-made.made + 1) now n) (sym idle)
                 (subst (λ (p : ℕ). IsGoing before later listed (c.loop-made.made + 1) p (c.loop-made.idle + 1)) (sym
                 t.1)
@@ -62,6 +64,7 @@ loop-made-preserved g c =
             stays = stays;
             rests = c.turn.ensures.rests;
             place = t.1;
+            bound = c.turn.ensures.bound ∙ inv.bound;
             going = subst (λ (n : ℕ). IsGoing before later listed (c.loop-made.made + 1) now n) (sym idle)
                 (elim t.0 [
                   | inl visit ↦ visits_on before after later had c.loop-made.made was c.loop-made.idle inv.going listed

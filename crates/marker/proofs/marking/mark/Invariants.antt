@@ -1,5 +1,5 @@
 -- So many turns are made, and so many looks in a row found nothing.
-use Rattle.std.proofs.Common.{◌-◌, ◌≤◌, ◌<◌}
+use Rattle.std.proofs.Common.{◌≡◌, ◌-◌, ◌≤◌, ◌<◌}
 use Rattle.marker.specs.Resting.{Rests, StaysAt}
 use Rattle.marker.proofs.Going.{IsGoing}
 use Rattle.marker.proofs.marking.mark.Given as goal
@@ -11,6 +11,7 @@ invariant-loop-made g l = record {
   stays : StaysAt l.fn.seat l.seat;
   rests : Rests l.room.list l.seat.lent;
   place : l.room.place < 64;
+  bound : l.room.list.bound ≡ l.fn.room.list.bound;
   going : IsGoing l.fn.seat.lent.view.log l.seat.lent.view.log l.room.list.addresses l.made l.room.place l.idle;
 }
 

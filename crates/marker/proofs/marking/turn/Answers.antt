@@ -6,11 +6,11 @@ use Rattle.marker.proofs.ShadeAll.{visit_ends}
 use Rattle.marker.proofs.marking.turn.Goals as goal
 
 pub visit_cell-requires-clause-waits : goal.visit_cell-requires-clause-waits
-visit_cell-requires-clause-waits g c κs within =
+visit_cell-requires-clause-waits g c =
     (c.requires.rests.listed.members c.in-Some.cell).0 c.in-Some.ensures.1
 
 pub visit_cell-requires-clause-listed : goal.visit_cell-requires-clause-listed
-visit_cell-requires-clause-listed g c κs within =
+visit_cell-requires-clause-listed g c =
     others_listed c.args.room.now.list c.next_cell.new.list c.args.seat.now.lent c.in-Some.cell c.requires.rests.listed
     c.in-Some.ensures.0 c.in-Some.ensures.3
 

@@ -1,5 +1,5 @@
 -- The list keeps pace with the seat.
-use Rattle.std.proofs.Common.{◌≡◌, ◌≢◌, ℕ, Contains, inl, inr, sym, ap, subst}
+use Rattle.std.proofs.Common.{◌≡◌, ◌≢◌, ℕ, Contains, inl, inr, refl, sym, ap, subst}
 use Rattle.mark_world.specs.Steps.{white}
 use Rattle.shared_table.specs.declared.colour.Colour.TheVariants.{White}
 use Rattle.shared_table.specs.Colours.{number_of}
@@ -40,6 +40,7 @@ returns-in_default c =
     record {
       listed = subst (λ (h : Helping). HasListed c.args.list.now h.lent) (sym c.shade.ensures.shaded)
           (other_listed before c.args.at found c.args.list.now c.requires.listed other);
+      bound = refl;
       shades = subst (λ (h : Helping). Shades before h) (sym c.shade.ensures.shaded) (shades_one before c.args.at
           found);
       shaded = subst (λ (h : Helping). Contains h.lent.view.visit c.args.at → ⊥) (sym c.shade.ensures.shaded)

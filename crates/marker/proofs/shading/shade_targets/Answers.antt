@@ -1,4 +1,5 @@
 -- Each turn of the loop shades one target more.
+use Rattle.std.proofs.Common.{◌∙◌}
 use Rattle.mark_laws.specs.Types.{SnapSlot}
 use Rattle.marker.specs.Shading.{word_of}
 use Rattle.marker.proofs.ShadeAll.{may_later, one_more, shades_on}
@@ -15,6 +16,7 @@ loop-slot-preserved c =
     let inv = c.loop-slot.invariant in
     record {
       listed = c.shade_target.ensures.listed;
+      bound = c.shade_target.ensures.bound ∙ inv.bound;
       shades = shades_on c.args.seat.now c.loop-slot.seat c.shade_target.new.seat inv.shades
           c.shade_target.ensures.shades;
       shaded = one_more c.loop-slot.seat c.shade_target.new.seat c.args.slots.now c.loop-slot.slot-index

@@ -14,7 +14,7 @@ use Rattle.object_graph.specs.Graphs.{Graph, bind, value_of}
 use Rattle.object_graph.specs.Meaning.{given, done}
 use Rattle.handle_roots.specs.declared.held.Held.TheVariants as held
 use Rattle.handle_roots.specs.Roots.{Holds, IsRoot}
-use Rattle.heap_table.specs.Seats.{heap_words}
+use Rattle.write_barrier.specs.Seats.{heap_words}
 use Rattle.write_barrier.specs.MutatorState.{Mutator, heap_of, MainShows, with_variable}
 use Rattle.heap_model.specs.Showing.{ShowsHeld}
 use Rattle.mutator.specs.Reading.{StandsFor}

@@ -5,7 +5,7 @@ use Rattle.std.specs.FinMap.{get}
 use Rattle.std.proofs.lemmas.Int.{to_z-of_z}
 use Rattle.object_graph.specs.declared.value.Value.TheVariants.{Int, Undefined}
 use Rattle.object_graph.specs.Graphs.{Graph, value_of}
-use Rattle.heap_table.specs.Seats.{heap_words}
+use Rattle.write_barrier.specs.Seats.{heap_words}
 use Rattle.handle_roots.specs.declared.given.Given.{Given}
 use Rattle.write_barrier.specs.MutatorState.{Mutator, MainShows}
 use Rattle.mutator.specs.Reading.{FindsGiven}

@@ -4,7 +4,7 @@ use Rattle.std.specs.FinMap.{get}
 use Rattle.write_barrier.specs.MutatorState.{heap_of}
 use Rattle.handle_roots.specs.declared.held.Held.TheVariants.{Ref}
 use Rattle.handle_roots.specs.Roots.{Holds}
-use Rattle.heap_table.specs.Seats.{heap_words}
+use Rattle.write_barrier.specs.Seats.{heap_words}
 use Rattle.heap_model.specs.Types.{Held}
 use Rattle.heap_model.specs.Showing.{ShowsHeld}
 use Rattle.mutator.proofs.HeldValues.{is_root, held_shows, some_shown, none_shown, shows_by_kind, no_plain_shown}

@@ -2,7 +2,7 @@
 use Rattle.std.proofs.Common.{◌+◌, ◌∙◌, ap, arith, replicate, length-set}
 use Rattle.std.specs.Prelude.{List, ◌∷◌, ℕ, slice_set}
 use Rattle.tagged_word.specs.Headers.{header_bits}
-use Rattle.heap_table.specs.Seats.{heap_words}
+use Rattle.write_barrier.specs.Seats.{heap_words}
 use Rattle.heap_model.specs.Slots.{hole_word}
 use Rattle.write_barrier.specs.Values.{with_range}
 use Rattle.object_cells.specs.Formats.{store_header}

@@ -1,7 +1,7 @@
 -- The store is filled before the marks, and then the slots of the other are copied to it.
 use Rattle.std.proofs.Common.{◌+◌, ◌∙◌, ap, arith}
 use Rattle.word_store.specs.Copies.{copied}
-use Rattle.heap_table.specs.Staying.{rest_stays_again}
+use Rattle.write_barrier.specs.Staying.{rest_stays_again}
 use Rattle.object_cells.proofs.StoreTouches.{slots_stored}
 use Rattle.object_cells.proofs.stores.begin_store.Goals as goal
 

@@ -2,7 +2,7 @@
 use Rattle.std.proofs.Common.{◌+◌, ◌<◌, ◌≤◌, length, sym, subst, arith}
 use Rattle.page_space.specs.Extents.{Space, marks_start}
 use Rattle.cell_layout.proofs.OneCell.{cells_have_words}
-use Rattle.heap_table.specs.Seats.{heap_words}
+use Rattle.write_barrier.specs.Seats.{heap_words}
 use Rattle.scavenger.specs.Filling.{ChangesWords}
 use Rattle.scavenger.proofs.CodeChanges.{changes_again, put_changes, copy_changes}
 use Rattle.scavenger.proofs.CodePlaces.{cell_copied}

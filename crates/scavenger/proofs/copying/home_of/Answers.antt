@@ -1,5 +1,5 @@
 -- The header is the reference to the home, or the cell is moved.
-use Rattle.heap_table.specs.Seats.{heap_words}
+use Rattle.write_barrier.specs.Seats.{heap_words}
 use Rattle.scavenger.proofs.LoopTargets.{refers_by, has_target, target_before_marks}
 use Rattle.scavenger.proofs.LoopMoves.{home_moves}
 use Rattle.scavenger.proofs.copying.home_of.Goals as goal

@@ -1,7 +1,7 @@
 -- The cell that is found has no home, and is copied to where there is room for it.
 use Rattle.std.proofs.Common.{arith}
 use Rattle.cell_layout.proofs.OneCell.{cells_have_words}
-use Rattle.heap_table.specs.Seats.{heap_words}
+use Rattle.write_barrier.specs.Seats.{heap_words}
 use Rattle.scavenger.proofs.LoopTargets.{new_is_cell, stand_free, copy_before_marks, few_words}
 use Rattle.scavenger.proofs.LoopMoves.{cell_there, cell_found, copied_stays, young_before_marks, found_may_be_copied}
 use Rattle.scavenger.proofs.LoopMoves.{list_is_short, found_moves}

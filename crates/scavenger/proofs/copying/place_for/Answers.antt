@@ -1,6 +1,6 @@
 -- A copy goes to a free run, or to the segment: then it was not to be promoted, or no free run has its words.
 use Rattle.std.proofs.Common.{◌≡◌, IsTrue, refl, sym, subst}
-use Rattle.heap_table.specs.Seats.{heap_words}
+use Rattle.write_barrier.specs.Seats.{heap_words}
 use Rattle.heap_model.specs.Types.{Cell, Run}
 use Rattle.write_barrier.specs.MutatorState.{Mutator}
 use Rattle.scavenger.specs.declared.progress.Progress.{Progress}

@@ -3,7 +3,7 @@ use Rattle.std.proofs.Common.{◌≡◌, ◌+◌, ◌-◌, ◌≤◌, ℕ, List,
 use Rattle.page_space.specs.Extents.{marks_start}
 use Rattle.free_runs.specs.FreeRuns.{TakesFront}
 use Rattle.cell_layout.specs.Cells.{IsCell}
-use Rattle.heap_table.specs.Seats.{Seat, heap_words}
+use Rattle.write_barrier.specs.Seats.{Seat, heap_words}
 use Rattle.heap_model.specs.Types.{Cell, Run}
 use Rattle.write_barrier.specs.MutatorState.{Mutator}
 use Rattle.scavenger.specs.Walking.{CutsFreeCell}

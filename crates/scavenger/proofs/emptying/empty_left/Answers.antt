@@ -2,7 +2,7 @@
 use Rattle.std.proofs.Common.{◌∙◌, ap, subst, arith}
 use Rattle.page_space.specs.Extents.{Space, eden_start}
 use Rattle.remembered_set.specs.Recorded.{Recorded}
-use Rattle.heap_table.specs.Seats.{heap_words}
+use Rattle.write_barrier.specs.Seats.{heap_words}
 use Rattle.scavenger.specs.Walking.{EmptiesSegments}
 use Rattle.scavenger.proofs.EmptiedSegments.{emptied_all}
 use Rattle.scavenger.proofs.emptying.empty_left.Goals as goal

@@ -3,7 +3,7 @@ use Rattle.std.proofs.Common.{◌+◌, ◌<◌, ◌∙◌, length, sym, ap, subs
 use Rattle.page_space.specs.declared.region.Region.TheVariants.{Segment}
 use Rattle.page_space.specs.declared.sizes.Sizes.{Sizes}
 use Rattle.page_space.specs.Extents.{Space, StartsAt, marks_start}
-use Rattle.heap_table.specs.Seats.{heap_words}
+use Rattle.write_barrier.specs.Seats.{heap_words}
 use Rattle.remembered_set.specs.Recorded.{Recorded}
 use Rattle.write_barrier.specs.MutatorState.{Mutator}
 use Rattle.write_barrier.proofs.JudgedSlots.{wiped_behind}

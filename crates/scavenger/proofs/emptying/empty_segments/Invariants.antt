@@ -1,7 +1,7 @@
 -- The first words of the segments below one are 0.
 use Rattle.std.proofs.Common.{◌≡◌, ◌≤◌}
 use Rattle.page_space.specs.Extents.{eden_start}
-use Rattle.heap_table.specs.Seats.{heap_words}
+use Rattle.write_barrier.specs.Seats.{heap_words}
 use Rattle.scavenger.specs.Filling.{ChangesWords}
 use Rattle.scavenger.proofs.EmptiedSegments.{EmptiesBelow}
 use Rattle.scavenger.proofs.emptying.empty_segments.Given as goal

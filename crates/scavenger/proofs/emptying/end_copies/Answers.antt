@@ -1,7 +1,7 @@
 -- A 0 is put behind the copies, or nothing changes.
 use Rattle.std.proofs.Common.{◌≢◌, ◌+◌, ◌<◌, ◌∙◌, ℕ, List, length, slice_get, ap, arith, length-set}
 use Rattle.object_graph.proofs.Lists.{slice_get-set_same, slice_get-set_other}
-use Rattle.heap_table.specs.Seats.{heap_words}
+use Rattle.write_barrier.specs.Seats.{heap_words}
 use Rattle.write_barrier.specs.MutatorState.{Mutator}
 use Rattle.write_barrier.proofs.JudgedSlots.{wiped_behind}
 use Rattle.scavenger.proofs.emptying.end_copies.Goals as goal

@@ -1,7 +1,7 @@
 -- A cell stands at the address, and it is the copy.
 use Rattle.std.proofs.Common.{◌∙◌, ℕ, sym, subst}
 use Rattle.heap_model.specs.Types.{Cell}
-use Rattle.heap_table.specs.Seats.{heap_words}
+use Rattle.write_barrier.specs.Seats.{heap_words}
 use Rattle.heap_walk.specs.Standing.{StandsAt}
 use Rattle.scavenger.proofs.LoopCopies.{copy_stands, is_copy}
 use Rattle.scavenger.proofs.scanning.copy_at.Goals as goal

@@ -1,7 +1,7 @@
 -- A slot that is live in a scavenge is followed: it refers to nothing that is left, or comes to refer to a home.
 use Rattle.std.proofs.Common.{◌≡◌, ◌+◌, ◌<◌, ◌∙◌, ℕ, slice_set, sym, subst, arith}
 use Rattle.page_space.specs.Extents.{Space, marks_start}
-use Rattle.heap_table.specs.Seats.{heap_words}
+use Rattle.write_barrier.specs.Seats.{heap_words}
 use Rattle.write_barrier.specs.MutatorState.{with_slot}
 use Rattle.scavenger.specs.Following.{IsFromSpace}
 use Rattle.scavenger.proofs.CodeStores.{moved_follows}

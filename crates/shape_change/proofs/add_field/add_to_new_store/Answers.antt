@@ -1,7 +1,7 @@
 -- The store and the box that are made stand in the words that were reserved.
 use Rattle.page_space.specs.Extents.{Space, marks_start}
-use Rattle.heap_table.specs.Staying.{rest_stays_again}
-use Rattle.heap_table.specs.Seats.{RestStays}
+use Rattle.write_barrier.specs.Staying.{rest_stays_again}
+use Rattle.write_barrier.specs.Seats.{RestStays}
 use Rattle.write_barrier.specs.MutatorState.{Mutator}
 use Rattle.write_barrier.specs.Recording.{Touches, touched_one, touched_then}
 use Rattle.write_barrier.proofs.Recording.{then_touch}

@@ -11,7 +11,7 @@ use Rattle.object_cells.proofs.TouchedWords.{content_touch_at, then_stored, then
 use Rattle.object_cells.specs.Contents.{content_of, next_at}
 use Rattle.object_cells.specs.Made.{content_need, content_touch, store_content}
 use Rattle.std.proofs.Common.{◌≡◌, ◌+◌, ◌-◌, ◌<◌, false, length, ap, sym, subst, ◌∙◌, arith, rules}
-use Rattle.heap_table.specs.Seats.{heap_words}
+use Rattle.write_barrier.specs.Seats.{heap_words}
 use Rattle.shape_change.proofs.add_field.add_to_store.Goals as goal
 use Rattle.shape_change.specs.Additions.{behind_cap}
 

@@ -1,17 +1,8 @@
--- The path is added, and then its layout words.
-use Rattle.std.proofs.Common.{List, sym, subst}
-use Rattle.heap_model.specs.Types.{Path}
-use Rattle.shape_tree.specs.Shapes.{Leads, shape_path, without}
-use Rattle.write_barrier.specs.MutatorState.{Mutator}
-use Rattle.shape_change.proofs.NewLayouts.{led_paths}
+-- The path is added, and its layout words.
+use Rattle.shape_change.proofs.LaidPaths.{finds_without}
 use Rattle.shape_change.proofs.delete_field.shape_without.Goals as goal
 
 pub returns : goal.returns
 returns c =
-    let old : Mutator = c.args.main.now in
-    let path : Path = without (shape_path old.paths c.args.shape) c.args.slot in (
-      subst (λ (all : List Path). Leads old.paths all path c.in_ok-next.next)
-          (sym c.put_new_layouts.ensures.changes.paths) c.in_ok-next.ensures.taken_out,
-      c.put_new_layouts.ensures.sized,
-      led_paths c.path_without.ensures.rest c.put_new_layouts.ensures.changes,
-    )
+    finds_without c.args.main.now c.shorten_path.new.self c.args.shape c.args.slot c.shorten_path.result
+    c.shorten_path.ensures

@@ -1,7 +1,7 @@
 -- The regions stay, and so what is before the marks.
 use Rattle.std.proofs.Common.{◌≡◌, ◌<◌, ℕ, sym, ◌∙◌, ap, subst, rules}
 use Rattle.page_space.specs.Extents.{Space, marks_start}
-use Rattle.heap_table.specs.Seats.{RestStays}
+use Rattle.write_barrier.specs.Seats.{RestStays}
 use Rattle.write_barrier.specs.MutatorState.{Mutator}
 use Rattle.shape_change.specs.Places.{place_at}
 use Rattle.object_cells.specs.Contents.{filled}

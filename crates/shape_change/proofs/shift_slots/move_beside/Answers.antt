@@ -2,7 +2,7 @@
 use Rattle.std.proofs.Common.{◌≡◌, ◌+◌, ◌<◌, ◌∙◌, sym, ap, arith, length}
 use Rattle.tagged_word.specs.Cells.{store_head}
 use Rattle.page_space.specs.Extents.{marks_start}
-use Rattle.heap_table.specs.Seats.{heap_words}
+use Rattle.write_barrier.specs.Seats.{heap_words}
 use Rattle.shape_change.proofs.SlotTouches.{slot_put}
 use Rattle.shape_change.proofs.WordsMoved.{moved_more, rest_slot}
 use Rattle.shape_change.proofs.shift_slots.move_beside.Goals as goal

@@ -1,5 +1,6 @@
 use Rattle.std.proofs.Common.{arith}
 use Rattle.page_space.proofs.Starts.{board_start_is, words_count_is}
+use Rattle.image_walk.proofs.SpanWords.{words_count_few}
 use Rattle.slow_check.proofs.bindings.root_of.Goals as goal
 
 -- the words are no more than those of a heap, whose number is a `u32`
@@ -11,5 +12,5 @@ new-words-requires c =
       c.requires.sized,
       board_start_is space,
       words_count_is space,
-      c.count-words_count.ensures.counted,
+      words_count_few c.args.image.now.regions c.sizes_fit.ensures,
     ))

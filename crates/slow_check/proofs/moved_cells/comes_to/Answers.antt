@@ -2,17 +2,19 @@ use Rattle.std.proofs.Common.{◌+◌, sym, ◌∙◌, arith}
 use Rattle.std.proofs.lemmas.Bool.{false≢true}
 use Rattle.heap_model.specs.Images.{image_heap}
 use Rattle.heap_model.specs.Heaps.{words_of_cell}
-use Rattle.image_walk.proofs.SpanWords.{cell_ends_few, address_few}
+use Rattle.image_walk.proofs.SpanWords.{cell_ends_few, address_few, words_count_few}
 use Rattle.slow_check.specs.Moves.{to_of}
 use Rattle.slow_check.proofs.ComersFound.{none_comes, one_comes}
+use Rattle.page_space.specs.Extents.{words_most}
+use Rattle.page_space.proofs.Limits.{words_count_most}
 use Rattle.slow_check.proofs.moved_cells.comes_to.Goals as goal
 
 pub overflow_add-cell : goal.overflow_add-cell
 overflow_add-cell c =
     omega (
       arith,
-      cell_ends_few (image_heap c.args.old.now) c.args.cell c.count-words_count.result c.requires.sized
-          c.requires.stands (omega (arith, c.count-words_count.ensures.counted)),
+      cell_ends_few (image_heap c.args.old.now) c.args.cell words_most c.requires.sized
+          c.requires.stands (words_count_most c.args.old.now.regions c.sizes_fit.ensures),
     )
 
 -- another cell comes to the address
@@ -28,7 +30,7 @@ pub returns : goal.returns
 returns c =
     let old = image_heap c.args.old.now in
     let below = address_few old c.args.cell (words_of_cell old c.args.cell) c.requires.sized c.requires.stands
-    (omega (arith, c.count-words_count.ensures.counted)) in (
+    (words_count_few c.args.old.now.regions c.sizes_fit.ensures) in (
       λ stands. record {
         fits = (λ few. omega arith, λ few. below);
         stands = c.stands_moved.ensures.0 stands;

@@ -4,6 +4,7 @@ use Rattle.cell_layout.proofs.OneCell.{slots_lie_within}
 use Rattle.heap_model.specs.Images.{image_heap}
 use Rattle.slow_check.proofs.NamingSlots.{none_before_more}
 use Rattle.image_walk.proofs.ObjectNaming.{slot_before}
+use Rattle.image_walk.proofs.SpanWords.{words_count_few}
 use Rattle.slow_check.proofs.naming.slot_in.Goals as goal
 
 pub overflow_add-slot : goal.overflow_add-slot
@@ -12,7 +13,7 @@ overflow_add-slot c =
       arith,
       slot_before (image_heap c.args.image.now) c.args.cell c.in-Some.offset c.requires.sized c.requires.is_cell
           c.in-Some.ensures.among,
-      c.count-words_count.ensures.counted,
+      words_count_few c.args.image.now.regions c.sizes_fit.ensures,
     )
 
 pub overflow_add-from : goal.overflow_add-from
@@ -21,7 +22,7 @@ overflow_add-from c =
       arith,
       slot_before (image_heap c.args.image.now) c.args.cell c.in-Some.offset c.requires.sized c.requires.is_cell
           c.in-Some.ensures.among,
-      c.count-words_count.ensures.counted,
+      words_count_few c.args.image.now.regions c.sizes_fit.ensures,
     )
 
 pub loop-offset-smaller : goal.loop-offset-smaller

@@ -1,10 +1,13 @@
--- A heap that was just opened has a row of free runs for each page, and each cell can be marked.
-use Rattle.std.proofs.Common.{rules, ◌∙◌, length, ap, sym}
+-- No shared table is asked for. A heap that was just opened has a row of free runs for each page, and each cell can be marked.
+use Rattle.std.proofs.Common.{rules, ◌∙◌, false, length, ap, sym}
 use Rattle.std.proofs.lemmas.List.FromFn.{length-map-range_with_len}
 use Rattle.page_space.specs.Extents.{roots_start}
 use Rattle.free_runs.specs.FreeRuns.{whole_row}
 use Rattle.ephemeron_mark.specs.Marked.{Marked}
 use Rattle.collector.proofs.script_heap.Heap.open_new.Goals as goal
+
+pub open-requires : goal.open-requires
+open-requires c = (false, c.requires)
 
 pub returns-clause-opened : goal.returns-clause-opened
 returns-clause-opened c =

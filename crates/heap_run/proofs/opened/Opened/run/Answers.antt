@@ -9,5 +9,8 @@ run_script-finished-requires-clause-for_heap g c κs within =
 
 pub returns-clause-finishes : goal.returns-clause-finishes
 returns-clause-finishes g c =
-    let (found, inspected, told) = c.run_script-finished.ensures.finishes in
-    finishes_unflawed found c.args.self.inspection c.run_script-finished.new.inspection inspected told
+    let ran = c.run_script-finished in
+    let (found, inspected, told, judged) = ran.ensures.finishes in
+    let (finishes, ends) =
+    finishes_unflawed found c.args.self.inspection ran.new.inspection ran.new.heap.main inspected told judged in
+    (ran.new.inspection, finishes, ends)

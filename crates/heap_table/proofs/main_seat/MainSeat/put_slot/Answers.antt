@@ -1,30 +1,18 @@
--- The word goes to the shared table where it has a place there.
-use Rattle.std.proofs.Common.{◌+◌, ◌<◌, IfSome, sym, ap, subst, arith}
-use Rattle.page_space.specs.Extents.{marks_start}
-use Rattle.heap_table.specs.Seats.{Seat}
+-- The word goes to the shared table if it is one of a page.
+use Rattle.std.proofs.Common.{◌+◌, IfSome, sym, subst}
 use Rattle.heap_table.specs.Seated.{IsSeated}
 use Rattle.heap_table.specs.Sharing.{Agrees}
-use Rattle.heap_table.proofs.PutSeats.{agreed, layouts_fit, both_agree}
+use Rattle.heap_table.proofs.PutSeats.{agreed, both_agree}
 use Rattle.heap_table.proofs.main_seat.MainSeat.put_slot.Goals as goal
 use Rattle.heap_table.proofs.main_seat.MainSeat.put_slot.Goals.{in-Some, in_default}
-
-pub share-requires-clause-layouts : goal.share-requires-clause-layouts
-share-requires-clause-layouts c =
-    let at = c.args.cell + c.args.offset in
-    layouts_fit c.self.inside.own c.put_slot.new.self c.in-Some.side c.count.result at c.args.word
-    (agreed c.self.inside c.in-Some.side c.in-Some.is c.self.invariant) c.put_slot.ensures c.count.ensures.counted
-    c.count.ensures.count
 
 pub invariant_of-self : goal.invariant_of-self
 invariant_of-self c =
     let at = c.args.cell + c.args.offset in
-    let before : at < marks_start c.self.inside.own.space =
-    omega (arith, ap (λ (seat : Seat). marks_start seat.space) c.self.view_is, c.requires.within) in
     elim c.match-self.branch [
       | in-Some w ↦ subst IsSeated (sym w.self-inside-is) (record {
-        agrees = both_agree c.self.inside.own c.put_slot.new.self w.in-Some.side w.count.result at c.args.word
-            (agreed c.self.inside w.in-Some.side w.in-Some.is c.self.invariant) c.put_slot.ensures
-            w.count.ensures.counted w.count.ensures.count before w.share.new.side w.share.ensures;
+        agrees = both_agree c.self.inside.own c.put_slot.new.self w.in-Some.side w.share.new.side at c.args.word
+            (agreed c.self.inside w.in-Some.side w.in-Some.is c.self.invariant) c.put_slot.ensures w.share.ensures;
       })
       | in_default w ↦ subst IsSeated (sym w.self-inside-is) (record {
         agrees = subst (λ shared. IfSome shared (λ side. Agrees c.put_slot.new.self side.main))

@@ -2,7 +2,7 @@
 use Rattle.std.proofs.Common.{◌≡◌, ◌≢◌, ℕ, Option, Some, refl, sym, ◌∙◌, ap, subst, arith}
 use Rattle.std.proofs.lemmas.Option.{same_Some}
 use Rattle.heap_model.specs.Types.{Cell}
-use Rattle.heap_table.specs.Seats.{heap_words}
+use Rattle.write_barrier.specs.Seats.{heap_words}
 use Rattle.heap_walk.specs.Walks.{IsNext}
 use Rattle.heap_walk.proofs.Steps.{row_goes_on, ends_at_limit, ends_at_zero}
 use Rattle.heap_walk.proofs.cells.Cells.next.Goals as goal

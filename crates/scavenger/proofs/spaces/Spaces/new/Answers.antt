@@ -15,14 +15,14 @@ returns c =
 
 pub overflow_add-result : goal.overflow_add-result
 overflow_add-result c =
-    let limits = c.count-words_count.ensures.within in
+    let limits = c.sizes_fit.ensures in
     let young : c.sizes-sizes.result.young ≡ c.args.regions.now.sizes.young =
     ap (λ (sizes : Sizes). sizes.young) c.sizes-sizes.ensures in
     omega (arith, words_count_most c.args.regions.now limits, c.start-eden.ensures.inside, limits.young, young)
 
 pub overflow_add-result-4 : goal.overflow_add-result-4
 overflow_add-result-4 c =
-    let limits = c.count-words_count.ensures.within in
+    let limits = c.sizes_fit.ensures in
     let young : c.sizes-sizes.result.young ≡ c.args.regions.now.sizes.young =
     ap (λ (sizes : Sizes). sizes.young) c.sizes-sizes.ensures in
     omega (arith, words_count_most c.args.regions.now limits, c.start-room.ensures.inside, limits.young, young)
@@ -37,7 +37,7 @@ overflow_add-result-3 c =
     c.start-room.ensures.starts in
     omega (
       arith,
-      words_count_most space c.count-words_count.ensures.within,
+      words_count_most space c.sizes_fit.ensures,
       are.left_end,
       half_before_marks space c.args.half c.requires,
       kinds.board,

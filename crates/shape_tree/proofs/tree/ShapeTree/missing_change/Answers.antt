@@ -2,7 +2,7 @@
 use Rattle.std.proofs.Common.{◌≡◌, ◌+◌, ◌-◌, ◌∙◌, ◌∷◌, ap, sym, subst, arith, length, drop, length-take, length-drop}
 use Rattle.object_graph.specs.Paths.{missing}
 use Rattle.object_graph.specs.Invariants.{IsPath}
-use Rattle.shape_tree.specs.Shapes.{AreShapes, shape_path, changed}
+use Rattle.shape_tree.specs.Shapes.{shape_path, changed}
 use Rattle.shape_tree.proofs.GrownLists.{length-missing}
 use Rattle.shape_tree.proofs.ChangedPaths.{IsPath-changed, fields_behind, changed_field}
 use Rattle.shape_tree.proofs.ChangedPaths.{extended-changed_at, extended-changed_next}
@@ -15,7 +15,7 @@ returns-in_default c =
     let slice = c.fields_of-fields.result.now in
     let at = c.args.at in
     let behind = drop (at + 1) slice in
-    let good = subst AreShapes c.self.view_is c.self.invariant.shapes in
+    let good = c.paths_fit.ensures.good in
     let whole = extended-changed_at path (shape_path paths c.ancestor.result) slice at c.args.rep c.requires.there
     c.ancestor.ensures.of_path c.fields_of-fields.ensures.fields in
     let lacking : length (missing paths (changed path at c.args.rep))

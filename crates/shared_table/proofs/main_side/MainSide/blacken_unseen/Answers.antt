@@ -1,7 +1,6 @@
 -- The step is an event.
 use Rattle.std.proofs.Common.{◌≡◌, ◌<◌, ◌∙◌, ◌+◌, ◌-◌, ℕ, length, sym, ap, subst, arith, rules}
-use Rattle.std.specs.declared.vec.Vec.{Vec}
-use Rattle.std.specs.declared.alloc.Global.{Global}
+use Rattle.shared_table.specs.Owned.{Own}
 use Rattle.atomic_table.specs.Table.{Me}
 use Rattle.atomic_table.specs.Seated.{TableId}
 use Rattle.mark_world.specs.declared.event.Event.TheVariants as event
@@ -37,13 +36,13 @@ returns-clause-blackened c =
     let s = c.self.inside in
     let inv = c.self.invariant in
     let main : Overview = overview_of s.seat.me.0 in
-    let now : Me (Vec ℕ Global) View = c.swap-found.new.seat.me in
+    let now : Me Own View = c.swap-found.new.seat.me in
     let n : ℕ = c.swap-found.result in
     let cell : c.colour_place-place.result - (main.old + length main.layouts) ≡ c.args.a =
     omega (arith, c.colour_place-place.ensures, inv.old, inv.layouts) in
     let side : TableId → Overview → Side = λ table one. record { table = table; main = one } in
     ap (λ (table : TableId). side table (overview_of now.0)) c.swap-found.ensures.0
-    ∙ ap (λ (me : Me (Vec ℕ Global) View). side s.seat.table_id (overview_of me.0)) c.swap-found.ensures.2.0
+    ∙ ap (λ (me : Me Own View). side s.seat.table_id (overview_of me.0)) c.swap-found.ensures.2.0
     ∙ ap (λ (i : ℕ). side s.seat.table_id (told main (event.Blacken i) n)) cell
     ∙ ap (λ (k : ℕ). side s.seat.table_id (told main (event.Blacken c.args.a) k)) (sym c.of.ensures)
     ∙ ap (λ (v : Side). record v { main = told v.main (event.Blacken c.args.a) (number_of c.of.result) }) c.self.view_is

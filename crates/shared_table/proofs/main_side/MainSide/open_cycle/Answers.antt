@@ -16,11 +16,11 @@ compare_exchange_with-requires g c =
     ap (λ (v : Side). v.main.home) c.self.view_is ∙ c.requires.home in (
       search rules,
       omega (arith, ap (λ t. t.table.shared.table_id.words) c.deref.ensures, inv.counted),
-      open_may _ s.counts _ _ s.seat.me (overview_of s.seat.me.0) c.args.words.now g.M.Choice.fits (search rules)
-          inv.id inv.me
-          home (
+      open_may _ s.counts _ _ c.args.made s.seat.me (overview_of s.seat.me.0) c.args.own.now g.M.Choice.fits
+          (search rules) inv.id inv.me home (
             chosen.0,
-            subst (λ (v : Side). g.M.Choice.fits c.args.words.now.items v.main chosen.0) (sym c.self.view_is) chosen.1,
+            subst (λ (v : Side). g.M.Choice.fits c.args.own.now c.args.made v.main chosen.0)
+                (sym c.self.view_is) chosen.1,
             subst (λ (v : Side). Fresh (world_at_home (opened v.main chosen.0)))
                 (sym c.self.view_is) chosen.2,
           ),

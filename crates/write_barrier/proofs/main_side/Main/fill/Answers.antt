@@ -1,29 +1,24 @@
--- What is recorded of the words is forgotten, and then they become others.
-use Rattle.std.proofs.Common.{◌≡◌, ◌∙◌, ◌+◌, ◌++◌, ℕ, take, drop, sym, ap, arith}
+-- What is recorded of the words is forgotten, and they become others.
+use Rattle.std.proofs.Common.{arith}
 use Rattle.std.specs.Prelude.{replicate}
 use Rattle.std.proofs.lemmas.List.{length-replicate}
-use Rattle.heap_table.specs.Seats.{Seat, heap_words}
-use Rattle.write_barrier.specs.Model.{mutator_of}
-use Rattle.write_barrier.specs.MutatorState.{Mutator, forgets, with_table}
+use Rattle.write_barrier.specs.MutatorState.{Mutator}
+use Rattle.write_barrier.specs.Values.{with_range}
 use Rattle.write_barrier.proofs.StretchTouches.{stretch_touch}
 use Rattle.write_barrier.proofs.main_side.Main.fill.Goals as goal
 
-pub returns-clause-touches : goal.returns-clause-touches
-returns-clause-touches c =
+pub returns-then-covers-clause-touches : goal.returns-then-covers-clause-touches
+returns-then-covers-clause-touches c =
     let old : Mutator = c.args.self.now in
-    let at = c.args.at in
-    let count = c.args.count in
-    let others = replicate count c.args.word in
-    let between : mutator_of c.self.inside ≡ forgets old at (at + count) = c.self.view_is ∙ c.forget.ensures in
-    stretch_touch {old = old} at count (take at old.seat.table ++ others ++ drop (at + count) old.seat.table) others
-    (ap (λ (seat : Seat). let main : Mutator = record (mutator_of c.self.inside) { seat = seat } in main)
-    c.fill.ensures.filled
-    ∙ ap (λ (main : Mutator).
-    with_table main (take at main.seat.table ++ others ++ drop (at + count) main.seat.table)) between)
-    (c.fill.ensures.heap
-    ∙ ap (λ (main : Mutator). let words = heap_words main.seat in take at words ++ others ++ drop (at + count) words)
-    between
-    ∙ ap (λ (n : ℕ). let words = heap_words old.seat in take at words ++ others ++ drop (at + n) words)
-    (sym (length-replicate count c.args.word)))
-    (length-replicate count c.args.word)
+    let others = replicate c.args.count c.args.word in
+    stretch_touch {old = old} c.args.at c.args.count (with_range old.seat.table c.args.at others) others
+    c.fill_in_page.ensures.filled c.fill_in_page.ensures.heap (length-replicate c.args.count c.args.word)
+    (omega (arith, c.addresses_fit.ensures.heap_counted, c.requires.within))
+
+pub returns-else-covers-clause-touches : goal.returns-else-covers-clause-touches
+returns-else-covers-clause-touches c =
+    let old : Mutator = c.args.self.now in
+    let others = replicate c.args.count c.args.word in
+    stretch_touch {old = old} c.args.at c.args.count (with_range old.seat.table c.args.at others) others
+    c.fill_behind.ensures.filled c.fill_behind.ensures.heap (length-replicate c.args.count c.args.word)
     (omega (arith, c.addresses_fit.ensures.heap_counted, c.requires.within))

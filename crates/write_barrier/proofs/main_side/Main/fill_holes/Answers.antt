@@ -1,7 +1,7 @@
 -- Holes refer to nothing, so that nothing of them is to be recorded.
 use Rattle.std.proofs.Common.{◌≡◌, ◌∙◌, ◌+◌, ◌≤◌, ℕ, length, slice_get, ap, arith}
 use Rattle.std.specs.Prelude.{replicate}
-use Rattle.heap_table.specs.Seats.{heap_words}
+use Rattle.write_barrier.specs.Seats.{heap_words}
 use Rattle.heap_model.specs.Slots.{hole_word}
 use Rattle.write_barrier.specs.Values.{with_range}
 use Rattle.write_barrier.proofs.PutRanges.{with_range_filled}

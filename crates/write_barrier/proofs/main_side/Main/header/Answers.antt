@@ -4,7 +4,7 @@ use Rattle.std.specs.Prelude.{option_and_then}
 use Rattle.std.proofs.lemmas.Option.{same_Some}
 use Rattle.tagged_word.specs.Readings.{header_in}
 use Rattle.tagged_word.proofs.Readings.{header_from}
-use Rattle.heap_table.specs.Seats.{heap_words}
+use Rattle.write_barrier.specs.Seats.{heap_words}
 use Rattle.heap_model.proofs.CellsApart.{has_is_cell}
 use Rattle.write_barrier.proofs.main_side.Main.header.Goals as goal
 

@@ -1,7 +1,7 @@
 -- The pages before are gaps, and only words of pages have changed.
 use Rattle.std.proofs.Common.{ℕ, ◌<◌}
 use Rattle.page_space.specs.Extents.{eden_start}
-use Rattle.heap_table.specs.Seats.{heap_words}
+use Rattle.write_barrier.specs.Seats.{heap_words}
 use Rattle.write_barrier.specs.MutatorState.{IsOneGap}
 use Rattle.write_barrier.specs.Opening.{ChangesWithin}
 use Rattle.write_barrier.proofs.main_side.Main.put_gaps.Given as goal

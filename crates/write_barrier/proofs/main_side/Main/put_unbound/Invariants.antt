@@ -3,7 +3,7 @@ use Rattle.std.proofs.Common.{◌≡◌, ℕ, ◌+◌, ◌<◌, Some, slice_get}
 use Rattle.page_space.specs.Extents.{roots_start, layouts_start}
 use Rattle.handle_roots.specs.declared.held.Held.TheVariants.{Unbound}
 use Rattle.handle_roots.specs.Roots.{root_at, first_word}
-use Rattle.heap_table.specs.Seats.{heap_words}
+use Rattle.write_barrier.specs.Seats.{heap_words}
 use Rattle.write_barrier.specs.Opening.{ChangesWithin}
 use Rattle.write_barrier.proofs.main_side.Main.put_unbound.Given as goal
 

@@ -1,25 +1,29 @@
 -- The integer that is put is the one that was given.
-use Rattle.std.proofs.Common.{◌≡◌, ℤ, SFits, w64, ap, subst, rules}
+use Rattle.std.proofs.Common.{◌≡◌, ◌∙◌, ℕ, ℤ, SFits, w64, ap, subst, rules}
 use Rattle.std.proofs.lemmas.Int.{to_z-of_z}
 use Rattle.handle_roots.specs.declared.held.Held.TheVariants.{Int}
-use Rattle.handle_roots.specs.Roots.{Holds, with_root}
-use Rattle.heap_table.specs.Seats.{heap_words}
+use Rattle.handle_roots.specs.Roots.{FitsHeld, root_at, first_word}
+use Rattle.write_barrier.specs.Seats.{heap_words}
+use Rattle.write_barrier.specs.MutatorState.{Mutator, put_word}
+use Rattle.write_barrier.proofs.RootsPut.{small_put, holds_put}
 use Rattle.write_barrier.proofs.main_side.Main.replace_small.Goals as goal
 
-pub replace_small_in-requires-clause-was : goal.replace_small_in-requires-clause-was
-replace_small_in-requires-clause-was c = rw (← c.self.view_is) at c.requires.was
-
-pub returns-clause-heap : goal.returns-clause-heap
-returns-clause-heap c =
-    let seat = c.self.inside.seat in
+pub returns : goal.returns
+returns c =
+    let old : Mutator = c.args.self.now in
     let fits : SFits w64 c.args.v = search rules in
-    let P : ℤ → Type 0 = λ v. heap_words c.replace_small_in.new.seat
-    ≡ with_root seat.space (heap_words seat) c.args.variable (Int v) in
-    rw (← c.self.view_is) (subst P (to_z-of_z w64 c.args.v fits) (ap heap_words c.replace_small_in.ensures.held))
-
-pub returns-clause-holds : goal.returns-clause-holds
-returns-clause-holds c =
-    let seat = c.self.inside.seat in
-    let fits : SFits w64 c.args.v = search rules in
-    let P : ℤ → Type 0 = λ v. Holds seat.space (heap_words c.replace_small_in.new.seat) c.args.variable (Int v) in
-    rw (← c.self.view_is) (subst P (to_z-of_z w64 c.args.v fits) c.replace_small_in.ensures.holds)
+    let held_fits : FitsHeld (Int c.args.v) = search rules in
+    let (was, is, holds) = c.requires.was in
+    let P : ℤ → Type 0 = λ v. c.small_word.result ≡ first_word (Int v) in
+    let word : P c.args.v = subst P (to_z-of_z w64 c.args.v fits) c.small_word.ensures in
+    let put = c.put_own.ensures.put
+    ∙ ap (λ (at : ℕ). put_word old at c.small_word.result) c.root_of-root.ensures.at
+    ∙ ap (put_word old (root_at old.seat.space c.args.variable)) word in
+    let held = small_put old c.put_own.new.self c.args.variable was c.args.v is c.requires.small holds put in
+    let heap = ap (λ (main : Mutator). heap_words main.seat) held in
+    record {
+      held = held;
+      heap = heap;
+      holds = holds_put old c.put_own.new.self c.args.variable (Int c.args.v) held_fits c.requires.known
+          c.addresses_fit.ensures.heap_counted heap;
+    }

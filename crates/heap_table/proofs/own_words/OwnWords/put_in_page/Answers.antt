@@ -1,7 +1,0 @@
--- Pages stand before the marks.
-use Rattle.std.proofs.Common.{arith}
-use Rattle.heap_table.proofs.SharedWords.{pages_before_marks}
-use Rattle.heap_table.proofs.own_words.OwnWords.put_in_page.Goals as goal
-
-pub put-requires : goal.put-requires
-put-requires c = omega (arith, pages_before_marks c.args.self.now.space, c.requires)

@@ -1,0 +1,105 @@
+-- A heap with its layout words, made of a seat that was just opened.
+use Rattle.std.proofs.Common.{◌≡◌, ℕ, ◌+◌, ◌<◌, ◌≤◌, ◌⊎◌, Bool, true, false, List, length, Some, slice_get}
+use Rattle.std.proofs.Common.{sym, ◌∙◌, ap, subst, arith}
+use Rattle.std.specs.Prelude.{replicate}
+use Rattle.std.proofs.lemmas.List.{length-replicate, get_or-replicate}
+use Rattle.std.proofs.lemmas.Option.{slice_get-get_or}
+use Rattle.tagged_word.specs.Shapes.{shapes_most}
+use Rattle.page_space.specs.Extents.{Space, eden_start, layouts_start, marks_start}
+use Rattle.page_space.proofs.Starts.{marks_start_is}
+use Rattle.free_runs.specs.FreeRuns.{whole_rows}
+use Rattle.nursery.specs.Young.{new_young}
+use Rattle.remembered_set.specs.Recorded.{Recorded}
+use Rattle.object_graph.specs.Paths.{empty_paths}
+use Rattle.heap_model.specs.Types.{Path}
+use Rattle.heap_table.specs.Seats.{Seat as TableSeat, IsFresh}
+use Rattle.write_barrier.specs.declared.main_side.Main.TheInside.{Inside}
+use Rattle.write_barrier.specs.Layouts.{AreLayoutsBelow, HasBoth, HasBothBelow, PutsLayouts}
+use Rattle.write_barrier.specs.Model.{mutator_of, IsTold}
+use Rattle.write_barrier.specs.MutatorState.{none_recorded}
+use Rattle.write_barrier.specs.Opening.{IsLaid}
+use Rattle.write_barrier.specs.Seats.{Seat, RestStays, fresh, told_of}
+use Rattle.write_barrier.proofs.PutLayouts.{none_below}
+
+-- so many words of 0
+abbrev zeros : ℕ → List ℕ
+zeros count = replicate count 0
+
+-- each of them is 0
+zero_there : (count a : ℕ) → a < count → slice_get (zeros count) a ≡ Some 0
+zero_there count a below =
+    slice_get-get_or (zeros count) a 0 (omega (arith, length-replicate {A = ℕ} count 0))
+    ∙ ap (λ word. Some word) (get_or-replicate count a 0 0 below)
+
+-- among words of 0 the layout words are still to be put
+zeros_below : (count from : ℕ) (paths : List Path) → from + shapes_most ≤ count
+    → AreLayoutsBelow (zeros count) from paths 1
+zeros_below count from paths within =
+    none_below (zeros count) from paths (λ shape few. zero_there count (from + shape) (omega arith))
+
+-- so they are in a seat that was just opened
+pub fresh_below : (space : Space) (shared : Bool) (seat : TableSeat) (paths : List Path) → IsFresh space shared seat
+    → HasBothBelow seat paths 1
+fresh_below space false seat paths is =
+    subst (λ (one : TableSeat). HasBothBelow one paths 1) (sym is) (record {
+      own = zeros_below (marks_start space) (layouts_start space) paths (omega (arith, marks_start_is space));
+      read = tt;
+    })
+fresh_below space true seat paths is =
+    subst (λ (one : TableSeat). HasBothBelow one paths 1) (sym is.1) (record {
+      own = zeros_below (marks_start space) (layouts_start space) paths (omega (arith, marks_start_is space));
+      read = zeros_below shapes_most 0 paths (omega arith);
+    })
+
+-- what is told of it
+told_fresh : (space : Space) (shared : Bool) (seat : TableSeat) → IsFresh space shared seat
+    → told_of seat ≡ fresh space shared
+told_fresh space false seat is = ap told_of is
+told_fresh space true seat is = ap told_of is.1
+
+-- the parts of a heap that was just opened, in which the layout words were put
+pub record AreParts (space : Space) (shared : Bool) (old : TableSeat) (main : Inside) : Type 0 where
+  pub fresh_is : IsFresh space shared old
+  pub puts : PutsLayouts old main.seat
+  pub both : HasBoth main.seat main.shapes
+  pub paths : main.shapes ≡ empty_paths
+  pub young : main.nursery ≡ new_young space
+  pub free : main.free ≡ whole_rows space.sizes.pages
+  pub recorded : main.remembered ≡ none_recorded space
+
+-- nothing is there but the layout words
+pub is_laid : (space : Space) (shared : Bool) (old : TableSeat) (main : Inside) → AreParts space shared old main
+    → IsLaid (mutator_of main) space
+is_laid space shared old main parts =
+    let told = told_fresh space shared old parts.fresh_is in
+    let puts = parts.puts in
+    let now : Seat = told_of main.seat in
+    let still : shared ≡ now.shared = sym (puts.rest.shared ∙ ap (λ (seat : Seat). seat.shared) told) in
+    let same : space ≡ old.space = sym (ap (λ (seat : Seat). seat.space) told) in
+    record {
+      changes = record {
+        seat = subst (λ (one : Bool). RestStays (fresh space one) now) still
+            (subst (λ (seat : Seat). RestStays seat now) told puts.rest);
+        paths = parts.paths;
+        young = parts.young;
+        free = parts.free;
+        recorded = parts.recorded;
+        count = puts.rest.count ∙ ap (λ (seat : Seat). length seat.table) told;
+        beside = λ a out.
+            puts.beside a
+            (subst (λ (s : Space). (a < layouts_start s) ⊎ (marks_start s ≤ a)) same out)
+            ∙ ap (λ (seat : Seat). slice_get seat.table a) told;
+      };
+      layouts = parts.both.own;
+    }
+
+-- what the mutator keeps is so
+pub is_told : (space : Space) (shared : Bool) (old : TableSeat) (main : Inside) → AreParts space shared old main
+    → IsTold main
+is_told space shared old main parts =
+    let told = told_fresh space shared old parts.fresh_is in
+    let same : main.seat.space ≡ space = parts.puts.rest.space ∙ ap (λ (seat : Seat). seat.space) told in
+    record {
+      bound = ap (λ (recorded : Recorded). recorded.bound) parts.recorded ∙ sym (ap eden_start same);
+      layouts = parts.both.read;
+    }
