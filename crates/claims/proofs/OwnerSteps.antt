@@ -22,12 +22,15 @@ use Rattle.claims.proofs.KeptRule.{none_in, owner_rule}
 -- with no seat out
 module _ {S : Type 0} (places : ℕ) (s : State S View) (owner : OwnerView) (k : KeptBy places s owner)
     (home : owner.out ≡ 0) where
+  -- no other view is of a seat that is out
   none_out : count_by is_out k.others ≡ 0
   none_out = sym k.out ∙ home
 
+  -- so no seat has made a claim
   none_made : flat_map made_in k.others ≡ []
   none_made = none_have owner.round owner.start made_in refl k.others k.seats none_out
 
+  -- nor seen one
   none_seen : flat_map seen_in k.others ≡ []
   none_seen = none_have owner.round owner.start seen_in refl k.others k.seats none_out
 

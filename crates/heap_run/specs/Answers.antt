@@ -139,7 +139,7 @@ pub record IsKeptHeapOf (sizes : Sizes) (script : ScriptText) (kept : Kept) : Ty
   pub free : AreFreeRuns last.heap last.rows
   pub image : IsImageOf last.heap (image_heap kept.image)
 
--- A run that is checked came to these counts of its last heap: an image of that was judged whole, and has these counts.
+-- A run that is checked came to these counts of its last heap: an image of that is whole, and has these counts.
 abbrev pub IsChecked : Bool → Heap → How → Type 0
 IsChecked true heap (how.Counted counts) = (image : Heap) × IsImageOf heap image × IsCounted image counts
 IsChecked checks heap came = Unit {0}

@@ -21,6 +21,7 @@ round_more from count =
     let none_before : 0 + count ≡ count = omega arith in
     map-range_with_len_more (λ k. (from + k) % 64) 0 count count none_before
 
+-- the place of each look of a round
 round_get : (from count k d : ℕ) → k < count → get_or (round from count) k d ≡ (from + k) % 64
 round_get from count k d low =
     let none_before : 0 + k ≡ k = omega arith in
@@ -44,6 +45,7 @@ full_round from place low =
 other_place : (from count k : ℕ) → k < count → count < 64 → (from + k) % 64 ≡ (from + count) % 64 → ⊥
 other_place from count k low few same = omega (arith, low, few, same)
 
+-- so the next place is none of a round that is not full
 pub next_is_new : (from count : ℕ) → count < 64 → Contains (round from count) ((from + count) % 64) → ⊥
 next_is_new from count few has =
     let low : has.0 < count =

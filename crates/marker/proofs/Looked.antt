@@ -21,6 +21,7 @@ pub looks_join : (places : List ℕ) (xs ys : List Note) → looks_from places (
 looks_join places [] ys = refl
 looks_join places (x ∷ xs) ys = looks_join (look_after places x) xs ys
 
+-- the places that were looked at, of two lists of notes
 pub looked_join : (places : List ℕ) (xs ys : List Note)
     → looked_from places (xs ++ ys) ≡ looked_from (looked_from places xs) ys
 looked_join places [] ys = refl
@@ -29,6 +30,7 @@ looked_join places (Coloured at found ∷ xs) ys = looked_join places xs ys
 looked_join places (Gave place found ∷ xs) ys = looked_join places xs ys
 looked_join places (Took place found ∷ xs) ys = looked_join (places ++ place ∷ []) xs ys
 
+-- in two lists no place is looked at twice without a visit between, where it is so in each, one after the other
 pub once_join : (places : List ℕ) (xs ys : List Note) → LooksOnce places xs → LooksOnce (looked_from places xs) ys
     → LooksOnce places (xs ++ ys)
 once_join places [] ys first then = then

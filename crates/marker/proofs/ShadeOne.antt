@@ -30,6 +30,7 @@ view_by : (old : ℕ) (view : HelperView) (at found : ℕ) (P : HelperView → T
 view_by old view at found P true e visits passes = visits e
 view_by old view at found P false e visits passes = passes e
 
+-- what holds in both cases holds of the view after a shade
 view_cases : (old : ℕ) (view : HelperView) (at found : ℕ) (P : HelperView → Type 0)
     → (is_in view.visit at ≡ true → P (helper_learns old view (event.ShadeHelper 0 at) found))
     → (is_in view.visit at ≡ false → P view) → P (shaded_view old view at found)
@@ -52,6 +53,7 @@ coloured log at found = record {
 joined_white : (grey : List ℕ) (at found : ℕ) → found ≡ white → joined_if_white grey found at ≡ joined grey at
 joined_white grey at found is = ap (λ (b : Bool). if b then joined grey at else grey) (eq-eqb found 0 is)
 
+-- a cell that was found grey or black joins no list
 joined_other : (grey : List ℕ) (at found : ℕ) → found ≢ white → joined_if_white grey found at ≡ grey
 joined_other grey at found other = ap (λ (b : Bool). if b then joined grey at else grey) (not_equal found 0 other)
 

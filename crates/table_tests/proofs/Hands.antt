@@ -40,6 +40,7 @@ taken_idle before after place word took idle =
     subst (λ (h : Helping). IsIdle h) (sym took)
     (record { page = idle.page; may = record { snap = idle.may.snap; visit = idle.may.visit } })
 
+-- the same where a cell was given
 pub given_idle : (before after : Helping) (place at word : ℕ)
     → after ≡ record before { lent = learned before.lent (event.Give 0 place at) word } → IsIdle before → IsIdle after
 given_idle before after place at word gave idle =
@@ -76,6 +77,7 @@ shaded_out old found view is =
     (ap (λ (all : List ℕ). is_in all 3) is)
     ∙ ap (λ (all : List ℕ). left all 3) is
 
+-- a shade leaves the snap, whether the cell was to be visited or not
 pub shaded_snap : (old found : ℕ) (view : HelperView) (b : Bool)
     → (if b then helper_learns old view (event.ShadeHelper 0 3) found else view).snap ≡ view.snap
 shaded_snap old found view true = refl
