@@ -25,7 +25,7 @@ fn shift_store(main: &mut Main, list: u32, count: u32, gone: u32)
     let start = store.at + gone;
     // The store may not be read by marking while it moves.
     main.blacken(store.at);
-    main.made(start);
+    main.publish(start);
     main.set_header(start, STORE);
     main.write_slot(start, LENGTH, (store.capacity - gone) as u64);
     main.store(list, STORE_SLOT, Word::reference(start));

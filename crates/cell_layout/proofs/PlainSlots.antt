@@ -65,7 +65,8 @@ past_raw layout from next other past raw among at =
     let used : other < plain_head + layout.used = omega (arith, slot.used, slot.behind) in
     ⊎_elim
     (λ less.
-    absurd (false≢true (sym slot.tagged ∙ raw.raw (other - plain_head) (omega arith) (omega (arith, less, slot.behind)))))
+    absurd (false≢true (sym slot.tagged ∙ raw.raw (other - plain_head) (omega arith)
+    (omega (arith, less, slot.behind)))))
     (λ not_less. (omega arith, used))
     (cases_lt other (plain_head + next))
 

@@ -8,7 +8,8 @@
 //! are pushed.
 #![tactic(auto)]
 
-ghost use Rattle.std.specs.Prelude.{◌≡◌, ◌≢◌, ℕ, ◌-◌, ◌<◌, ◌≤◌, ◌↔◌, [], if◌then◌else◌, false, length, slice_get, Some};
+ghost use Rattle.std.specs.Prelude.{◌≡◌, ◌≢◌, ℕ, ◌+◌, ◌-◌, ◌<◌, ◌≤◌, ◌↔◌, ◌⊎◌, [], if◌then◌else◌, false};
+ghost use Rattle.std.specs.Prelude.{length, slice_get, Some};
 ghost use Rattle.std.specs.Prelude.{slice_index_or, Contains, IsTrue, IfOk, IfNone, MatchOption};
 ghost use Rattle.std.specs.Vec.{vec_capacity};
 ghost use Rattle.cell_list.specs.Listing.{IsListing, pushed};
@@ -139,6 +140,18 @@ impl CellList {
         set_flag(&mut self.listed, at, self.bound);
         self.addresses.push_reserved(at);
         true
+    }
+
+    /// Lists the address, where it is not listed so far.
+    #[inline(always)]
+    pub fn add(&mut self, at: u32)
+        requires { at < self.old.bound }
+        ensures bound { self.new.bound ≡ self.old.bound }
+        ensures members { (other : ℕ) → Contains self.new.addresses other ↔
+            (Contains self.old.addresses other ⊎ (other ≡ at)) }
+        ensures few { length self.new.addresses ≤ length self.old.addresses + 1 }
+    {
+        self.push(at);
     }
 
     /// Exchanges the address at a place with the last one. Those before the place stay.

@@ -92,3 +92,12 @@ module _ (has : View → List Claim) where
   more_nothing views w nothing =
       flat_map-append has views (w ∷ [])
       ∙ (ap (λ (l : List Claim). flat_map has views ++ (l ++ [])) nothing ∙ append-nil (flat_map has views))
+
+  -- what all have with one view more, all had before, or that one has
+  pub last_or_before : (views : List View) (w : View) (claim : Claim) → Contains (flat_map has (views ++ w ∷ [])) claim
+      → Contains (flat_map has views) claim ⊎ Contains (has w) claim
+  last_or_before views w claim there =
+      ⊎_elim (λ h. inl h)
+      (λ h. inr (subst (λ (claims : List Claim). Contains claims claim) (append-nil (has w)) h))
+      (Contains-append_cases (flat_map has views) (has w ++ []) claim
+      (subst (λ (claims : List Claim). Contains claims claim) (flat_map-append has views (w ∷ [])) there))

@@ -16,9 +16,25 @@ use Rattle.claims.specs.Claimed.{times, together}
 use Rattle.claims.specs.Changes.{lending_view, lent_view, taking_view}
 use Rattle.claims.specs.Keeping.{made_in, seen_in, all_made, all_seen, KeptBy, KeepsRule}
 use Rattle.claims.proofs.Counts.{times-append, together-push}
-use Rattle.claims.proofs.AllViews.{in_all, after_set, split_set, times_set, more_nothing}
+use Rattle.claims.proofs.AllViews.{in_all, after_set, split_set, times_set, more_nothing, last_or_before}
 use Rattle.claims.proofs.RoundSeats.{one_out, out_set, seats_set, seats_more}
 use Rattle.claims.proofs.KeptRule.{none_in, owner_rule, carried}
+
+-- what a seat that is lent has seen was made: the owner had seen it, or a seat made it that was taken back
+lent_seen : {S : Type 0} (places : ℕ) (owner : OwnerView) (s : State S View) (k : KeptBy places s owner) (claim : Claim)
+    → Contains (owner.seen ++ flat_map seen_in (k.others ++ lent_view (Owning owner) ∷ [])) claim
+    → Contains (all_made (Owning owner ∷ k.others)) claim
+lent_seen places owner s k claim has =
+    let seat : View = lent_view (Owning owner) in
+    let of_owner : Contains owner.seen claim → Contains (all_made (Owning owner ∷ k.others)) claim =
+    λ h. k.seen claim (Contains-append_left owner.seen (flat_map seen_in k.others) claim h) in
+    ⊎_elim of_owner
+    (λ h. ⊎_elim (λ t. k.seen claim (Contains-append_right owner.seen (flat_map seen_in k.others) claim t))
+    (λ t. ⊎_elim of_owner
+    (λ u. Contains-append_left (together owner.made) (flat_map made_in k.others) claim u)
+    (Contains-append_cases owner.seen (together owner.made) claim t))
+    (last_or_before seen_in k.others seat claim h))
+    (Contains-append_cases owner.seen (flat_map seen_in (k.others ++ seat ∷ [])) claim has)
 
 -- a seat is lent
 lend_allowed : {S : Type 0} (places : ℕ) (owner : OwnerView)
@@ -29,9 +45,7 @@ lend_allowed {S} places owner s kept at =
     let seat : View = lent_view (Owning owner) in
     let others : List View = k.others ++ seat ∷ [] in
     let made : all_made (Owning now ∷ others) ≡ all_made (Owning owner ∷ k.others) =
-    ap (λ (claims : List Claim). together owner.made ++ claims) (more_nothing made_in k.others seat refl) in
-    let seen : all_seen (Owning now ∷ others) ≡ all_seen (Owning owner ∷ k.others) =
-    ap (λ (claims : List Claim). owner.seen ++ claims) (more_nothing seen_in k.others seat refl) in (
+    ap (λ (claims : List Claim). together owner.made ++ claims) (more_nothing made_in k.others seat refl) in (
       now,
       carried places s owner k (owner.out + 1) owner.made owner.seen others (set s.views 0 (Owning now) ++ seat ∷ [])
           (ap (λ vs. set vs 0 (Owning now) ++ seat ∷ []) k.views)
@@ -42,7 +56,7 @@ lend_allowed {S} places owner s kept at =
             (λ has. subst (λ (claims : List Claim). Contains claims claim) made has),
             (λ has. subst (λ (claims : List Claim). Contains claims claim) (sym made) has),
           ))
-          (λ claim has. k.seen claim (subst (λ (claims : List Claim). Contains claims claim) seen has)),
+          (λ claim has. lent_seen places owner s k claim has),
     )
 
 -- so the owner, which knows itself, may lend

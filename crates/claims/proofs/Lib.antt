@@ -1,5 +1,5 @@
 mod HalfWords
-mod Counts
+pub mod Counts
 mod AllViews
 mod RoundSeats
 mod KeptRule

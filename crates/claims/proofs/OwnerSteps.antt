@@ -65,14 +65,17 @@ module _ {S : Type 0} (places : ℕ) (s : State S View) (owner : OwnerView) (k :
   made_home =
       ap (λ (claims : List Claim). together owner.made ++ claims) none_made ∙ append-nil (together owner.made)
 
+  -- with no seat out, no place stands twice in what the owner took back
   pub once_home : AreApart (together owner.made)
   once_home place = subst (λ (claims : List Claim). times claims place ≤ 1) made_home (k.once place)
 
+  -- and each claim that was seen is in it
   pub seen_home : (claim : Claim) → Contains owner.seen claim → Contains (together owner.made) claim
   seen_home claim has =
       subst (λ (claims : List Claim). Contains claims claim) made_home
       (k.seen claim (Contains-append_left owner.seen (flat_map seen_in k.others) claim has))
 
+-- the rule allows that a round begins
 begin_allowed : {S : Type 0} (places slots i : ℕ) (owner : OwnerView) → owner.out ≡ 0
     → Allows (KeepsRule {S = S} places) slots 0 (Owning owner, []) i (λ m. m)
     (tells_begun (step slots i 0 0 none) (Owning owner, []))
@@ -88,6 +91,7 @@ begin_allowed {S} places slots i owner home s kept deep at bound =
       (s.words, refl),
     )
 
+-- and that one ends
 end_allowed : {S : Type 0} (places slots i : ℕ) (owner : OwnerView) → owner.out ≡ 0
     → Allows (KeepsRule {S = S} places) slots 0 (Owning owner, []) i (λ m. m)
     (tells_ended (step slots i 0 0 none) (Owning owner, []))
@@ -107,8 +111,10 @@ end_allowed {S} places slots i owner home s kept deep at bound =
 -- so the owner, which knows itself, may begin a round and end it
 module _ {S : Type 0} (places slots id i : ℕ) (me : Me S View) (owner : OwnerView) (is_id : id ≡ 0)
     (is_me : me ≡ (Owning owner, [])) (home : owner.out ≡ 0) where
+  -- the owner may begin a round
   pub begin_may : Allows (KeepsRule {S = S} places) slots id me i (λ m. m) (tells_begun (step slots i 0 0 none) me)
   begin_may = rw (is_id, is_me) (begin_allowed {S = S} places slots i owner home)
 
+  -- and end one
   pub end_may : Allows (KeepsRule {S = S} places) slots id me i (λ m. m) (tells_ended (step slots i 0 0 none) me)
   end_may = rw (is_id, is_me) (end_allowed {S = S} places slots i owner home)

@@ -5,6 +5,7 @@ use Rattle.claims.specs.declared.view.OwnerView.{OwnerView}
 use Rattle.claims.specs.declared.view.SeatView.{SeatView}
 use Rattle.claims.specs.declared.view.View.{View}
 use Rattle.claims.specs.declared.view.View.TheVariants.{Owning, Lent, Gone}
+use Rattle.claims.specs.Claimed.{together}
 
 -- what the owner knows of a table that was just opened: all words are 0, and its first round begins
 abbrev pub beginning : ℕ → OwnerView
@@ -34,13 +35,19 @@ making seat claim = record seat { made = seat.made ++ claim ∷ []; seen = seat.
 abbrev pub begun : OwnerView → List ℕ → OwnerView
 begun owner words = record owner { round = owner.round + 1; start = words; made = []; seen = [] }
 
--- the view of the owner after a lend, that of the lent seat, and that of the owner after a return
+-- The view of the owner after a lend, that of the lent seat, and that of the owner after a return. A lent seat has seen
+-- what the owner knows of: what was claimed by the seats that it took back, and what these saw.
 abbrev pub lending_view : View → View
 lending_view view = Owning (record (owner_of view) { out = (owner_of view).out + 1 })
 
 abbrev pub lent_view : View → View
 lent_view view =
-    Lent (record { round = (owner_of view).round; start = (owner_of view).start; made = []; seen = [] })
+    Lent (record {
+      round = (owner_of view).round;
+      start = (owner_of view).start;
+      made = [];
+      seen = (owner_of view).seen ++ together (owner_of view).made;
+    })
 
 abbrev pub taking_view : View → View → View
 taking_view view other = Owning (record (owner_of view) {

@@ -2,7 +2,7 @@
 use Rattle.std.specs.Prelude.{ℕ, ◌+◌, ◌-◌, List, [], ◌∷◌, ◌++◌, Option, Some, None, Result, Ok, Err}
 use Rattle.atomic_table.specs.Seated.{TableId}
 use Rattle.claims.specs.declared.view.Claim.{Claim}
-use Rattle.claims.specs.Claimed.{claim_of}
+use Rattle.claims.specs.Claimed.{claim_of, together}
 
 -- a table of places: which one it is, and how many it has
 pub record PlacesSide : Type 0 where
@@ -18,7 +18,8 @@ pub record OwnerSide : Type 0 where
   pub made : List (List Claim)
   pub seen : List Claim
 
--- a seat that was lent: its table, its round, what it claimed, in order, and the claims that it saw, its own among them
+-- a seat that was lent: its table, its round, what it claimed, in order, and the claims that it saw, its own among
+-- them, or that the owner knew of when it lent the seat
 pub record SeatSide : Type 0 where
   pub table : TableId
   pub round : ℕ
@@ -33,9 +34,15 @@ next_round owner = record owner { round = owner.round + 1; made = []; seen = [] 
 abbrev pub lending : OwnerSide → OwnerSide
 lending owner = record owner { out = owner.out + 1 }
 
--- the seat that was lent
+-- the seat that was lent: it has claimed nothing, and has seen what was claimed, and what was seen, by the seats that
+-- were taken back before
 abbrev pub lent_by : OwnerSide → SeatSide
-lent_by owner = record { table = owner.table; round = owner.round; made = []; seen = [] }
+lent_by owner = record {
+  table = owner.table;
+  round = owner.round;
+  made = [];
+  seen = owner.seen ++ together owner.made;
+}
 
 -- a seat was taken back
 abbrev pub taking : OwnerSide → SeatSide → OwnerSide

@@ -2,8 +2,9 @@
 //!
 //! Model: `PlacesSide`, `OwnerSide` and `SeatSide` of `specs/Sides.antt`: the table, what its owner knows of the round,
 //! and what a seat that it lent has claimed and seen.
-//! Invariant: `KeepsRule` of `specs/Keeping.antt` is the rule of the table. No place stands twice in all that was claimed
-//! in the round, a claim was made exactly where its place's word says so, and each claim that was seen was made.
+//! Invariant: `KeepsRule` of `specs/Keeping.antt` is the rule of the table. No place stands twice in all that was
+//! claimed in the round, a claim was made exactly where its place's word says so, and each claim that was seen was
+//! made.
 #![tactic(auto)]
 
 mod owner;

@@ -53,7 +53,8 @@ impl Owner {
         true
     }
 
-    /// Lends a seat that has claimed nothing.
+    /// Lends a seat that has claimed nothing. It knows of all that was claimed or seen by the seats that were taken
+    /// back.
     pub fn lend(&mut self, claims: &Claims) -> ClaimSeat
         requires own { self.old.table ≡ claims.now.table }
         requires few { self.old.out < SEATS_MOST }

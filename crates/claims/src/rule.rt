@@ -21,8 +21,8 @@ impl TableRule<(), View, u32> for Ruled {
     ghost first = { λ places. Owning (beginning places) };
 }
 
-/// The places, a word for each, which threads share by `&`. There is one word more, so that a table of no places has one
-/// at which the owner steps.
+/// The places, a word for each, which threads share by `&`. There is one word more, so that a table of no places has
+/// one at which the owner steps.
 #[derive(Drop)]
 pub struct Claims {
     pub(crate) table: Table<(), View, u32, Ruled, Global>,

@@ -30,7 +30,8 @@ impl Model for ClaimSeat {
 }
 
 impl ClaimSeat {
-    /// What a place is claimed for, where it is claimed. Within a round that never changes.
+    /// What a place is claimed for, where it is claimed. Within a round that never changes. Where the result is none,
+    /// no claim stood there that the seat had seen, or that a seat made which was taken back before this one was lent.
     #[inline(always)]
     pub fn look(&mut self, claims: &Claims, place: u32) -> Option<u32>
         requires own { self.old.table ≡ claims.now.table }

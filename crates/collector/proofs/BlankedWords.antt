@@ -5,7 +5,8 @@ use Rattle.std.specs.Prelude.{replicate}
 use Rattle.std.proofs.lemmas.Bool.{cases_lt}
 use Rattle.std.proofs.lemmas.List.{length-replicate}
 use Rattle.page_space.specs.declared.region.Region.TheVariants.{Eden}
-use Rattle.page_space.specs.Extents.{Space, Stretch, StartsAt, CellsEndAt, half_of, eden_start, roots_start, marks_start}
+use Rattle.page_space.specs.Extents.{Space, Stretch, StartsAt, CellsEndAt, half_of, eden_start, roots_start}
+use Rattle.page_space.specs.Extents.{marks_start}
 use Rattle.page_space.specs.RegionLaws.{IsSpace}
 use Rattle.page_space.proofs.Addresses.{start_of_is}
 use Rattle.page_space.proofs.CellEnds.{before_end, end_before_roots}
@@ -36,7 +37,8 @@ stretch_blanked words from to ordered within =
     let begins : from ≤ length words = omega (arith, ordered, within) in
     record {
       count = length-with_range words zeros from (omega (arith, long, ordered, within));
-      there = λ at above below. with_range_filled words from (to - from) 0 at begins above (omega (arith, ordered, below));
+      there = λ at above below. with_range_filled words from (to - from) 0 at begins above
+          (omega (arith, ordered, below));
       others = λ at outside. elim outside [
         | inl before ↦ with_range_before words zeros from at begins before
         | inr behind ↦ with_range_behind words zeros from at begins (omega (arith, long, ordered, behind))

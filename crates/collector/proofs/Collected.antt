@@ -4,12 +4,13 @@ use Rattle.object_graph.specs.Graphs.{Graph}
 use Rattle.heap_model.specs.Heaps.{Heap}
 use Rattle.live_cells.specs.Exact.{KeepsNoOther}
 use Rattle.live_cells.specs.Fitting.{DeadIsFree}
-use Rattle.live_cells.specs.Live.{AreLive}
+use Rattle.live_cells.specs.Live.{IsLive, IsRootTarget, AreLive}
 use Rattle.live_cells.proofs.DeadIsFree.{swept_dead_is_free}
 use Rattle.live_cells.proofs.KeptOnly.{swept_keeps_no_other}
 use Rattle.write_barrier.specs.MutatorState.{Mutator, heap_of}
 use Rattle.sweeper.specs.Swept.{IsOfMarked, place_if_marked}
-use Rattle.collector.specs.SweptRuns.{IsLiveWord, AreSwept}
+use Rattle.collector.specs.Images.{IsOfSomeCell}
+use Rattle.collector.specs.SweptRuns.{AreSwept}
 use Rattle.collector.specs.MarkSwept.{LiveCellsStay, MarkSweeps}
 use Rattle.collector.proofs.ClearedHeap.{still_exact, still_shown}
 use Rattle.collector.proofs.SweptObjects.{marked_cells_stay, marked_stay}
@@ -40,20 +41,21 @@ module _ {old bare cleared new : Mutator} {graph : Graph} {given maps marked : L
       })))
 
   -- the words of marked cells are those of live ones
-  of_live : (at : ℕ) → IsOfMarked (heap_of bare) marked at ↔ IsLiveWord (heap_of bare) at
+  of_live : (at : ℕ) → IsOfMarked (heap_of bare) marked at
+      ↔ IsOfSomeCell (heap_of bare) (λ cell. IsLive (heap_of bare) (IsRootTarget (heap_of bare)) cell.at) at
   of_live at = (
     λ is. record {
       cell = is.cell;
       words = is.words;
       has = is.has;
-      live = (exact is.cell.at).0 is.among;
+      holds = (exact is.cell.at).0 is.among;
       of_cell = record { from = is.from; below = is.below };
     },
     λ is. record {
       cell = is.cell;
       words = is.words;
       has = is.has;
-      among = (exact is.cell.at).1 is.live;
+      among = (exact is.cell.at).1 is.holds;
       from = is.of_cell.from;
       below = is.of_cell.below;
     },

@@ -28,8 +28,8 @@ use Rattle.collector.proofs.RowAddresses.{not_behind}
 -- segments is 0, or the heap's.
 pub record KeepCells (heap : Heap) (words : List ℕ) : Type 0 where
   pub count : length words ≡ marks_start heap.space
-  pub cells : (at : ℕ) → IsOfSomeCell heap at → slice_get words at ≡ slice_get heap.words at
-  pub rest : (at : ℕ) → at < roots_start heap.space → (IsOfSomeCell heap at → ⊥)
+  pub cells : (at : ℕ) → IsOfSomeCell heap (λ cell. Unit {0}) at → slice_get words at ≡ slice_get heap.words at
+  pub rest : (at : ℕ) → at < roots_start heap.space → (IsOfSomeCell heap (λ cell. Unit {0}) at → ⊥)
       → (slice_get words at ≡ Some 0) ⊎ (slice_get words at ≡ slice_get heap.words at)
   pub roots : (at : ℕ) → roots_start heap.space ≤ at → at < layouts_start heap.space
       → slice_get words at ≡ slice_get heap.words at
@@ -61,6 +61,7 @@ cell_word {cell = cell} {others} at copying has of_cell =
       words = others;
       has = has;
       of_cell = record { from = of_cell.from; below = of_cell.below };
+      holds = tt;
     }
 
 -- so the cell has the same words

@@ -25,4 +25,7 @@ pub mod FilledHeaps
 mod BornFronts
 pub mod BornHeaps
 pub mod SweptBorn
+pub mod LastMarkings
+pub mod PromotedHomes
+pub mod StartsStay
 pub mod RowSteps

@@ -18,7 +18,7 @@ use Rattle.collector.specs.Images.{IsOfSomeCell}
 
 -- each address of a used row is of a cell
 pub of_row : (heap : Heap) (row : Row) (at : ℕ) → Contains (cell_extents heap.space) row.extent → IsUsedRow heap row
-    → row.extent.start ≤ at → at < row.end → IsOfSomeCell heap at
+    → row.extent.start ≤ at → at < row.end → IsOfSomeCell heap (λ cell. Unit {0}) at
 of_row heap row at among used from below =
     let one = covered heap.space heap.words row.extent.start row.end row.cells at used.stands from below in
     record {
@@ -26,11 +26,12 @@ of_row heap row at among used from below =
       words = words_of_cell heap one.cell;
       has = record { row = row; in_region = among; used = used; in_row = one.among; words_are = refl };
       of_cell = record { from = one.of_cell.from; below = one.of_cell.below };
+      holds = tt;
     }
 
 -- no address of a region behind its used row is
 pub not_behind : (heap : Heap) (row : Row) (at : ℕ) → HasRows heap → Contains (cell_extents heap.space) row.extent
-    → IsUsedRow heap row → row.end ≤ at → at < row.extent.start + row.extent.words → IsOfSomeCell heap at → ⊥
+    → IsUsedRow heap row → row.end ≤ at → at < row.extent.start + row.extent.words → IsOfSomeCell heap (λ cell. Unit {0}) at → ⊥
 not_behind heap row at rows among used past below of_some =
     let has = of_some.has in
     let own = has.row in
@@ -45,7 +46,7 @@ not_behind heap row at rows among used past below of_some =
     omega (arith, within.1, (one_used_row heap own row has.used used same).end, past, of_cell.below)
 
 -- each address of a page is
-pub of_page : (heap : Heap) (at : ℕ) → HasRows heap → at < eden_start heap.space → IsOfSomeCell heap at
+pub of_page : (heap : Heap) (at : ℕ) → HasRows heap → at < eden_start heap.space → IsOfSomeCell heap (λ cell. Unit {0}) at
 of_page heap at rows below =
     let page : ℕ = at / page_words in
     let own = row_of (extent_of heap.space (Page page)) rows.are (page_among heap.space page (omega arith)) in

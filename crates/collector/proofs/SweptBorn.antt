@@ -13,23 +13,26 @@ use Rattle.heap_moves.proofs.MovedWords.{contains_or_not}
 use Rattle.live_cells.specs.Exact.{IsWordOf}
 use Rattle.write_barrier.specs.MutatorState.{Mutator, heap_of}
 use Rattle.sweeper.specs.Swept.{IsCellWord}
-use Rattle.collector.specs.Born.{WasUseless, MayStand}
+use Rattle.live_cells.specs.Live.{IsLive, IsRootTarget}
+use Rattle.collector.specs.Born.{MayStand}
+use Rattle.collector.specs.Images.{IsOfSomeCell}
 use Rattle.collector.specs.LastSweep.{SweptIsBorn}
 use Rattle.collector.specs.MarkSwept.{WasMarked, SweepsMarked}
+use Rattle.collector.proofs.SweptMarked.{with_marked_word}
 
 module _ {old new : Mutator} {marked : List ℕ} {graph : Graph} (sweeps : SweepsMarked old new marked graph) where
-  -- where a free cell has a word of a marked cell, it stood there
-  free_stood : {cell : Cell} {words : List ℕ} {at : ℕ} → HasCell (heap_of new) cell words
-      → IsTrue (is_free_kind cell.layout.kind) → IsWordOf cell at → (was : IsCellWord (heap_of old) at)
-      → Contains marked was.cell.at → WasMarked (heap_of old) marked cell
-  free_stood {cell} {words} {at} has free word was among = sweeps.unused cell words at has free word (record {
-    cell = was.cell;
-    words = was.words;
-    has = was.has;
-    among = among;
-    from = was.from;
-    below = was.below;
-  })
+  -- where a cell has a word of a marked cell, it stood there
+  cell_stood : {cell : Cell} {words : List ℕ} {at : ℕ} → HasCell (heap_of new) cell words → IsWordOf cell at
+      → (was : IsCellWord (heap_of old) at) → Contains marked was.cell.at → WasMarked (heap_of old) marked cell
+  cell_stood {at = at} has word was among =
+      with_marked_word sweeps.cells sweeps.shows.shows.whole.rows at has word (record {
+        cell = was.cell;
+        words = was.words;
+        has = was.has;
+        among = among;
+        from = was.from;
+        below = was.below;
+      })
 
   -- a word of a cell was one of a cell
   was_of_cell : {cell : Cell} {words : List ℕ} {at : ℕ} → HasCell (heap_of new) cell words → IsWordOf cell at
@@ -39,20 +42,21 @@ module _ {old new : Mutator} {marked : List ℕ} {graph : Graph} (sweeps : Sweep
 
   -- where that was not marked, it was not live
   was_useless : {at : ℕ} (was : IsCellWord (heap_of old) at) → (Contains marked was.cell.at → ⊥)
-      → WasUseless (heap_of old) at
+      → IsOfSomeCell (heap_of old) (λ cell. IsLive (heap_of old) (IsRootTarget (heap_of old)) cell.at → ⊥) at
   was_useless was out = record {
     cell = was.cell;
     words = was.words;
     has = was.has;
     of_cell = record { from = was.from; below = was.below };
-    dead = λ live. out (sweeps.live was.cell.at live);
+    holds = λ live. out (sweeps.live was.cell.at live);
   }
 
   -- a free cell stood there before, or its first words are of cells that were not live
   stood_or_freed : {cell : Cell} {words : List ℕ} → HasCell (heap_of new) cell words
       → IsTrue (is_free_kind cell.layout.kind) → (n : ℕ) → n ≤ cell.size
       → WasMarked (heap_of old) marked cell
-      ⊎ ((at : ℕ) → cell.at ≤ at → at < cell.at + n → WasUseless (heap_of old) at)
+      ⊎ ((at : ℕ) → cell.at ≤ at → at < cell.at + n
+      → IsOfSomeCell (heap_of old) (λ cell. IsLive (heap_of old) (IsRootTarget (heap_of old)) cell.at → ⊥) at)
   stood_or_freed {cell} has free zero within = inr (λ at from below. absurd (omega (arith, from, below)))
   stood_or_freed {cell} has free (suc n) within = elim (stood_or_freed has free n (omega (arith, within))) [
     | inl stood ↦ inl stood
@@ -60,12 +64,13 @@ module _ {old new : Mutator} {marked : List ℕ} {graph : Graph} (sweeps : Sweep
         let word : IsWordOf cell (cell.at + n) = record { from = omega arith; below = omega (arith, within) } in
         let was = was_of_cell has word in
         elim (contains_or_not marked was.cell.at) [
-          | inl among ↦ inl (free_stood has free word was among)
+          | inl among ↦ inl (cell_stood has word was among)
           | inr out ↦ inr (λ at from below. elim (cases_lt at (cell.at + n)) [
             | inl earlier ↦ freed at from earlier
             | inr last ↦
                 let same : cell.at + n ≡ at = omega (arith, last, below) in
-                subst (WasUseless (heap_of old)) same (was_useless was out)
+                subst
+                (IsOfSomeCell (heap_of old) (λ one. IsLive (heap_of old) (IsRootTarget (heap_of old)) one.at → ⊥)) same (was_useless was out)
           ])
         ]
   ]

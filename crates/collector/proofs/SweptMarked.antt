@@ -13,6 +13,7 @@ use Rattle.heap_model.specs.Types.{Cell, Run}
 use Rattle.heap_model.specs.Heaps.{Heap, HasCell, words_of_cell}
 use Rattle.heap_model.specs.Kinds.{Pair}
 use Rattle.heap_model.specs.Rooms.{RoomsAreNoFuller}
+use Rattle.heap_model.specs.Wholeness.{HasRows}
 use Rattle.heap_model.specs.Slots.{IsWeakCellAt}
 use Rattle.heap_model.specs.Showing.{Shows}
 use Rattle.heap_model.specs.Collectable.{IsCollectable}
@@ -53,6 +54,20 @@ pub bare_shows : {old bare : Mutator} {graph : Graph} → MainShows old graph �
     → Shows (heap_of bare) graph
 bare_shows {graph = graph} shown ungrants =
     subst (λ (heap : Heap). Shows heap graph) (sym (heap_stays ungrants)) shown.shows
+
+-- where marked cells stay, a cell that has a word of one of them is that cell
+pub with_marked_word : {old new : Heap} {marked : List ℕ} {cell : Cell} {words : List ℕ}
+    → MarkedCellsStay old new marked
+    → HasRows new → (at : ℕ) → HasCell new cell words → IsWordOf cell at → IsOfMarked old marked at
+    → WasMarked old marked cell
+with_marked_word {old} {marked = marked} stay rows at has word is =
+    let same = cells_apart at rows (stay is.cell is.words is.has is.among).1 has
+    (record { from = is.from; below = is.below }) (record { from = word.from; below = word.below }) in
+    record {
+      words = is.words;
+      had = subst (λ (one : Cell). HasCell old one is.words) same is.has;
+      among = subst (λ (one : Cell). Contains marked one.at) same is.among;
+    }
 
 -- where no word is granted, no free run begins in what is
 none_avoids : (rows : List (List Run)) → AvoidsFree no_run rows
@@ -155,26 +170,12 @@ module _ {old bare cleared new : Mutator} {graph : Graph} {given maps marked : L
         keys = steps.clears.cleared map left.after (map_is_listed map among there) left.are;
       }
 
-  -- a free cell that has a word of a marked cell is that cell
-  unused_were_marked : (cell : Cell) (words : List ℕ) (at : ℕ) → HasCell (heap_of new) cell words
-      → IsTrue (is_free_kind cell.layout.kind) → IsWordOf cell at → IsOfMarked (heap_of bare) marked at
-      → WasMarked (heap_of bare) marked cell
-  unused_were_marked cell words at has free word is =
-      let stood = marked_cells_stay after is.cell is.words is.has is.among in
-      let same : is.cell ≡ cell = cells_apart at shows.whole.rows stood.1 has
-      (record { from = is.from; below = is.below }) (record { from = word.from; below = word.below }) in
-      record {
-        words = is.words;
-        had = subst (λ (one : Cell). HasCell (heap_of bare) one is.words) same is.has;
-        among = subst (λ (one : Cell). Contains marked one.at) same is.among;
-      }
-
   -- so a free cell of a page has none
   free_is_unmarked : (cell : Cell) (words : List ℕ) (at : ℕ) → HasCell (heap_of new) cell words
       → IsTrue (is_free_kind cell.layout.kind) → cell.at < eden_start new.seat.space → IsWordOf cell at
       → IsOfMarked (heap_of bare) marked at → ⊥
   free_is_unmarked cell words at has free of_page word is =
-      let was = unused_were_marked cell words at has free word is in
+      let was = with_marked_word (marked_cells_stay after) shows.whole.rows at has word is in
       let space : new.seat.space ≡ bare.seat.space =
       steps.sweeps.seat.space ∙ steps.clears.takes.uses.beside.space in
       marked_is_used steps.is_marked was.had was.among
@@ -278,9 +279,6 @@ module _ {old bare cleared new : Mutator} {graph : Graph} {given maps marked : L
         → slice_get (heap_words new.seat) at ≡ slice_get heap.words at) same_heap words_are_kept;
     pairs = subst (λ (heap : Heap). (map : ℕ) (before : List Pair) → Contains marked map → HasPairsAt heap map before
         → LeavesMarkedPairs (heap_of new) map marked before) same_heap pairs_are_left;
-    unused = subst (λ (heap : Heap). (cell : Cell) (words : List ℕ) (at : ℕ) → HasCell (heap_of new) cell words
-        → IsTrue (is_free_kind cell.layout.kind) → IsWordOf cell at → IsOfMarked heap marked at
-        → WasMarked heap marked cell) same_heap unused_were_marked;
     of_cells = subst (λ (heap : Heap). (at : ℕ) → IsCellWord (heap_of new) at → IsCellWord heap at) same_heap
         cell_words_were;
     swept = subst (λ (heap : Heap). (at : ℕ) → at < eden_start heap.space

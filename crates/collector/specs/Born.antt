@@ -21,6 +21,7 @@ use Rattle.write_barrier.specs.MutatorState.{Mutator}
 use Rattle.scavenger.specs.Laws.{KeepsGraphs}
 use Rattle.scavenger.specs.Scavenged.{Scavenges}
 use Rattle.collector.specs.Collected.{LeavesExact, CollectsAll}
+use Rattle.collector.specs.Images.{IsOfSomeCell}
 
 -- What a cycle of marking began with: the heap after the `mark` that opened it, and the graph that this heap shows.
 pub record Opening : Type 0 where
@@ -41,13 +42,10 @@ begins_fully (BeginsCycle.collects_all mid scavenges keeps some collects) = true
 
 -- The word was dead when the cycle began: it was one of a cell that was not free, and that belonged to nothing that
 -- could be reached then.
-pub record WasDead (opening : Opening) (at : ℕ) : Type 0 where
-  pub cell : Cell
-  pub words : List ℕ
-  pub has : HasCell opening.heap cell words
-  pub of_cell : IsWordOf cell at
-  pub taken : is_free_kind cell.layout.kind ≡ false
-  pub lost : BelongsToReached opening.heap opening.graph cell.at → ⊥
+abbrev pub WasDead : Opening → ℕ → Type 0
+WasDead opening at =
+    IsOfSomeCell opening.heap
+    (λ was. (is_free_kind was.layout.kind ≡ false) × (BelongsToReached opening.heap opening.graph was.at → ⊥)) at
 
 -- each word of a free cell of a page is in a free run
 abbrev pub FreeIsRun : Heap → List (List Run) → Type 0
@@ -55,20 +53,12 @@ FreeIsRun heap rows =
     (cell : Cell) (words : List ℕ) (at : ℕ) → HasCell heap cell words → IsTrue (is_free_kind cell.layout.kind)
     → cell.at < eden_start heap.space → IsWordOf cell at → IsFreeWord rows at
 
--- the word was one of a cell that was not live
-pub record WasUseless (old : Heap) (at : ℕ) : Type 0 where
-  pub cell : Cell
-  pub words : List ℕ
-  pub has : HasCell old cell words
-  pub of_cell : IsWordOf cell at
-  pub dead : IsLive old (IsRootTarget old) cell.at → ⊥
-
 -- A cell may stand in what a collection leaves of a heap that shows a graph: it is free, and of a page or in the place
 -- of cells that were not live; or it stood there before; or it belongs to an object that can be reached.
 pub data MayStand (old new : Heap) (graph : Graph) (cell : Cell) : Type 0 where
   free : IsTrue (is_free_kind cell.layout.kind) → cell.at < eden_start new.space → MayStand old new graph cell
-  freed : IsTrue (is_free_kind cell.layout.kind) → ((at : ℕ) → IsWordOf cell at → WasUseless old at)
-      → MayStand old new graph cell
+  freed : IsTrue (is_free_kind cell.layout.kind) → ((at : ℕ) → IsWordOf cell at
+      → IsOfSomeCell old (λ was. IsLive old (IsRootTarget old) was.at → ⊥) at) → MayStand old new graph cell
   stood : (words : List ℕ) → HasCell old cell words → MayStand old new graph cell
   reached : BelongsToReached new graph cell.at → MayStand old new graph cell
 
@@ -79,12 +69,6 @@ pub record IsCopy (old new : Heap) (cell : Cell) : Type 0 where
   pub used : is_free_kind cell.layout.kind ≡ false
   pub of_page : cell.at < eden_start new.space
   pub fresh : (others : List ℕ) → HasCell old cell others → ⊥
-
--- where a free cell ends, no copy begins in its page
-abbrev pub CopiesTakeFronts : Heap → Heap → Type 0
-CopiesTakeFronts old new =
-    (cell copy : Cell) (words : List ℕ) → HasCell new cell words → IsTrue (is_free_kind cell.layout.kind)
-    → IsCopy old new copy → cell.at + cell.size ≡ copy.at → (page : ℕ) × (copy.at ≡ page_words * page)
 
 -- What a collection leaves that ends a cycle, of a heap that shows a graph, and whose pages have these free runs then.
 pub record LeavesBorn (opening : Opening) (old new : Heap) (rows : List (List Run)) (graph : Graph) : Type 0 where
@@ -107,8 +91,9 @@ pub record LeavesBorn (opening : Opening) (old new : Heap) (rows : List (List Ru
   -- each live cell of a page stands where it stood
   pub places : (cell : Cell) (words : List ℕ) → HasCell old cell words → cell.at < eden_start old.space
       → IsLive old (IsRootTarget old) cell.at → (others : List ℕ) × HasCell new cell others
-  -- what came to a page took the front of a free run
-  pub fronts : CopiesTakeFronts old new
+  -- what came to a page took the front of a free run: where a free cell ends, no copy begins in its page
+  pub fronts : (cell copy : Cell) (words : List ℕ) → HasCell new cell words → IsTrue (is_free_kind cell.layout.kind)
+      → IsCopy old new copy → cell.at + cell.size ≡ copy.at → (page : ℕ) × (copy.at ≡ page_words * page)
   -- objects have stores of as many slots and tables of as many pairs, of which no more are filled
   pub rooms : RoomsAreNoFuller old new graph
   pub few : new.survivors + new.used ≤ old.survivors + old.used

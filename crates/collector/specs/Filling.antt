@@ -24,8 +24,10 @@ pub record BlanksBehind (heap : Heap) (new : List ℕ) (start end : ℕ) : Type 
 
 -- From an address to another the words are those of an image: the heap's where a cell stands, and else 0.
 pub record AreCellsWithin (heap : Heap) (words : List ℕ) (from to : ℕ) : Type 0 where
-  pub cells : (at : ℕ) → from ≤ at → at < to → IsOfSomeCell heap at → slice_get words at ≡ slice_get heap.words at
-  pub rest : (at : ℕ) → from ≤ at → at < to → (IsOfSomeCell heap at → ⊥) → slice_get words at ≡ Some 0
+  pub cells : (at : ℕ) → from ≤ at → at < to → IsOfSomeCell heap (λ cell. Unit {0}) at
+      → slice_get words at ≡ slice_get heap.words at
+  pub rest : (at : ℕ) → from ≤ at → at < to → (IsOfSomeCell heap (λ cell. Unit {0}) at → ⊥)
+      → slice_get words at ≡ Some 0
 
 -- and no word beside these has changed
 pub record FillsWithin (heap : Heap) (old new : List ℕ) (from to : ℕ) : Type 0 where

@@ -6,19 +6,21 @@ use Rattle.heap_model.specs.Types.{Cell}
 use Rattle.heap_model.specs.Heaps.{Heap, HasCell}
 use Rattle.live_cells.specs.Exact.{IsWordOf}
 
--- the address is that of a word of a cell of the heap
-pub record IsOfSomeCell (heap : Heap) (at : ℕ) : Type 0 where
+-- the address is that of a word of a cell of the heap of which this holds
+pub record IsOfSomeCell (heap : Heap) (Holds : Cell → Type 0) (at : ℕ) : Type 0 where
   pub cell : Cell
   pub words : List ℕ
   pub has : HasCell heap cell words
   pub of_cell : IsWordOf cell at
+  pub holds : Holds cell
 
 -- The words of an image of the heap. There is one for each address before the marks. Each word of a cell, each root
 -- word and each layout word is the heap's. Each other word of pages, of eden and of the segments is 0.
 pub record AreWordsOf (heap : Heap) (words : List ℕ) : Type 0 where
   pub count : length words ≡ marks_start heap.space
-  pub cells : (at : ℕ) → IsOfSomeCell heap at → slice_get words at ≡ slice_get heap.words at
-  pub rest : (at : ℕ) → at < roots_start heap.space → (IsOfSomeCell heap at → ⊥) → slice_get words at ≡ Some 0
+  pub cells : (at : ℕ) → IsOfSomeCell heap (λ cell. Unit {0}) at → slice_get words at ≡ slice_get heap.words at
+  pub rest : (at : ℕ) → at < roots_start heap.space → (IsOfSomeCell heap (λ cell. Unit {0}) at → ⊥)
+      → slice_get words at ≡ Some 0
   pub roots : (at : ℕ) → roots_start heap.space ≤ at → at < layouts_start heap.space
       → slice_get words at ≡ slice_get heap.words at
   pub layouts : (at : ℕ) → layouts_start heap.space ≤ at → at < marks_start heap.space

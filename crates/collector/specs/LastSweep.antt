@@ -9,9 +9,14 @@ use Rattle.heap_model.specs.Heaps.{Heap, HasCell}
 use Rattle.heap_model.specs.Slots.{IsPlace}
 use Rattle.live_cells.specs.Exact.{IsWordOf}
 use Rattle.live_cells.specs.Laws.{BelongsToReached}
+use Rattle.mark_world.specs.Cycles.{Cycle}
+use Rattle.cycle_state.specs.Keeping.{IsKept, KeepsClosed}
+use Rattle.cycle_laws.specs.DeadWords.{AreLostWords, KeepsNoWordOf}
+use Rattle.cycle_laws.specs.Openings.{Opens}
 use Rattle.write_barrier.specs.MutatorState.{Mutator, heap_of}
+use Rattle.ephemeron_mark.specs.Marked.{Marked}
 use Rattle.collector.specs.Born.{Opening, WasDead, LeavesBorn}
-use Rattle.collector.specs.MarkSwept.{SweepsMarked}
+use Rattle.collector.specs.MarkSwept.{IsMarkedFrom, SweepsMarked}
 
 -- each object whose cell is marked could be reached when the cycle began, or was made since
 abbrev pub MarksBorn : Opening → Heap → List ℕ → Type 0
@@ -28,11 +33,30 @@ MarksNoDeadWord opening old new marked graph =
     → IsWordOf cell at → WasDead opening at → ⊥
 
 -- A sweep that keeps marked cells leaves all that the end of a cycle has to leave. Two things are asked of these cells,
--- which may have been marked from any starts. Objects' cells are born. Cells of pages that belong to nothing that can be
--- reached have no word that was dead. Nothing is asked of young cells: one that is not marked is free then, as a table
--- that its map outgrew.
+-- which may have been marked from any starts. Objects' cells are born. Cells of pages that belong to nothing that can
+-- be reached have no word that was dead. Nothing is asked of young cells: one that is not marked is free then, as a
+-- table that its map outgrew.
 abbrev pub SweptIsBorn : Type 0
 SweptIsBorn =
     (opening : Opening) (old new : Mutator) (marked : List ℕ) (graph : Graph) → SweepsMarked old new marked graph
     → MarksBorn opening (heap_of old) marked → MarksNoDeadWord opening (heap_of old) (heap_of new) marked graph
     → LeavesBorn opening (heap_of old) (heap_of new) new.free graph
+
+-- A cycle that is open opened with this opening, when these words of pages were dead. It has the numbers of the objects
+-- that could be reached then, and how many objects there were.
+pub record HasOpenedWith (opening : Opening) (cycle : Cycle) (dead : List ℕ) : Type 0 where
+  pub first : Cycle
+  pub opens : Opens opening.heap opening.graph first
+  pub reached : cycle.reached ≡ first.reached
+  pub counted : cycle.made ≡ first.made
+  pub lost : AreLostWords opening.heap opening.graph dead
+
+-- Both are so of a last marking that is given kept cells alone to start at, where what the cycle keeps is closed, and
+-- no kept cell of a page has a word that was dead.
+abbrev pub LastMarkingsAreBorn : Type 0
+LastMarkingsAreBorn =
+    (opening : Opening) (old new : Heap) (cycle : Cycle) (dead given : List ℕ) (marking : Marked) (graph : Graph)
+    → old.space ≡ opening.heap.space → HasOpenedWith opening cycle dead → KeepsClosed old cycle
+    → KeepsNoWordOf old cycle.born dead → ((start : ℕ) → Contains given start → IsKept old cycle.born start)
+    → IsMarkedFrom old given marking
+    → MarksBorn opening old marking.cells × MarksNoDeadWord opening old new marking.cells graph

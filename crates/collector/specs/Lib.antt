@@ -11,6 +11,7 @@ pub mod Collected
 pub mod CollectionLaws
 pub mod Born
 pub mod LastSweep
+pub mod Promoting
 pub mod Filled
 pub mod Counted
 pub mod Passing

@@ -1,5 +1,5 @@
 -- What marking, clearing and sweeping come to, as one call.
-use Rattle.std.specs.Prelude.{◌≡◌, ◌≢◌, ◌+◌, ◌<◌, ◌↔◌, ℕ, false, List, AllPairs, Contains, IsTrue, length, slice_get}
+use Rattle.std.specs.Prelude.{◌≡◌, ◌≢◌, ◌+◌, ◌<◌, ◌↔◌, ℕ, false, List, AllPairs, Contains, length, slice_get}
 use Rattle.tagged_word.specs.Cells.{is_free_kind}
 use Rattle.page_space.specs.Extents.{eden_start}
 use Rattle.free_runs.specs.FreeRuns.{AreFree}
@@ -12,7 +12,7 @@ use Rattle.heap_model.specs.Heaps.{Heap, HasCell}
 use Rattle.heap_model.specs.Kinds.{Pair, count_offset}
 use Rattle.heap_model.specs.Rooms.{RoomsAreNoFuller}
 use Rattle.heap_model.specs.Slots.{IsWeakCellAt}
-use Rattle.live_cells.specs.Exact.{KeepsNoOther, IsWordOf}
+use Rattle.live_cells.specs.Exact.{KeepsNoOther}
 use Rattle.live_cells.specs.Fitting.{DeadIsFree}
 use Rattle.live_cells.specs.Live.{IsLive, IsRootTarget, IsStart, AreNoTables, AreLiveFrom}
 use Rattle.write_barrier.specs.MutatorState.{Mutator, heap_of, MainShows}
@@ -103,10 +103,6 @@ pub record SweepsMarked (old new : Mutator) (marked : List ℕ) (graph : Graph) 
   pub cells : MarkedCellsStay (heap_of old) (heap_of new) marked
   pub live : (at : ℕ) → IsLive (heap_of old) (IsRootTarget (heap_of old)) at → Contains marked at
   pub used : (cell : Cell) (words : List ℕ) → HasCell (heap_of new) cell words → is_free_kind cell.layout.kind ≡ false
-      → WasMarked (heap_of old) marked cell
-  -- a free cell that has a word of a marked cell is itself one of the marked cells
-  pub unused : (cell : Cell) (words : List ℕ) (at : ℕ) → HasCell (heap_of new) cell words
-      → IsTrue (is_free_kind cell.layout.kind) → IsWordOf cell at → IsOfMarked (heap_of old) marked at
       → WasMarked (heap_of old) marked cell
   -- each word of a cell was one of a cell
   pub of_cells : (at : ℕ) → IsCellWord (heap_of new) at → IsCellWord (heap_of old) at

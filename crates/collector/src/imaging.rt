@@ -20,8 +20,8 @@ use tagged_word::NoMemory;
 use word_store::Reads;
 use write_barrier::Main;
 
-/// An image without a cell, over words of 0: what images of heaps of these regions are put into. It takes the memory for
-/// all their words and shapes.
+/// An image without a cell, over words of 0: what images of heaps of these regions are put into. It takes the memory
+/// for all their words and shapes.
 pub fn image_room(alloc: Global, regions: Regions) -> Result<HeapImage, NoMemory>
     ensures { IfOk result (λ room. IsRoomFor regions room) }
 {

@@ -2,7 +2,8 @@
 ghost use Rattle.collector.specs.Born.{ExactIsBorn};
 ghost use Rattle.collector.specs.CollectionLaws.{SweptAndScavengedIsCollected};
 ghost use Rattle.collector.specs.Filled.{FullIsFilled};
-ghost use Rattle.collector.specs.LastSweep.{SweptIsBorn};
+ghost use Rattle.collector.specs.LastSweep.{SweptIsBorn, LastMarkingsAreBorn};
+ghost use Rattle.collector.specs.Promoting.{ScavengesPromote, ScavengesKeepStarts};
 ghost use Rattle.collector.specs.ImageLaws.{ImagesShow, ImagesAreBlank, ImagesKeepStores};
 ghost use Rattle.collector.specs.ImageLaws.{ImagesHaveRooms, ImagesAreTight, ImagesKeepFree};
 ghost use Rattle.collector.specs.ImageLaws.{ImagesStayStuck, ImagesAreExact, ImagesKeepDead};
@@ -42,6 +43,20 @@ pub fn laws_of_cycles()
 /// marked could be reached when the cycle began or was made since, and has no word that was dead then.
 pub fn laws_of_last_sweeps()
     ensures { SweptIsBorn }
+{}
+
+/// So it is with what a last marking marks that is given kept cells alone to start at, if no kept cell of a page
+/// has a word that was dead when the cycle opened.
+pub fn laws_of_last_markings()
+    ensures { LastMarkingsAreBorn }
+{}
+
+/// A scavenge of a heap that shows a graph is one over which an open cycle of marking goes on: it promotes
+/// cells to the homes that are in pages, into words of free runs alone; and cells that helpers may be
+/// reading, or that the mutator made black itself, stay where they stand.
+pub fn laws_of_promotions()
+    ensures promote { ScavengesPromote }
+    ensures starts { ScavengesKeepStarts }
 {}
 
 /// In a heap that keeps exactly what can be reached, and into which so many words don't fit, survivors,

@@ -23,5 +23,8 @@ mod script_heap;
 
 pub use census::Census;
 pub use imaging::image_room;
-pub use laws::{laws_of_cycles, laws_of_full_heaps, laws_of_images, laws_of_last_sweeps};
+pub use laws::{
+    laws_of_cycles, laws_of_full_heaps, laws_of_images, laws_of_last_markings, laws_of_last_sweeps,
+    laws_of_promotions,
+};
 pub use script_heap::Heap;

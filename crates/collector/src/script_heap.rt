@@ -15,8 +15,8 @@ use std::marker::Model;
 use tagged_word::NoMemory;
 use write_barrier::Main;
 
-/// The heap that a script runs on: the mutator's side, and memory for the list of a scavenge and for the marks of a full
-/// collection, which is taken when the heap is opened.
+/// The heap that a script runs on: the mutator's side, and memory for the list of a scavenge and for the marks of a
+/// full collection, which is taken when the heap is opened.
 #[derive(Drop)]
 pub struct Heap {
     pub(crate) main: Main,

@@ -5,9 +5,9 @@ use Rattle.clap.specs.Walk.{Held, Row, Text, idle, option, first_of}
 use Rattle.clap.specs.Kinds.{or_else}
 use Rattle.clap.specs.declared.error.kind.ErrorKind.TheVariants.{ArgumentConflict}
 use Rattle.page_space.specs.declared.sizes.Sizes.{Sizes}
-use Rattle.command_line.specs.Given.{Given, Setting, valued, named, ends_options, plain, stray, kind_of}
+use Rattle.command_line.specs.Given.{Given, Setting, valued, named, ends_options, plain, stray, kind_of, unless_any}
 use Rattle.command_line.specs.Given.{with_positional, is_option_name, is_set}
-use Rattle.command_line.specs.Sizes.{sizes_alone, sizes_by, sizes_of, if_no_word}
+use Rattle.command_line.specs.Sizes.{sizes_alone, sizes_by, sizes_of}
 use Rattle.command_line.specs.Parser.{where_no_fault}
 use Rattle.command_line.proofs.WordKinds.{IsLong, dashes, option as option_word, hyphen, other, seen, attached_kind}
 use Rattle.command_line.proofs.Hopeless.{and_setting, hopeless_after, positional_is_hopeless}
@@ -49,7 +49,7 @@ at_end h settings stands = rw (stands.passes, stands.rows) (sizes_by-setting_row
 
 -- `--`
 after_dashes : (h : Held) (settings : List Setting) (words : List Text) → StandsFor h settings
-    → sizes_read (outcome (walk_after_dashes h idle) words) ≡ if_no_word words (sizes_of settings)
+    → sizes_read (outcome (walk_after_dashes h idle) words) ≡ unless_any words (sizes_of settings)
 after_dashes h settings [] stands = ap sizes_read (outcome-nil (walk_after_dashes h idle)) ∙ at_end h settings stands
 after_dashes h settings (word ∷ words) stands = ap sizes_read (no_word_after h idle word words)
 

@@ -2,13 +2,13 @@
 use Rattle.std.proofs.Common.{◌≡◌, ◌∙◌, ◌≤◌, Bool, true, false, List, [], ◌∷◌, length, get_or, map, Some, None}
 use Rattle.std.proofs.Common.{drop, find, cond, codes, refl, sym, ap, arith}
 use Rattle.std.specs.Option.{option_and_then}
-use Rattle.std.specs.Prelude.{◌||◌, bytes_eq}
+use Rattle.std.specs.Prelude.{◌||◌, IsTrue, bytes_eq}
 use Rattle.std.specs.List.{list_any}
 use Rattle.std.proofs.lemmas.Option.{option_and_then_some}
 use Rattle.command_line.specs.declared.invocation.Invocation.{Invocation}
 use Rattle.command_line.specs.Given.{Text, given_of}
 use Rattle.command_line.specs.Invocations.{Command, command_text, commands, command_of, invocation_by, invocation_of}
-use Rattle.command_line.specs.Invocations.{BeginsCommand}
+use Rattle.command_line.specs.Invocations.{begins_with_any}
 use Rattle.command_line.proofs.ParserRules.{same_text}
 
 -- a command, and that this is what it asks for with the words after the first
@@ -61,7 +61,7 @@ found_any test (first ∷ items) item e = go (test first) e (found_any test item
 
 -- words that ask for something begin with a command
 pub begins_command : (words : List Text) (invocation : Invocation) → invocation_of words ≡ Some invocation
-    → BeginsCommand words
+    → IsTrue (begins_with_any commands words)
 begins_command [] invocation asks = absurd (cc)
 begins_command (first ∷ words) invocation asks =
     option_and_then_some (λ command. option_and_then (invocation_by command) (given_of words)) (command_of first)

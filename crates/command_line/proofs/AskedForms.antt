@@ -4,10 +4,10 @@ use Rattle.std.specs.Option.{option_map}
 use Rattle.std.proofs.lemmas.Option.{option_and_then_some, same_Some}
 use Rattle.page_space.specs.declared.sizes.Sizes.{Sizes}
 use Rattle.command_line.specs.declared.invocation.Invocation.TheVariants.{Run, Check, Soak, Gen}
-use Rattle.command_line.specs.Given.{Text, Setting, Given, given_of}
+use Rattle.command_line.specs.Given.{Text, Setting, Given, given_of, unless_any}
 use Rattle.command_line.specs.Numbers.{decimal_value, within, number_in}
 use Rattle.command_line.specs.Sizes.{sizes_of, sizes_alone}
-use Rattle.command_line.specs.Invocations.{Command, run, check, soak, gen, Plan, plan_from, plan_of, if_no_setting}
+use Rattle.command_line.specs.Invocations.{Command, run, check, soak, gen, Plan, plan_from, plan_of}
 use Rattle.command_line.specs.Invocations.{invocation_by, forms_most}
 use Rattle.command_line.specs.SizeLaws.{AskedFormsAreFew}
 use Rattle.command_line.proofs.AskedCommands.{asked_of}
@@ -67,7 +67,7 @@ generated_plan (Some plan) seed forms e =
 
 -- with no option
 generation_few : (settings : List Setting) (words : List Text) (seed forms : ℕ)
-    → if_no_setting settings (plan_of words) ≡ Some (plan_with seed forms) → forms ≤ forms_most
+    → unless_any settings (plan_of words) ≡ Some (plan_with seed forms) → forms ≤ forms_most
 generation_few [] words seed forms e = plan_few words (plan_with seed forms) e
 generation_few (setting ∷ settings) words seed forms e = cc
 
@@ -82,7 +82,7 @@ few_by soak given seed forms e =
     (λ sizes is f. absurd (no_soaked (plan_of given.positional) sizes seed forms f))
 few_by gen given seed forms e =
     generation_few given.settings given.positional seed forms
-    (generated_plan (if_no_setting given.settings (plan_of given.positional)) seed forms e)
+    (generated_plan (unless_any given.settings (plan_of given.positional)) seed forms e)
 
 -- where words ask for a generated script, it has no more forms than it may have
 pub asked_forms_are_few : AskedFormsAreFew

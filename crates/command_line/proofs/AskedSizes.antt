@@ -10,11 +10,11 @@ use Rattle.page_space.specs.Sizes.{AreWithin, variables_most}
 use Rattle.command_line.specs.declared.number.Limits.{Limits}
 use Rattle.command_line.specs.declared.invocation.Invocation.{Invocation}
 use Rattle.command_line.specs.declared.invocation.Invocation.TheVariants.{Run, Check, Soak, Gen}
-use Rattle.command_line.specs.Given.{Text, Given, given_of}
+use Rattle.command_line.specs.Given.{Text, Given, given_of, unless_any}
 use Rattle.command_line.specs.Numbers.{decimal_value, within, number_or_default}
 use Rattle.command_line.specs.Sizes.{pages_limits, young_limits, helpers_limits, sizes_from, text_in, sizes_of}
-use Rattle.command_line.specs.Sizes.{if_no_word, sizes_alone}
-use Rattle.command_line.specs.Invocations.{Command, run, check, soak, gen, Plan, plan_of, if_no_setting}
+use Rattle.command_line.specs.Sizes.{sizes_alone}
+use Rattle.command_line.specs.Invocations.{Command, run, check, soak, gen, Plan, plan_of}
 use Rattle.command_line.specs.Invocations.{invocation_by, asked_run}
 use Rattle.command_line.specs.SizeLaws.{AskedSizesAreWithin}
 use Rattle.command_line.proofs.AskedCommands.{asked_of}
@@ -82,7 +82,7 @@ settings_within given sizes variables e few =
     }
 
 -- sizes that stand alone are those of the settings
-alone : (positional : List Text) (found : Option Sizes) (sizes : Sizes) → if_no_word positional found ≡ Some sizes
+alone : (positional : List Text) (found : Option Sizes) (sizes : Sizes) → unless_any positional found ≡ Some sizes
     → found ≡ Some sizes
 alone [] found sizes e = e
 alone (word ∷ words) found sizes e = cc
@@ -133,7 +133,7 @@ settings_of soak given checks sizes e =
     (λ found is f. absurd (no_run (plan_of given.positional) (λ plan. Soak found plan.seed plan.forms) checks sizes
     (no_soaked checks sizes found) f))
 settings_of gen given checks sizes e =
-    absurd (no_run (if_no_setting given.settings (plan_of given.positional)) (λ plan. Gen plan.seed plan.forms)
+    absurd (no_run (unless_any given.settings (plan_of given.positional)) (λ plan. Gen plan.seed plan.forms)
     checks sizes (no_generated checks sizes) e)
 
 -- where words ask for the run of a script, checked or not, its sizes are within their limits

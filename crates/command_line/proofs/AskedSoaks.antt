@@ -4,9 +4,9 @@ use Rattle.std.specs.Option.{option_map}
 use Rattle.std.proofs.lemmas.Option.{option_and_then_some}
 use Rattle.page_space.specs.declared.sizes.Sizes.{Sizes}
 use Rattle.command_line.specs.declared.invocation.Invocation.TheVariants.{Run, Check, Soak, Gen}
-use Rattle.command_line.specs.Given.{Given, given_of}
+use Rattle.command_line.specs.Given.{Given, given_of, unless_any}
 use Rattle.command_line.specs.Sizes.{sizes_of, sizes_alone}
-use Rattle.command_line.specs.Invocations.{Command, run, check, soak, gen, Plan, plan_of, if_no_setting, invocation_by}
+use Rattle.command_line.specs.Invocations.{Command, run, check, soak, gen, Plan, plan_of, invocation_by}
 use Rattle.command_line.specs.SizeLaws.{SoakedSizesAreWithin, SoakedFormsAreFew}
 use Rattle.command_line.proofs.AskedCommands.{asked_of}
 use Rattle.command_line.proofs.AskedSizes.{settings_within}
@@ -59,7 +59,7 @@ soak_of soak given sizes seed forms e =
     (sizes_of given.settings) (Soak sizes seed forms) e
     (λ found is f. soak_found given found sizes (plan_of given.positional) seed forms is refl f)
 soak_of gen given sizes seed forms e =
-    absurd (no_generated (if_no_setting given.settings (plan_of given.positional)) sizes seed forms e)
+    absurd (no_generated (unless_any given.settings (plan_of given.positional)) sizes seed forms e)
 
 -- the sizes are within their limits
 pub soaked_sizes_are_within : SoakedSizesAreWithin

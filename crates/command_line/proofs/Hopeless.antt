@@ -4,10 +4,10 @@ use Rattle.std.proofs.Common.{◌∷◌, ◌++◌, Option, None, Some}
 use Rattle.std.proofs.Common.{option_map, option_and_then, cond, find, bytes_eq, codes, refl, ap, ap₂, sym}
 use Rattle.std.proofs.Common.{append-nil, append_assoc}
 use Rattle.page_space.specs.declared.sizes.Sizes.{Sizes}
-use Rattle.command_line.specs.Given.{Text, Setting, Given, Kind, valued, named, ends_options, plain, stray, kind_of}
+use Rattle.command_line.specs.Given.{Text, Setting, Given, Kind, valued, named, ends_options, plain, stray, kind_of, unless_any}
 use Rattle.command_line.specs.Given.{given_after, given_by, with_setting, with_positional, is_option_name, is_set}
 use Rattle.command_line.specs.Numbers.{number_or_default}
-use Rattle.command_line.specs.Sizes.{sizes_alone, sizes_of, sizes_by, sizes_from, text_in, if_no_word}
+use Rattle.command_line.specs.Sizes.{sizes_alone, sizes_of, sizes_by, sizes_from, text_in}
 use Rattle.command_line.specs.Sizes.{pages_limits, young_limits, helpers_limits}
 use Rattle.command_line.proofs.ParserRules.{same_text, text_is_itself}
 
@@ -92,7 +92,7 @@ module _ {X : Type 0} (judge : Given → Option X) where
 pub positional_is_hopeless : (given : Given) (word : Text) (words : List Text) → given.positional ≡ word ∷ words
     → IsHopeless sizes_alone given
 positional_is_hopeless given word words e settings more =
-    ap (λ all. if_no_word (all ++ more) (sizes_of (given.settings ++ settings))) e
+    ap (λ all. unless_any (all ++ more) (sizes_of (given.settings ++ settings))) e
 
 -- the text of an option is that of its first setting
 text_in-first : (settings more : List Setting) (name text : Text) → is_set name settings ≡ false
@@ -161,7 +161,7 @@ hyphen_gives_none text_of name rest known is =
     ]
 
 -- sizes that are none stay none
-no_sizes : (words : List Text) (sizes : Option Sizes) → sizes ≡ None → if_no_word words sizes ≡ None
+no_sizes : (words : List Text) (sizes : Option Sizes) → sizes ≡ None → unless_any words sizes ≡ None
 no_sizes [] sizes e = e
 no_sizes (word ∷ words) sizes e = refl
 

@@ -18,9 +18,10 @@ pub record Given : Type 0 where
   pub settings : List Setting
   pub positional : List Text
 
--- what is given before the first word
-abbrev pub nothing_given : Given
-nothing_given = record { settings = []; positional = [] }
+-- this, unless something stands in the list
+abbrev pub unless_any : {A B : Type 0} → List A → Option B → Option B
+unless_any [] found = found
+unless_any (some ∷ more) found = None
 
 -- the names of the options
 abbrev pub option_names : List Text
@@ -90,6 +91,6 @@ given_after given None (word ∷ words) =
 given_after given (Some name) (word ∷ words) =
     option_and_then (λ more. given_after more None words) (with_setting name word given)
 
--- what the words after the command give
+-- what the words after the command give; nothing is given before the first of them
 abbrev pub given_of : List Text → Option Given
-given_of words = given_after nothing_given None words
+given_of words = given_after (record { settings = []; positional = [] }) None words

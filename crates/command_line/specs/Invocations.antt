@@ -1,12 +1,12 @@
 -- What a command line asks for.
-use Rattle.std.specs.Prelude.{ℕ, ◌-◌, ◌^◌, Bool, true, false, IsTrue, List, [], ◌∷◌, Option}
+use Rattle.std.specs.Prelude.{ℕ, ◌-◌, ◌^◌, Bool, true, false, List, [], ◌∷◌, Option}
 use Rattle.std.specs.Prelude.{Some, None, option_map}
 use Rattle.std.specs.Prelude.{option_and_then, find, codes, bytes_eq}
 use Rattle.std.specs.List.{list_any}
 use Rattle.page_space.specs.declared.sizes.Sizes.{Sizes}
 use Rattle.command_line.specs.declared.invocation.Invocation.{Invocation}
 use Rattle.command_line.specs.declared.invocation.Invocation.TheVariants.{Run, Check, Soak, Gen}
-use Rattle.command_line.specs.Given.{Text, Setting, Given, given_of}
+use Rattle.command_line.specs.Given.{Text, Given, given_of, unless_any}
 use Rattle.command_line.specs.Numbers.{number_in}
 use Rattle.command_line.specs.Sizes.{sizes_of, sizes_alone}
 
@@ -51,11 +51,6 @@ abbrev pub plan_of : List Text → Option Plan
 plan_of (seed ∷ forms ∷ []) = plan_from (number_in 0 (2 ^ 64 - 1) seed) (number_in 0 forms_most forms)
 plan_of _ = None
 
--- the plan, unless an option is set
-abbrev pub if_no_setting : List Setting → Option Plan → Option Plan
-if_no_setting [] plan = plan
-if_no_setting (setting ∷ settings) plan = None
-
 -- What a command asks for with this given. `run` and `check` take no positional word, and `gen` takes no option.
 abbrev pub invocation_by : Command → Given → Option Invocation
 invocation_by run given = option_map Run (sizes_alone given)
@@ -64,7 +59,7 @@ invocation_by soak given =
     option_and_then (λ sizes. option_map (λ plan. Soak sizes plan.seed plan.forms) (plan_of given.positional))
     (sizes_of given.settings)
 invocation_by gen given =
-    option_map (λ plan. Gen plan.seed plan.forms) (if_no_setting given.settings (plan_of given.positional))
+    option_map (λ plan. Gen plan.seed plan.forms) (unless_any given.settings (plan_of given.positional))
 
 -- what the words after the program's name ask for; nothing where they are refused
 abbrev pub invocation_of : List Text → Option Invocation
@@ -76,10 +71,6 @@ invocation_of (first ∷ words) =
 abbrev pub begins_with_any : List Command → List Text → Bool
 begins_with_any some [] = false
 begins_with_any some (first ∷ words) = list_any (λ command. bytes_eq (command_text command) first) some
-
--- the first word is a command
-abbrev pub BeginsCommand : List Text → Type 0
-BeginsCommand words = IsTrue (begins_with_any commands words)
 
 -- what a run asks for, or a run that is checked
 abbrev pub asked_run : Bool → Sizes → Invocation

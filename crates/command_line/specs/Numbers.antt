@@ -8,7 +8,8 @@ use Rattle.command_line.specs.declared.number.Limits.{Limits}
 
 -- The number of a text of one decimal digit or more. Zeros may lead; a sign, or any other byte, makes it no number.
 abbrev pub decimal_value : List ℕ → Option ℕ
-decimal_value text = if list_all is_ascii_digit text && nat_lt 0 (length text) then Some (digits_value 10 text) else None
+decimal_value text =
+    if list_all is_ascii_digit text && nat_lt 0 (length text) then Some (digits_value 10 text) else None
 
 -- the number, where it is from the least to the most
 abbrev pub within : ℕ → ℕ → ℕ → Option ℕ

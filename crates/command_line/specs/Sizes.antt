@@ -1,9 +1,9 @@
 -- The sizes that a command line gives.
-use Rattle.std.specs.Prelude.{ℕ, List, [], ◌∷◌, Option, Some, None, option_map, find, codes, bytes_eq}
+use Rattle.std.specs.Prelude.{ℕ, List, Option, Some, None, option_map, find, codes, bytes_eq}
 use Rattle.page_space.specs.declared.sizes.Sizes.{Sizes}
 use Rattle.command_line.specs.declared.number.Limits.{Limits}
 use Rattle.page_space.specs.Sizes.{pages_most, young_least, young_most, helpers_most}
-use Rattle.command_line.specs.Given.{Text, Setting, Given}
+use Rattle.command_line.specs.Given.{Text, Setting, Given, unless_any}
 use Rattle.command_line.specs.Numbers.{number_or_default}
 
 -- pages of the old generation
@@ -38,11 +38,6 @@ text_in settings name = option_map (λ setting. setting.text) (find (λ setting.
 abbrev pub sizes_of : List Setting → Option Sizes
 sizes_of settings = sizes_by (text_in settings)
 
--- the sizes, unless there is a word
-abbrev pub if_no_word : List Text → Option Sizes → Option Sizes
-if_no_word [] sizes = sizes
-if_no_word (word ∷ words) sizes = None
-
 -- the sizes, where no positional word is given
 abbrev pub sizes_alone : Given → Option Sizes
-sizes_alone given = if_no_word given.positional (sizes_of given.settings)
+sizes_alone given = unless_any given.positional (sizes_of given.settings)

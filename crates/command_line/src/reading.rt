@@ -1,8 +1,8 @@
 //! Reading words as an invocation.
-ghost use Rattle.std.specs.Prelude.{◌≡◌, [], ◌∷◌, Err, Some, None, IfOk, false, drop, map};
+ghost use Rattle.std.specs.Prelude.{◌≡◌, [], ◌∷◌, Err, Some, None, IfOk, IsTrue, false, drop, map};
 ghost use Rattle.std.specs.Prelude.{option_and_then, string_bytes};
 ghost use Rattle.command_line.specs.Given.{given_of};
-ghost use Rattle.command_line.specs.Invocations.{BeginsCommand, begins_with_any, invocation_of};
+ghost use Rattle.command_line.specs.Invocations.{begins_with_any, commands, invocation_of};
 ghost use Rattle.command_line.specs.Invocations.{invocation_by, gen as gen_command, soak as soak_command};
 
 use crate::invocation::{Invocation, WordsStop};
@@ -20,7 +20,7 @@ pub fn read_words(alloc: Global, words: &[String]) -> Result<Invocation, WordsSt
     ensures refused { result ≡ Err WordsStop.BadWords →
         invocation_of (map string_bytes words.now) ≡ None }
     ensures begins_command { result ≡ Err WordsStop.NoMemory →
-        BeginsCommand (map string_bytes words.now) }
+        IsTrue (begins_with_any commands (map string_bytes words.now)) }
     ensures gen_needs_none { result ≡ Err WordsStop.NoMemory →
         begins_with_any (gen_command ∷ []) (map string_bytes words.now) ≡ false }
 {

@@ -24,8 +24,8 @@ pub enum Point {
     CommandDone,
 }
 
-/// What threads pass at named points. Tests hold threads here; the program never does. The trait does not ask for `Sync`:
-/// what is passed by threads is shared by `beside`, which does, and a task of any gate could not be proved.
+/// What threads pass at named points. Tests hold threads here; the program never does. The trait does not ask for
+/// `Sync`: what is passed by threads is shared by `beside`, which does, and a task of any gate could not be proved.
 pub trait Gate {
     /// Is called by a thread that stands at this point, and goes on when it returns.
     fn pass(&self, point: Point);

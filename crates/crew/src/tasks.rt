@@ -19,8 +19,8 @@ pub trait Task<C>: Send {
 }
 
 /// Calls `first` in this thread, and runs each task once with the context in a thread of its own while `first` runs. It
-/// returns when all are done, and takes no memory. With no task it starts no thread. Where the system has no thread left
-/// the tasks run one after another, so no task may wait for another one, or for `first`.
+/// returns when all are done, and takes no memory. With no task it starts no thread. Where the system has no thread
+/// left the tasks run one after another, so no task may wait for another one, or for `first`.
 pub fn beside<R: Threads + Sync, C: Sync, F: FnMut(), T: Task<C>>(
     rt: &R,
     first: &mut F,

@@ -30,7 +30,8 @@ use Rattle.cycle_laws.proofs.Targets.{StandsAt, cell_there}
 
 module _ {heap : Heap} (variable : ℕ) (one : Held) (below : variable < heap.space.variables) (whole : Whole heap) where
   -- each cell stood as it stands
-  bound_back : {cell : Cell} {words : List ℕ} → HasCell (bound heap variable one) cell words → HasCell heap cell words
+  pub bound_back : {cell : Cell} {words : List ℕ} → HasCell (bound heap variable one) cell words
+      → HasCell heap cell words
   bound_back {cell} {words} has =
       elim ((bound_moves heap variable one below whole).cells.back cell words has) [
         | inl comes ↦ absurd (none_in cell comes)

@@ -1,34 +1,96 @@
--- No cell that a cycle keeps gets a word that was dead when it opened.
-use Rattle.std.proofs.Common.{◌≡◌, ◌<◌, inl, inr, IsTrue, refl, sym, ap, subst, arith}
+-- No cell that a cycle keeps gets a word that was dead when it opened, and no free run has one.
+use Rattle.std.proofs.Common.{◌≡◌, ℕ, Option, ◌<◌, inl, inr, List, [], Contains, IsTrue, refl, sym, ap, subst}
+use Rattle.std.proofs.Common.{arith}
 use Rattle.std.proofs.lemmas.Bool.{cases_lt}
-use Rattle.std.proofs.lemmas.List.Elements.{Contains-append_cases}
+use Rattle.std.proofs.lemmas.List.Elements.{Contains-append_cases, Contains-get_or}
 use Rattle.tagged_word.specs.Cells.{is_free_kind}
 use Rattle.page_space.specs.Extents.{Space, eden_start}
-use Rattle.heap_model.specs.Types.{Cell}
-use Rattle.heap_model.specs.Heaps.{words_of_cell}
+use Rattle.free_runs.specs.FreeRuns.{row_of}
+use Rattle.free_runs.specs.Laws.{IsFreeWord}
+use Rattle.free_runs.proofs.PageRows.{page_there}
+use Rattle.heap_model.specs.Types.{Cell, Run}
+use Rattle.heap_model.specs.Heaps.{Heap, HasCell, words_of_cell}
+use Rattle.heap_model.specs.Wholeness.{HasRows, Whole}
+use Rattle.heap_model.specs.Changes.{CellsChange}
+use Rattle.heap_model.specs.Collectable.{AreFreeRuns}
+use Rattle.heap_model.proofs.BoundHeaps.{none_in}
 use Rattle.heap_model.proofs.CellsApart.{cells_apart}
 use Rattle.heap_moves.proofs.MovedCells.{origin}
 use Rattle.live_cells.specs.Exact.{IsWordOf}
 use Rattle.live_cells.specs.Laws.{BelongsToReached}
-use Rattle.cycle_laws.specs.DeadWords.{OpensWithNoLostWord, ChangesKeepNoWordOf, ScavengesKeepNoWordOf}
+use Rattle.mark_world.specs.Cycles.{Cycle}
+use Rattle.cycle_laws.specs.Changes.{JoinsNewCells}
+use Rattle.cycle_laws.specs.Scavenges.{PromotesTo, JoinsPromoted}
+use Rattle.cycle_laws.specs.DeadWords.{KeepsNoWordOf, NoRunHas, GrowsNoRun, WasKeptWord, OpensAvoidingDead}
+use Rattle.cycle_laws.specs.DeadWords.{ChangesAvoidDead, BindingsAvoidDead, NewObjectsAvoidDead, ScavengesAvoidDead}
+use Rattle.cycle_laws.specs.DeadWords.{LiveHasNoDeadWord}
+use Rattle.cycle_laws.proofs.BoundKept.{bound_back, new_joins}
 use Rattle.cycle_laws.proofs.CarriedCells.{kept_before}
 use Rattle.cycle_laws.proofs.KeptTargets.{kept_may_be_blackened}
+use Rattle.cycle_laws.proofs.ReachedKept.{live_is_kept}
 use Rattle.cycle_laws.proofs.Scavenged.{kept_back}
 
--- a cycle opens so
-pub opens_with_no_lost_word : OpensWithNoLostWord
-opens_with_no_lost_word heap graph cycle dead shows opens lost cell words at has used of_page kept word among =
-    let one = lost at among in
-    let same : cell ≡ one.cell = cells_apart at shows.whole.rows has one.has
-    (record { from = word.from; below = word.below })
-    (record { from = one.of_cell.from; below = one.of_cell.below }) in
-    let belongs = (opens.born cell.at).0 (kept_may_be_blackened heap cycle cell.at kept of_page) in
-    one.lost (subst (λ (it : Cell). BelongsToReached heap graph it.at) same belongs)
+-- two cells with a word in common are one
+pub one_of_word : {heap : Heap} {cell other : Cell} {words others : List ℕ} {at : ℕ} → HasRows heap
+    → HasCell heap cell words → HasCell heap other others → IsWordOf cell at → IsWordOf other at → cell ≡ other
+one_of_word {at = at} rows has has_other word other_word =
+    cells_apart at rows has has_other (record { from = word.from; below = word.below })
+    (record { from = other_word.from; below = other_word.below })
 
--- goes on so while commands change cells
-pub changes_keep_no_word_of : ChangesKeepNoWordOf
-changes_keep_no_word_of old new cycle later gone came made dead whole cells joins came_in none cell words at has used
-    of_page kept word among =
+-- the word is one of a free cell
+pub record IsOfFreeCell (heap : Heap) (at : ℕ) : Type 0 where
+  pub cell : Cell
+  pub words : List ℕ
+  pub has : HasCell heap cell words
+  pub of_cell : IsWordOf cell at
+  pub free : IsTrue (is_free_kind cell.layout.kind)
+
+-- a word of a free run is
+pub free_cell_of : {heap : Heap} {rows : List (List Run)} {at : ℕ} → AreFreeRuns heap rows → IsFreeWord rows at
+    → IsOfFreeCell heap at
+free_cell_of {rows = rows} are word =
+    let run = word.free.run in
+    let there = page_there rows word.page run word.free.among in
+    let one = are (row_of rows word.page) run (Contains-get_or rows word.page [] there) word.free.among in
+    record {
+      cell = one.cell;
+      words = one.words;
+      has = one.has;
+      of_cell = record {
+        from = omega (arith, one.stands, word.free.of_run.from);
+        below = omega (arith, one.stands, one.size, word.free.of_run.below);
+      };
+      free = one.free;
+    }
+
+-- a cycle opens so
+pub opens_avoiding_dead : OpensAvoidingDead
+opens_avoiding_dead heap rows graph cycle dead shows are opens lost = record {
+  cells = λ cell words at has used of_page kept word among.
+      let one = lost at among in
+      let same : cell ≡ one.cell = one_of_word shows.whole.rows has one.has word one.of_cell in
+      let belongs = (opens.born cell.at).0 (kept_may_be_blackened heap cycle cell.at kept of_page) in
+      one.lost (subst (λ (it : Cell). BelongsToReached heap graph it.at) same belongs);
+  runs = λ at word among.
+      let one = lost at among in
+      let free = free_cell_of are word in
+      let same : free.cell ≡ one.cell = one_of_word shows.whole.rows free.has one.has free.of_cell one.of_cell in
+      one.used (subst (λ (it : Cell). IsTrue (is_free_kind it.layout.kind)) same free.free);
+}
+
+-- runs that got no word have none of these
+still_none : (before after : List (List Run)) (dead : List ℕ) → GrowsNoRun before after → NoRunHas before dead
+    → NoRunHas after dead
+still_none before after dead grows none at word among = none at (grows at word) among
+
+-- kept cells get none while commands change cells
+cells_keep_none : {old new : Heap} {cycle later : Cycle} {gone came made : List Cell} (dead : List ℕ) → Whole old
+    → CellsChange old new gone came made → JoinsNewCells old new cycle later came made
+    → ((cell : Cell) (at : ℕ) → Contains came cell → (IsTrue (is_free_kind cell.layout.kind) → ⊥)
+    → cell.at < eden_start new.space → IsWordOf cell at → WasKeptWord old cycle.born gone at)
+    → KeepsNoWordOf old cycle.born dead → KeepsNoWordOf new later.born dead
+cells_keep_none {old} {new} {cycle} {came = came} {made = made} dead whole cells joins came_in none cell words at has
+    used of_page kept word among =
     elim (cells.back cell words has) [
       | inl comes ↦ elim (Contains-append_cases came made cell comes) [
         | inl came_there ↦
@@ -49,10 +111,38 @@ changes_keep_no_word_of old new cycle later gone came made dead whole cells join
           none cell words at stood.0 used below was word among
     ]
 
--- and over scavenges
-pub scavenges_keep_no_word_of : ScavengesKeepNoWordOf
-scavenges_keep_no_word_of old new to promoted cycle later dead promotes joins avoid none cell words at has used of_page
-    kept word among =
+-- it goes on so then
+pub changes_avoid_dead : ChangesAvoidDead
+changes_avoid_dead old new before after cycle later gone came made dead whole cells joins came_in grows avoids =
+    record {
+      cells = cells_keep_none dead whole cells joins came_in avoids.cells;
+      runs = still_none before after dead grows avoids.runs;
+    }
+
+-- a variable that is bound anew
+pub bindings_avoid_dead : BindingsAvoidDead
+bindings_avoid_dead heap rows variable one cycle dead below whole avoids = record {
+  cells = λ cell words at has.
+      avoids.cells cell words at (bound_back variable one below whole has);
+  runs = avoids.runs;
+}
+
+-- a young cell that is made
+pub new_objects_avoid_dead : NewObjectsAvoidDead
+new_objects_avoid_dead old new rows variable cell one cycle dead below whole whole_new cells young avoids =
+    let joins = new_joins old new cycle cell young in
+    bindings_avoid_dead new rows variable one cycle dead below whole_new (record {
+      cells = cells_keep_none dead whole cells joins (λ other at there. absurd (none_in other there)) avoids.cells;
+      runs = avoids.runs;
+    })
+
+-- kept cells get none over a scavenge that promotes into other words
+scavenges_keep_none : {old new : Heap} {to : ℕ → Option ℕ} {promoted : List ℕ} {cycle later : Cycle} (dead : List ℕ)
+    → PromotesTo old new to promoted → JoinsPromoted cycle later promoted
+    → ((cell : Cell) (words : List ℕ) (at : ℕ) → HasCell new cell words → Contains promoted cell.at → IsWordOf cell at
+    → Contains dead at → ⊥)
+    → KeepsNoWordOf old cycle.born dead → KeepsNoWordOf new later.born dead
+scavenges_keep_none {old} {new} dead promotes joins avoid none cell words at has used of_page kept word among =
     let from = origin promotes.moved has used in
     let was : Cell = from.was in
     let below = subst (λ (space : Space). cell.at < eden_start space) promotes.moved.space of_page in
@@ -70,3 +160,16 @@ scavenges_keep_no_word_of old new to promoted cycle later dead promotes joins av
           none was from.words at from.had was_used old_page (kept_back promotes joins cell.at from.had from.stays kept)
           was_word among
     ]
+
+-- so it goes on over each
+pub scavenges_avoid_dead : ScavengesAvoidDead
+scavenges_avoid_dead old new to promoted before after cycle later dead promotes into joins avoids = record {
+  cells = scavenges_keep_none dead promotes joins
+      (λ cell words at has came word. avoids.runs at (into.taken cell words at has came word)) avoids.cells;
+  runs = still_none before after dead into.left avoids.runs;
+}
+
+-- what is live in the end has none
+pub live_has_no_dead_word : LiveHasNoDeadWord
+live_has_no_dead_word heap cycle given dead cell words at keeps starts none has used of_page live =
+    none cell words at has used of_page (live_is_kept heap cycle given cell.at keeps starts live)

@@ -35,7 +35,7 @@ use Rattle.cycle_state.proofs.PageCells.{page_cells_are_read, page_words_are_rea
 use Rattle.cycle_laws.specs.Openings.{Opens, FirstWorldsAreFresh}
 use Rattle.cycle_laws.specs.Steps.{IsPageWord}
 use Rattle.cycle_laws.proofs.KeptTargets.{target_refers}
-use Rattle.cycle_laws.proofs.FreeStarts.{FreeAgainst, free_against}
+use Rattle.cycle_laws.proofs.FreeStarts.{outside_other}
 use Rattle.cycle_laws.proofs.WhiteWorlds.{white_fresh}
 
 -- there are as many layout words as shapes
@@ -102,12 +102,8 @@ module _ {heap : Heap} {graph : Graph} {cycle : Cycle} (space : IsSpace heap.spa
         within = (let of = first_of_cell there.2 in omega (arith, of.below));
       } in
       let here : cell.at + 0 ≡ other = omega (arith, there.3) in
-      elim (free_against shows.whole opens.rests first start free) [
-        | FreeAgainst.same is reads ↦ absurd (apart (is ∙ there.3))
-        | FreeAgainst.apart its reads outside ↦
-            ap (λ found. is_inside start found other) reads
-            ∙ subst (λ at. is_inside start (Some (reading_of its)) at ≡ false) here outside
-      ]
+      subst (λ at. is_inside start (read_at start) at ≡ false) here
+      (outside_other shows.whole opens.rests first start free (λ is. apart (is ∙ there.3)))
 
   -- what a slot of a published cell refers to is born
   slot_born : (start : ℕ) → IsTrue (is_free (main_of cycle) start) → Contains cycle.born start → (reading : Reading)

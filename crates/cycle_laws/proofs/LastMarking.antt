@@ -29,8 +29,10 @@ use Rattle.mark_world.specs.Cycles.{Cycle}
 use Rattle.cycle_state.specs.Cycles.{IsWorldOf, main_of, world_in}
 use Rattle.cycle_state.specs.Resting.{IsPageCell, Rests}
 use Rattle.cycle_state.proofs.PageCells.{page_cells_are_read, page_words_are_read}
-use Rattle.cycle_laws.specs.Ends.{ColouredIsKept, BlackSlotsLeadOn, FreePagesAreWhite}
+use Rattle.cycle_laws.specs.Ends.{ColouredIsKept, BlackSlotsLeadOn, BlackSlotsLeadToStarts, FreePagesAreWhite}
 use Rattle.cycle_laws.proofs.Kept.{born_is_kept}
+use Rattle.cycle_laws.proofs.TableSlots.{weak_slot}
+use Rattle.cycle_laws.proofs.Targets.{cell_there, slot_target}
 
 -- the world of the heap's pages, with what else a world has
 abbrev pub home : Heap → Cycle → World → World
@@ -110,6 +112,20 @@ coloured_is_kept heap cycle world at rests of sound born coloured =
 pub black_slots_lead_on : BlackSlotsLeadOn
 black_slots_lead_on heap cycle world from at rests of sound none is_black slot =
     leads_on rests of sound from at none is_black slot
+
+-- so a slot of one that is no weak map refers to a cell at which the last marking may start
+pub black_slots_lead_to_starts : BlackSlotsLeadToStarts
+black_slots_lead_to_starts heap cycle world from at whole rests of sound none is_black slot no_map =
+    let there = cell_there (slot_target from at whole slot) in
+    record {
+      cell = there.cell;
+      words = there.words;
+      has = there.has;
+      stands = there.stands;
+      used = there.used;
+      no_table = λ of_table. no_map (weak_slot from at whole slot there.has there.stands of_table);
+      given = leads_on rests of sound from at none is_black slot;
+    }
 
 -- in a page that is one free run none has a colour
 pub free_pages_are_white : FreePagesAreWhite

@@ -13,6 +13,7 @@ pub mod FreeStarts
 pub mod StepsAllowed
 pub mod WhiteWorlds
 pub mod FirstWorlds
+pub mod TableSlots
 pub mod LastMarking
 pub mod Scavenged
 pub mod MovedPages
@@ -20,3 +21,4 @@ pub mod Restarting
 pub mod RestingAgain
 pub mod DeadWords
 pub mod LostWords
+pub mod OwnCells

@@ -33,9 +33,10 @@ is_decided (Some m) n = elim (cases_eq m n) [
   | inr other ↦ inr (λ is. other (same_Some m n is))
 ]
 
--- numbers below another of which something holds, as a list
+-- exactly the numbers below another of which something holds, as a list
 pub record IsListed (P : ℕ → Type 0) (below : ℕ) : Type 0 where
   pub list : List ℕ
+  pub few : (at : ℕ) → Contains list at → at < below
   pub from : (at : ℕ) → Contains list at → P at
   pub all : (at : ℕ) → at < below → P at → Contains list at
 
@@ -43,6 +44,7 @@ pub record IsListed (P : ℕ → Type 0) (below : ℕ) : Type 0 where
 pub listed : (P : ℕ → Type 0) → ((at : ℕ) → IsDecided (P at)) → (below : ℕ) → IsListed P below
 listed P each zero = record {
   list = [];
+  few = λ at there. absurd (none_in at there);
   from = λ at there. absurd (none_in at there);
   all = λ at few. absurd (omega (arith, few));
 }
@@ -51,6 +53,10 @@ listed P each (suc last) =
     elim (each last) [
       | inl is ↦ record {
         list = last ∷ before.list;
+        few = λ at there. elim (in_cases last before.list at there) [
+          | inl same ↦ omega (arith, same)
+          | inr later ↦ omega (arith, before.few at later)
+        ];
         from = λ at there. elim (in_cases last before.list at there) [
           | inl same ↦ subst P same is
           | inr later ↦ before.from at later
@@ -62,6 +68,7 @@ listed P each (suc last) =
       }
       | inr none ↦ record {
         list = before.list;
+        few = λ at there. omega (arith, before.few at there);
         from = before.from;
         all = λ at few holds. elim (cases_eq at last) [
           | inl same ↦ absurd (none (subst P same holds))

@@ -69,4 +69,4 @@ lost_decided {heap} {graph} shows at =
 pub lost_words_are_listed : LostWordsAreListed
 lost_words_are_listed heap graph shows =
     let all = listed (IsLostWord heap graph) (lost_decided shows) (eden_start heap.space) in
-    (all.list, record { each = all.from; all = all.all })
+    (all.list, record { of_pages = all.few; each = all.from; all = all.all })

@@ -1,9 +1,8 @@
 -- What a step asks of the mutator holds of a cell of a page, where the heap rests: the cell's words are claimed.
-use Rattle.std.proofs.Common.{◌≡◌, ℕ, true, sym, ◌∙◌, subst}
+use Rattle.std.proofs.Common.{◌≡◌, ℕ, true, refl, sym, ◌∙◌, subst}
 use Rattle.std.proofs.lemmas.Option.{same_Some}
 use Rattle.cell_layout.specs.Cells.{reading_of}
 use Rattle.mark_world.specs.Pages.{is_quiet}
-use Rattle.mark_world.specs.Coverage.{cell_of}
 use Rattle.mark_laws.specs.Types.{Reading}
 use Rattle.heap_model.specs.Types.{Cell}
 use Rattle.heap_model.specs.Heaps.{Heap}
@@ -22,7 +21,8 @@ use Rattle.cycle_laws.specs.Steps.{MineMayBeginCells}
 claimed : {heap : Heap} {cycle : Cycle} {cell : Cell} {offset : ℕ} → Whole heap → Rests heap cycle
     → IsPageWord heap cell offset → Claims (world_in heap cycle) cell.at cell.size cell.layout.kind
 claimed {heap} {cycle} {cell} whole rests there =
-    page_cells_are_claimed heap cycle cell there.words whole rests there.has there.of_page
+    page_cells_are_claimed heap cycle (world_in heap cycle) cell there.words whole rests (record { is = refl })
+    there.has there.of_page
 
 -- so a slot may be stored
 pub slots_may_be_stored : SlotsMayBeStored

@@ -1,5 +1,7 @@
 -- What holds at the end of a cycle, when the last marking begins with the cells that have a colour.
-use Rattle.std.specs.Prelude.{◌≡◌, ◌≢◌, ◌≤◌, ◌<◌, ◌+◌, ◌⊎◌, ℕ}
+use Rattle.std.specs.Prelude.{◌≡◌, ◌≢◌, ◌≤◌, ◌<◌, ◌+◌, ◌⊎◌, ℕ, List, IsTrue}
+use Rattle.tagged_word.specs.declared.layout.Kind.TheVariants as kind
+use Rattle.tagged_word.specs.Cells.{is_free_kind}
 use Rattle.page_space.specs.Extents.{eden_start}
 use Rattle.page_space.specs.Sizes.{page_words}
 use Rattle.mark_world.specs.declared.world.World.{World}
@@ -8,8 +10,8 @@ use Rattle.mark_world.specs.Soundness.{Sound}
 use Rattle.mark_world.specs.BornCells.{Born}
 use Rattle.mark_world.specs.Steps.{white, black}
 use Rattle.mark_laws.specs.Runs.{HasNoneOut}
-use Rattle.heap_model.specs.Types.{Run}
-use Rattle.heap_model.specs.Heaps.{Heap}
+use Rattle.heap_model.specs.Types.{Cell, Run}
+use Rattle.heap_model.specs.Heaps.{Heap, HasCell}
 use Rattle.heap_model.specs.Wholeness.{Whole}
 use Rattle.heap_model.specs.Collectable.{IsFreeCell}
 use Rattle.live_cells.specs.Live.{HasSlotTo}
@@ -31,6 +33,25 @@ BlackSlotsLeadOn =
     (heap : Heap) (cycle : Cycle) (world : World) (from at : ℕ) → Rests heap cycle → IsWorldOf heap cycle world
     → Sound world → HasNoneOut world → colour_of world from ≡ black → HasSlotTo heap from at
     → (eden_start heap.space ≤ at) ⊎ (colour_of world at ≢ white)
+
+-- The last marking may start at the cell of the address: it is neither free nor a weak table, and is young or has a
+-- colour.
+pub record IsLastStart (heap : Heap) (world : World) (at : ℕ) : Type 0 where
+  pub cell : Cell
+  pub words : List ℕ
+  pub has : HasCell heap cell words
+  pub stands : cell.at ≡ at
+  pub used : IsTrue (is_free_kind cell.layout.kind) → ⊥
+  pub no_table : cell.layout.kind ≢ kind.Table
+  pub given : (eden_start heap.space ≤ at) ⊎ (colour_of world at ≢ white)
+
+-- So a slot of a black cell that is no weak map refers to such a cell: where all of them are given, black ones may be
+-- given as seen.
+abbrev pub BlackSlotsLeadToStarts : Type 0
+BlackSlotsLeadToStarts =
+    (heap : Heap) (cycle : Cycle) (world : World) (from at : ℕ) → Whole heap → Rests heap cycle
+    → IsWorldOf heap cycle world → Sound world → HasNoneOut world → colour_of world from ≡ black
+    → (slot : HasSlotTo heap from at) → slot.cell.layout.kind ≢ kind.Weak → IsLastStart heap world at
 
 -- in a page that is one free run no cell has a colour
 abbrev pub FreePagesAreWhite : Type 0

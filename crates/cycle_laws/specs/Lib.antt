@@ -6,3 +6,4 @@ pub mod Steps
 pub mod Ends
 pub mod Scavenges
 pub mod DeadWords
+pub mod OwnCells

@@ -1,9 +1,13 @@
 //! Laws of a cycle of marking, in the order of their use.
 ghost use Rattle.cycle_laws.specs.Changes.{ChangesKeepClosed, BindingsKeepClosed, NewObjectsKeepClosed};
-ghost use Rattle.cycle_laws.specs.DeadWords.{LostWordsAreListed, OpensWithNoLostWord, ChangesKeepNoWordOf};
-ghost use Rattle.cycle_laws.specs.DeadWords.{ScavengesKeepNoWordOf};
-ghost use Rattle.cycle_laws.specs.Ends.{ColouredIsKept, BlackSlotsLeadOn, FreePagesAreWhite};
+ghost use Rattle.cycle_laws.specs.DeadWords.{LostWordsAreListed, OpensAvoidingDead, ChangesAvoidDead};
+ghost use Rattle.cycle_laws.specs.DeadWords.{BindingsAvoidDead, NewObjectsAvoidDead, ScavengesAvoidDead};
+ghost use Rattle.cycle_laws.specs.DeadWords.{LiveHasNoDeadWord};
+ghost use Rattle.cycle_laws.specs.Ends.{ColouredIsKept, BlackSlotsLeadOn, BlackSlotsLeadToStarts};
+ghost use Rattle.cycle_laws.specs.Ends.{FreePagesAreWhite};
 ghost use Rattle.cycle_laws.specs.Openings.{CyclesOpen, FirstWorldsAreFresh};
+ghost use Rattle.cycle_laws.specs.OwnCells.{RunsHaveNoUsedWord, OpensWithNoOwnCell, ChangesAvoidOwnCells};
+ghost use Rattle.cycle_laws.specs.OwnCells.{ScavengesAvoidOwnCells};
 ghost use Rattle.cycle_laws.specs.Reached.{ReachedIsKept, LiveIsKept};
 ghost use Rattle.cycle_laws.specs.RestsAgain.{CommandsRest, BindingsRest, NewObjectsRest};
 ghost use Rattle.cycle_laws.specs.Scavenges.{ScavengesKeepClosed, ScavengesKeepCells, ScavengesRestart};
@@ -46,10 +50,12 @@ pub fn laws_of_steps()
 {}
 
 /// As a cycle ends, each cell that has a colour is a kept cell of a page. What a slot of a black one
-/// refers to is young, or has a colour. In a page that is one free run no cell has one.
+/// refers to is young, or has a colour, and is neither free nor a weak table, but for slots of weak maps. In
+/// a page that is one free run no cell has one.
 pub fn laws_of_ends()
     ensures coloured { ColouredIsKept }
     ensures black { BlackSlotsLeadOn }
+    ensures starts { BlackSlotsLeadToStarts }
     ensures pages { FreePagesAreWhite }
 {}
 
@@ -63,11 +69,23 @@ pub fn laws_of_scavenges()
 {}
 
 /// No cell of a page that a cycle keeps, and that is not free, has a word that belonged to nothing that
-/// could be reached when it opened: neither then, nor after commands and scavenges. These words of pages
-/// are a list.
+/// could be reached when it opened, and no free run has one: neither then, nor after commands and
+/// scavenges. These words of pages are a list. So the last marking marks no cell with such a word.
 pub fn laws_of_dead_words()
     ensures lost { LostWordsAreListed }
-    ensures open { OpensWithNoLostWord }
-    ensures changes { ChangesKeepNoWordOf }
-    ensures scavenges { ScavengesKeepNoWordOf }
+    ensures open { OpensAvoidingDead }
+    ensures changes { ChangesAvoidDead }
+    ensures bindings { BindingsAvoidDead }
+    ensures objects { NewObjectsAvoidDead }
+    ensures scavenges { ScavengesAvoidDead }
+    ensures live { LiveHasNoDeadWord }
+{}
+
+/// No free run has a word of a cell that is not free. So none has the address of a cell that the mutator
+/// made black itself: neither as a cycle opens, nor after commands and scavenges.
+pub fn laws_of_own_cells()
+    ensures used { RunsHaveNoUsedWord }
+    ensures open { OpensWithNoOwnCell }
+    ensures changes { ChangesAvoidOwnCells }
+    ensures scavenges { ScavengesAvoidOwnCells }
 {}

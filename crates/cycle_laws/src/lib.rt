@@ -9,6 +9,6 @@
 mod laws;
 
 pub use laws::{
-    laws_of_changes, laws_of_dead_words, laws_of_ends, laws_of_openings, laws_of_reached_cells,
-    laws_of_scavenges, laws_of_steps,
+    laws_of_changes, laws_of_dead_words, laws_of_ends, laws_of_openings, laws_of_own_cells,
+    laws_of_reached_cells, laws_of_scavenges, laws_of_steps,
 };

@@ -1,7 +1,8 @@
 -- What a step asks of the mutator holds of the words of a claimed cell, and they stay claimed.
 use Rattle.std.proofs.Common.{◌≡◌, ◌≢◌, ℕ, ◌+◌, ◌<◌, ◌≤◌, ◌⊎◌, inl, inr, true, false, not, List, length, Some, IsTrue}
 use Rattle.std.proofs.Common.{refl, sym, ◌∙◌, ap, subst, arith, length-take}
-use Rattle.std.proofs.lemmas.Bool.{and_left, and_right, or_left, or_right, not_from_false, false≢true, cases_eq, cases_lt}
+use Rattle.std.proofs.lemmas.Bool.{and_left, and_right, or_left, or_right, not_from_false, false≢true, cases_eq}
+use Rattle.std.proofs.lemmas.Bool.{cases_lt}
 use Rattle.std.proofs.lemmas.Bool.Decides.{nat_tests}
 use Rattle.core_parts.proofs.Joining.{decided}
 use Rattle.page_space.specs.Extents.{eden_start}
@@ -13,12 +14,14 @@ use Rattle.mark_laws.specs.Types.{Kind, Reading, World}
 use Rattle.mark_laws.proofs.Stores.{free_is}
 use Rattle.heap_model.specs.Types.{Cell}
 use Rattle.heap_model.specs.Heaps.{Heap, HasCell}
-use Rattle.heap_model.specs.Wholeness.{HasRows}
+use Rattle.heap_model.specs.Wholeness.{HasRows, Whole}
 use Rattle.heap_model.proofs.CellsApart.{cells_apart, first_of_cell, has_is_cell}
 use Rattle.cycle_state.specs.Claims.{ReadsBeside, Claims, is_head_in}
 use Rattle.cycle_state.specs.ClaimLaws.{PageCellsAreClaimed, ClaimsGoOn, ClaimsAllowSlots, ClaimsAllowOwned}
 use Rattle.cycle_state.specs.ClaimLaws.{ClaimsAllowHeaders, ClaimsAllowCells}
-use Rattle.cycle_state.specs.Cycles.{words_of_pages}
+use Rattle.cycle_state.specs.Cycles.{words_of_pages, world_in}
+use Rattle.cycle_state.specs.Resting.{Rests}
+use Rattle.mark_world.specs.Cycles.{Cycle}
 use Rattle.cycle_state.proofs.PageCells.{page_cells_are_read, page_cell_within}
 
 -- where a cell that a helper may read stands
@@ -49,9 +52,11 @@ cells_beside {heap} {one} {cell} {start = start} rows has_one has stands other =
   ]
 ]
 
--- the cells of pages are claimed
-pub page_cells_are_claimed : PageCellsAreClaimed
-page_cells_are_claimed heap cycle cell words whole rests has of_page =
+-- the cells of pages are claimed in the world with no helpers
+claimed_alone : {heap : Heap} {cycle : Cycle} {cell : Cell} {words : List ℕ} → Whole heap → Rests heap cycle
+    → HasCell heap cell words → cell.at < eden_start heap.space
+    → Claims (world_in heap cycle) cell.at cell.size cell.layout.kind
+claimed_alone {heap} {cycle} {cell} {words} whole rests has of_page =
     let within = page_cell_within has of_page in
     record {
       page = within;
@@ -73,6 +78,21 @@ page_cells_are_claimed heap cycle cell words whole rests has of_page =
             beside = cells_beside whole.rows there.has has there.stands other;
           };
     }
+
+-- so they are in each world of the heap's pages
+pub page_cells_are_claimed : PageCellsAreClaimed
+page_cells_are_claimed heap cycle world cell words whole rests of has of_page =
+    let alone = claimed_alone whole rests has of_page in
+    subst (λ (one : World). Claims one cell.at cell.size cell.layout.kind) (sym of.is)
+    (record {
+      page = alone.page;
+      there = alone.there;
+      own = λ free.
+          let it = alone.own free in
+          record { cell = it.cell; is = it.is; size_is = it.size_is; kind_is = it.kind_is };
+      others = λ start free other.
+          let it = alone.others start free other in record { cell = it.cell; is = it.is; beside = it.beside };
+    })
 
 -- they stay claimed while the world goes on
 pub claims_go_on : ClaimsGoOn
@@ -115,14 +135,19 @@ module _ {world : World} {at size : ℕ} {kind : Kind} (claims : Claims world at
     | inr behind ↦ grind (arith, nat_tests)
   ]
 
+  -- whichever it is
+  pub outside_other : (start : ℕ) → IsTrue (is_free world.main start) → start ≢ at
+      → is_inside start (cell_of world start) (at + offset) ≡ false
+  outside_other start free other =
+      let one = claims.others start free other in
+      ap (λ found. is_inside start found (at + offset)) one.is ∙ beside_it one
+
   -- nor in one of any, where its own is none
   outside_all : (IsTrue (is_free world.main at) → ⊥)
       → IsOutside world.old world.words world.layouts world.main (at + offset)
   outside_all not_free start free = elim (cases_eq start at) [
     | inl same ↦ absurd (not_free (subst (λ one. IsTrue (is_free world.main one)) same free))
-    | inr other ↦
-        let one = claims.others start free other in
-        ap (λ found. is_inside start found (at + offset)) one.is ∙ beside_it one
+    | inr other ↦ outside_other start free other
   ]
 
   -- it is no head of a free start's cell, where it is none of its own cell
@@ -144,7 +169,7 @@ module _ {world : World} {at size : ℕ} {kind : Kind} (claims : Claims world at
   ]
 
   -- and no helper minds it, where it is a quiet word of its own cell
-  left_alone : (IsTrue (is_free world.main at) → (cell : Reading) → cell_of world at ≡ Some cell
+  pub left_alone : (IsTrue (is_free world.main at) → (cell : Reading) → cell_of world at ≡ Some cell
       → is_quiet cell offset ≡ true)
       → EachFree world.main (λ start. leaves_alone start (cell_of world start) (at + offset) ≡ true)
   left_alone quiet start free = elim (cases_eq start at) [

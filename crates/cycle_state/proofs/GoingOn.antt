@@ -1,14 +1,16 @@
--- The mutator's lists only grow, and the cells of free starts read on, through each step of the mutator.
+-- The mutator's lists only grow, and the cells of free starts read on, through each event and along lists of events.
 use Rattle.std.proofs.Common.{◌≡◌, ℕ, ◌≢◌, ◌∙◌, inl, inr, false, min, Option, Some, Contains, IsTrue}
-use Rattle.std.proofs.Common.{List, length, refl, sym, subst, slice_index, length-set}
+use Rattle.std.proofs.Common.{List, take_all, length, refl, sym, ap, subst, slice_get, slice_index, length-set, arith}
 use Rattle.std.proofs.lemmas.Bool.{cases_eq}
 use Rattle.std.proofs.lemmas.List.Elements.{All-contains, All-contains_itself}
 use Rattle.tagged_word.specs.declared.layout.Kind.TheVariants as kind
 use Rattle.tagged_word.proofs.Cells.{some_same}
 use Rattle.mark_world.specs.declared.event.Event.TheVariants as event
 use Rattle.mark_world.specs.Pages.{OfTarget, is_free, is_head_of, is_inside, page_end, slots_of, target}
+use Rattle.mark_world.specs.Steps.{actor}
 use Rattle.mark_world.specs.Conditions.{MayMain, MayStoreHeader}
-use Rattle.mark_world.specs.AfterEvents.{PossibleStep, after_main, after_step}
+use Rattle.mark_world.specs.AfterEvents.{PossibleStep, after, after_all, after_main, after_step}
+use Rattle.mark_world.specs.AfterEvents.{moment}
 use Rattle.mark_world.specs.Coverage.{cell_of}
 use Rattle.mark_world.specs.Soundness.{AreIn}
 use Rattle.mark_laws.specs.Types.{Event, Actor, Laid, Reading, World}
@@ -20,12 +22,16 @@ use Rattle.mark_laws.proofs.Growing.{grown_from_itself, grown_twice, step_grows}
 use Rattle.mark_laws.proofs.Joins.{all_from, some_and}
 use Rattle.mark_laws.proofs.Laid.{cell_laid, safe_from}
 use Rattle.mark_laws.proofs.Listing.{some_weaker}
+use Rattle.mark_laws.proofs.Moments.{at_each_from, next_moment}
+use Rattle.mark_laws.proofs.PagesTell.{whole_main}
 use Rattle.mark_laws.proofs.Reading.{store_keeps}
 use Rattle.mark_laws.proofs.SafeChanges.{header_widens}
+use Rattle.mark_laws.proofs.SamePages.{SamePages, helper_pages, return_pages, same_cells}
 use Rattle.mark_laws.proofs.Slots.{outside_no_head}
+use Rattle.mark_laws.proofs.SoundRuns.{whole_along}
 use Rattle.mark_laws.proofs.Stores.{header_laid, stored}
 use Rattle.cycle_state.specs.Claims.{ReadsOn, GoesOn}
-use Rattle.cycle_state.specs.ClaimLaws.{GoesOnItself, GoesOnAgain, StepsGoOn, TargetsGoOn}
+use Rattle.cycle_state.specs.ClaimLaws.{GoesOnItself, GoesOnAgain, EventsGoOn, GoesOnAlong, MomentsGoOn, TargetsGoOn}
 
 -- a cell that reads as before reads on
 reads_itself : (next : World) (start : ℕ) (cell : Reading) → cell_of next start ≡ Some cell → ReadsOn next start cell
@@ -149,19 +155,65 @@ main_keeps world (event.LoadLength number) = (refl, refl)
 main_keeps world (event.LoadSlot number offset) = (refl, refl)
 main_keeps world of = (refl, refl)
 
--- so a world goes on through each
-pub steps_go_on : StepsGoOn
-steps_go_on world of sound is possible =
-    let may = subst (PossibleStep world of) is possible in
-    let keeps = main_keeps world of in
-    let there : GoesOn world (after_main world of) = record {
+-- a cell reads on where the pages are as they were
+same_reads : (world next : World) → SamePages world next → (start : ℕ) (cell : Reading)
+    → cell_of world start ≡ Some cell → ReadsOn next start cell
+same_reads world next same start cell is = reads_itself next start cell (same_cells world next same start ∙ is)
+
+-- each free start reads on through a step of anyone
+step_reads : (world : World) (of : Event) (by : Actor) → HasMainSound world → PossibleStep world of by → (start : ℕ)
+    → IsTrue (is_free world.main start) → (cell : Reading) → cell_of world start ≡ Some cell
+    → ReadsOn (after_step world of by) start cell
+step_reads world of Actor.Mutator sound may start free cell is = main_reads world of sound may start free cell is
+step_reads world of (Actor.Helper number) sound may start free cell is =
+    same_reads world (after_step world of (Actor.Helper number))
+    (helper_pages world number of (slice_get world.helpers number)) start cell is
+step_reads world of Actor.Lends sound may start free cell is =
+    reads_itself (after_step world of Actor.Lends) start cell is
+step_reads world of (Actor.Returns number) sound may start free cell is =
+    same_reads world (after_step world of (Actor.Returns number))
+    (return_pages world number (slice_get world.helpers number)) start cell is
+
+-- it leaves the pages where they are, and as many words
+step_keeps : (world : World) (of : Event) (by : Actor)
+    → ((after_step world of by).old ≡ world.old) × (length (after_step world of by).words ≡ length world.words)
+step_keeps world of Actor.Mutator = main_keeps world of
+step_keeps world of (Actor.Helper number) =
+    let same = helper_pages world number of (slice_get world.helpers number) in (same.old, ap length same.words)
+step_keeps world of Actor.Lends = (refl, refl)
+step_keeps world of (Actor.Returns number) =
+    let same = return_pages world number (slice_get world.helpers number) in (same.old, ap length same.words)
+
+-- so a world goes on through each event
+pub events_go_on : EventsGoOn
+events_go_on world of sound possible =
+    let keeps = step_keeps world of (actor of) in
+    record {
       old = keeps.0;
       long = keeps.1;
-      grows = step_grows world of Actor.Mutator;
-      free = step_free world of Actor.Mutator;
-      reads = λ start free. main_reads world of sound may start (step_free world of Actor.Mutator start free);
-    } in
-    subst (λ (by : Actor). GoesOn world (after_step world of by)) (sym is) there
+      grows = step_grows world of (actor of);
+      free = step_free world of (actor of);
+      reads = λ start free.
+          step_reads world of (actor of) sound possible start (step_free world of (actor of) start free);
+    }
+
+-- from each moment of events to each later one
+pub moments_go_on : MomentsGoOn
+moments_go_on start events from to whole later within were =
+    let first : World = moment start events from in
+    at_each_from events from to (λ k. GoesOn first (moment start events k)) within (goes_on_itself first)
+    (λ k of begun early there before.
+    let now : World = moment start events k in
+    let sound = whole_along start events to whole within were k (omega (arith, early)) in
+    subst (GoesOn first) (sym (next_moment start events k of there))
+    (goes_on_again first now (after now of) before
+    (events_go_on now of (whole_main now sound.0 sound.1) (were k of early there)))) to later (omega arith)
+
+-- and along a list of them
+pub goes_on_along : GoesOnAlong
+goes_on_along start events whole were =
+    subst (λ (list : List Event). GoesOn start (after_all start list)) (take_all (length events) events (omega arith))
+    (moments_go_on start events 0 (length events) whole (omega arith) (omega arith) were)
 
 -- a word's target that is in a list is in one that has grown
 grown_target : (old now word : ℕ) (list later : List ℕ) → now ≡ old → AreIn later list

@@ -1,20 +1,20 @@
 -- Laws of claimed cells: what a step asks of the mutator holds of their words, from step to step.
-use Rattle.std.specs.Prelude.{◌≡◌, ℕ, ◌+◌, ◌<◌, true, false, List, Contains, Some, IsTrue, slice_index}
+use Rattle.std.specs.Prelude.{◌≡◌, ℕ, ◌+◌, ◌<◌, ◌≤◌, true, false, List, Contains, Some, IsTrue, length, slice_index}
 use Rattle.page_space.specs.Extents.{eden_start}
 use Rattle.mark_world.specs.Pages.{OfTarget, is_free, is_quiet}
 use Rattle.mark_world.specs.Safety.{FitsTaggedSlot, IsSafe}
-use Rattle.mark_world.specs.Steps.{actor}
 use Rattle.mark_world.specs.Conditions.{AreSureAfter, MayStoreSlot, MayStoreOwned, MayStoreHeader, MayBeNew}
-use Rattle.mark_world.specs.AfterEvents.{Possible, after}
+use Rattle.mark_world.specs.AfterEvents.{Possible, WerePossible, after, after_all, moment}
 use Rattle.mark_world.specs.Coverage.{cell_of}
-use Rattle.mark_laws.specs.Types.{Kind, Event, Reading, Actor, World}
+use Rattle.mark_laws.specs.Types.{Kind, Event, Reading, World}
 use Rattle.mark_laws.specs.PageWords.{HasMainSound}
+use Rattle.mark_laws.specs.Runs.{IsSoundAndBorn}
 use Rattle.heap_model.specs.Types.{Cell}
 use Rattle.heap_model.specs.Heaps.{Heap, HasCell}
 use Rattle.heap_model.specs.Wholeness.{Whole}
 use Rattle.mark_world.specs.Cycles.{Cycle}
 use Rattle.cycle_state.specs.Claims.{GoesOn, Claims, is_head_in}
-use Rattle.cycle_state.specs.Cycles.{world_in}
+use Rattle.cycle_state.specs.Cycles.{IsWorldOf}
 use Rattle.cycle_state.specs.Resting.{Rests}
 
 -- a world goes on to itself
@@ -25,18 +25,28 @@ GoesOnItself = (world : World) → GoesOn world world
 abbrev pub GoesOnAgain : Type 0
 GoesOnAgain = (first next last : World) → GoesOn first next → GoesOn next last → GoesOn first last
 
--- it goes on through each possible step of the mutator
-abbrev pub StepsGoOn : Type 0
-StepsGoOn =
-    (world : World) (of : Event) → HasMainSound world → actor of ≡ Actor.Mutator → Possible world of
-    → GoesOn world (after world of)
+-- it goes on through each possible event: a step of the mutator or of a helper, a seat lent or taken back
+abbrev pub EventsGoOn : Type 0
+EventsGoOn = (world : World) (of : Event) → HasMainSound world → Possible world of → GoesOn world (after world of)
 
--- Where a heap rests in a cycle, the words of each cell of a page are claimed.
+-- so it does along a list of events that were possible, from a sound world where marking reaches only born cells
+abbrev pub GoesOnAlong : Type 0
+GoesOnAlong =
+    (start : World) (events : List Event) → IsSoundAndBorn start → WerePossible start events (length events)
+    → GoesOn start (after_all start events)
+
+-- from each moment of events to each later one
+abbrev pub MomentsGoOn : Type 0
+MomentsGoOn =
+    (start : World) (events : List Event) (from to : ℕ) → IsSoundAndBorn start → from ≤ to → to ≤ length events
+    → WerePossible start events to → GoesOn (moment start events from) (moment start events to)
+
+-- Where a heap rests in a cycle, the words of each cell of a page are claimed, whatever helpers are at work.
 abbrev pub PageCellsAreClaimed : Type 0
 PageCellsAreClaimed =
-    (heap : Heap) (cycle : Cycle) (cell : Cell) (words : List ℕ) → Whole heap → Rests heap cycle
-    → HasCell heap cell words → cell.at < eden_start heap.space
-    → Claims (world_in heap cycle) cell.at cell.size cell.layout.kind
+    (heap : Heap) (cycle : Cycle) (world : World) (cell : Cell) (words : List ℕ) → Whole heap → Rests heap cycle
+    → IsWorldOf heap cycle world → HasCell heap cell words → cell.at < eden_start heap.space
+    → Claims world cell.at cell.size cell.layout.kind
 
 -- They stay claimed while the world goes on.
 abbrev pub ClaimsGoOn : Type 0

@@ -16,7 +16,7 @@ pub record ReadsOn (next : World) (start : ℕ) (before : Reading) : Type 0 wher
   pub widens : Widens before cell
 
 -- One world goes on to another: there are as many words, the mutator's lists only grow, and each free start was one
--- and reads on.
+-- and reads on. So it is through each event, of the mutator, of a helper or of a seat.
 pub record GoesOn (world next : World) : Type 0 where
   pub old : next.old ≡ world.old
   pub long : length next.words ≡ length world.words

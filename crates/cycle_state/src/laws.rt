@@ -1,5 +1,6 @@
 //! What the world of marking reads of a heap's pages, and what commands may do to a cell of a page.
-ghost use Rattle.cycle_state.specs.ClaimLaws.{GoesOnItself, GoesOnAgain, StepsGoOn, PageCellsAreClaimed};
+ghost use Rattle.cycle_state.specs.ClaimLaws.{GoesOnItself, GoesOnAgain, EventsGoOn, GoesOnAlong, MomentsGoOn};
+ghost use Rattle.cycle_state.specs.ClaimLaws.{PageCellsAreClaimed};
 ghost use Rattle.cycle_state.specs.ClaimLaws.{ClaimsGoOn, TargetsGoOn, ClaimsAllowSlots, ClaimsAllowOwned};
 ghost use Rattle.cycle_state.specs.ClaimLaws.{ClaimsAllowHeaders, ClaimsAllowCells};
 ghost use Rattle.cycle_state.specs.Laws.{PageCellsAreRead, PageWordsAreRead};
@@ -10,13 +11,15 @@ pub fn laws_of_page_cells()
     ensures words { PageWordsAreRead }
 {}
 
-/// A world goes on to another one through steps of the mutator. Where a heap rests in a cycle, the words
-/// of each cell of a page are claimed, and they stay so while the world goes on; so do targets that are
-/// born, or of which the mutator is sure.
+/// A world goes on to another one through events, whoever takes part in them. Where a heap rests in a
+/// cycle, the words of each cell of a page are claimed, and they stay so while the world goes on; so do
+/// targets that are born, or of which the mutator is sure.
 pub fn laws_of_going_on()
     ensures itself { GoesOnItself }
     ensures again { GoesOnAgain }
-    ensures steps { StepsGoOn }
+    ensures events { EventsGoOn }
+    ensures along { GoesOnAlong }
+    ensures moments { MomentsGoOn }
     ensures cells { PageCellsAreClaimed }
     ensures stay { ClaimsGoOn }
     ensures targets { TargetsGoOn }

@@ -32,8 +32,8 @@ pub record StandsInHeap (heap : Heap) (at : ℕ) : Type 0 where
   pub has : HasCell heap cell words
   pub stands : cell.at ≡ at
 
--- Where a cell was given as seen, and is no weak map, its slots that marking visits refer to nothing but cells that were
--- given.
+-- Where a cell was given as seen, and is no weak map, its slots that marking visits refer to nothing but cells that
+-- were given.
 abbrev pub SeenLeadToGiven : Heap → Marked → Type 0
 SeenLeadToGiven heap marking =
     (from to : ℕ) → Contains marking.seen from → (IsWeakCellAt heap from → ⊥) → HasSlotTo heap from to

@@ -35,8 +35,8 @@ pub record HasPutEntry (old new : Mutator) (graph : Graph) (map key : ℕ) (weak
   pub counts : count_at (heap_of new) map ≡ (room_put (map_room old map weak) (entry_value weak.entries number)).entries
   pub shows : MainShows new (reweave graph weak (with_entry weak.entries number value))
 
--- `put`: the entry of the key has the value; or the key is new and as many pairs are filled as the map may have entries,
--- or there is no room, in this order, and nothing changes.
+-- `put`: the entry of the key has the value; or the key is new and as many pairs are filled as the map may have
+-- entries, or there is no room, in this order, and nothing changes.
 abbrev pub PutsEntry : Mutator → Mutator → Graph → (map key : ℕ) → WeakObject → ℕ → Value
     → Result Unit TableStop → Type 0
 PutsEntry old new graph map key weak number value (Ok _) = HasPutEntry old new graph map key weak number value

@@ -127,7 +127,6 @@ pub(crate) fn put_in_new_table(
     rehash(main, table, new);
     let word = boxed_word(main, content, at + words);
     insert_rehashed(main, new, key, word);
-    main.made(at);
     main.store(map, STORE_SLOT, Word::reference(at));
     main.write_slot(map, COUNT, (count + 1) as u64);
     Ok(())

@@ -34,7 +34,6 @@ fn fill_weak(main: &mut Main, table: u32, offset: u32, filling: SlotWrite)
         SlotWrite::Raw(word) => main.write_slot(table, offset, word),
         SlotWrite::NewBox { at, v } => {
             make_box(main, at, v);
-            main.made(at);
             main.store_weak(table, offset, Word::reference(at));
         }
         SlotWrite::OldBox { at, v } => main.write_slot(at, 1, v.cast_unsigned()),

@@ -48,6 +48,7 @@ pub each_fewer : (runs : List Run) (n : ℕ) → longest_in runs < n → AreShor
 each_fewer runs n fewer place d below = omega (arith, fewer, bounds runs place d below)
 
 -- the longest of two lists of runs is the longer one of theirs
-pub longest_joined : (first second : List Run) → longest_in (first ++ second) ≡ max (longest_in first) (longest_in second)
+pub longest_joined : (first second : List Run)
+    → longest_in (first ++ second) ≡ max (longest_in first) (longest_in second)
 longest_joined [] second = omega arith
 longest_joined (run ∷ more) second = omega (arith, longest_joined more second)

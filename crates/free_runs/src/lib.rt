@@ -1,7 +1,7 @@
-//! Free runs: the words of the old generation's pages that a promotion may take.
+//! Free runs: the words of the old generation's pages that a promotion or a grant may take.
 //!
-//! Model: for each page a list of runs, of `specs/FreeRuns.antt`. A promotion takes words from them,
-//! and a sweep would put a page's runs. It reads and writes no word of the heap.
+//! Model: for each page a list of runs, of `specs/FreeRuns.antt`. A promotion or a grant takes words
+//! from them, and a sweep puts a page's runs anew. The crate reads and writes no word of the heap.
 //! Invariant: the runs of a page lie in it, have at least one word each, ascend, and neither
 //! overlap nor touch. So a page has at most 1,024 of them, and room for these is there from the
 //! start: no call takes memory later.

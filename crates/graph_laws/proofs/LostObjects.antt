@@ -23,7 +23,8 @@ pub stays_itself : (graph : Graph) → StaysLost graph graph
 stays_itself graph = record { grows = omega arith; lost = λ number within marked. marked }
 
 -- and where it does twice
-pub stays_twice : (before middle after : Graph) → StaysLost before middle → StaysLost middle after → StaysLost before after
+pub stays_twice : (before middle after : Graph) → StaysLost before middle → StaysLost middle after
+    → StaysLost before after
 stays_twice before middle after first second = record {
   grows = omega (arith, first.grows, second.grows);
   lost = λ number within marked.

@@ -35,7 +35,8 @@ grew_with before after (fault word) is = absurd (none-some after is)
 grew_by : (limits : Limits) (names : List (List ℕ)) (before after : Told) (command : Option Command)
     → tell limits names before command ≡ Some after → Grew before after
 grew_by limits names before after None is = grew_by_none before after is
-grew_by limits names before after (Some command) is = grew_with before after (meaning limits names before.graph command) is
+grew_by limits names before after (Some command) is =
+    grew_with before after (meaning limits names before.graph command) is
 
 -- lines only add bytes
 grew_from : (limits : Limits) (names : List (List ℕ)) (before after : Told) (lines : List Executed)

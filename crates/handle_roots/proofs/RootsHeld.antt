@@ -97,7 +97,8 @@ first_stays space words variable other held apart =
 
 -- and so does its second one
 second_stays : (space : Space) (words : List ℕ) (variable other : ℕ) (held : Held) → other ≢ variable →
-    slice_get (with_root space words variable held) (root_at space other + 1) ≡ slice_get words (root_at space other + 1)
+    slice_get (with_root space words variable held) (root_at space other + 1)
+    ≡ slice_get words (root_at space other + 1)
 second_stays space words variable other held apart =
     slice_get-with_root space words variable (root_at space other + 1) held
     (λ same. omega (arith, same)) (λ same. apart (omega (arith, same)))

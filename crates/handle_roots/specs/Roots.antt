@@ -53,4 +53,5 @@ pub record IsRoot (space : Space) (words : List ℕ) (variable : ℕ) : Type 0 w
 -- the words with the two root words of the variable made those of a value
 abbrev pub with_root : Space → List ℕ → ℕ → Held → List ℕ
 with_root space words variable held =
-    slice_set (slice_set words (root_at space variable) (first_word held)) (root_at space variable + 1) (second_word held)
+    slice_set (slice_set words (root_at space variable) (first_word held)) (root_at space variable + 1)
+    (second_word held)

@@ -28,5 +28,6 @@ sound_behind heap least cell rows before first sound other words has below = eli
       let from : cell.at ≤ other.at = first.first other words has late in
       let same : cell ≡ other =
       cells_apart other.at rows first.has has (record { from = from; below = below }) (first_of_cell has) in
-      sound_there heap other words has (subst (λ (one : Cell). IsSoundCell heap one (words_of_cell heap one)) same sound)
+      sound_there heap other words has (subst (λ (one : Cell). IsSoundCell heap one (words_of_cell heap one)) same
+      sound)
 ]

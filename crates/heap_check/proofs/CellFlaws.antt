@@ -59,7 +59,8 @@ pub finds_behind : (heap : Heap) (least : ℕ) (next : Cell) (one other : Option
     → IsNextCell heap least next → 1 ≤ next.size → IsVerdict (SoundBefore heap least) (BreaksBefore heap least) one
     → IsVerdict (IsSoundCell heap next (words_of_cell heap next))
     (BreaksOf next.layout.kind heap next (words_of_cell heap next)) other
-    → IsVerdict (SoundBefore heap (next.at + next.size)) (BreaksBefore heap (next.at + next.size)) (earlier_of one other)
+    → IsVerdict (SoundBefore heap (next.at + next.size)) (BreaksBefore heap (next.at + next.size))
+    (earlier_of one other)
 finds_behind heap least next one other rows is some before here =
     let end : ℕ = next.at + next.size in
     let words : List ℕ = words_of_cell heap next in

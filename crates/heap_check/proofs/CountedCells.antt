@@ -28,10 +28,12 @@ counts_on first counts =
 
 -- where no cell stands from there on, all are counted
 pub counts_over_all : {heap : Heap} {rows : List Row} {at objects entries : ℕ} → HasRows heap → AreRows heap rows
-    → HasNoCellFrom heap at → CountsTo heap at objects entries → CountsCellsAndPairs heap (objects_in rows) objects entries
+    → HasNoCellFrom heap at → CountsTo heap at objects entries
+    → CountsCellsAndPairs heap (objects_in rows) objects entries
 counts_over_all {heap} {rows} {at} whole are none counts =
     elim (cases_lt at (roots_start heap.space)) [
-      | inl before ↦ counts_all {to = roots_start heap.space} whole are (omega arith) (counts_further (omega (arith, before))
+      | inl before ↦
+          counts_all {to = roots_start heap.space} whole are (omega arith) (counts_further (omega (arith, before))
           (λ other words has object from below.
           let short = none other words has in
           absurd (omega (arith, from, short))) counts)

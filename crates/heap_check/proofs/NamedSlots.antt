@@ -215,7 +215,8 @@ names_slot {heap} {cell} {offset} {word} {old} {new} stands namer among reads ma
           elim (below_or_here slot at below) [
             | inl before ↦ elim (below_or_here other at below_too) [
               | inl before_too ↦ names.once owner another slot other named one two before before_too
-              | inr same ↦ absurd (marked.fresh named (here another other named same two) (was owner slot named before one))
+              | inr same ↦
+                  absurd (marked.fresh named (here another other named same two) (was owner slot named before one))
             ]
             | inr same ↦ elim (below_or_here other at below_too) [
               | inl before_too ↦ absurd (marked.fresh named (here owner slot named same one)

@@ -20,7 +20,8 @@ behind_zero to zero (BreaksBlank.word at found ahead below there other) = elim (
 
 -- the first word that is not 0 is the flaw
 pub blank_first : (heap : Heap) (from end : ℕ) (flaw : Flaw) → from ≤ flaw.at → flaw.at < end
-    → slice_get heap.words flaw.at ≡ Some flaw.found → flaw.found ≢ 0 → flaw.wanted ≡ 0 → IsZeroBetween heap from flaw.at
+    → slice_get heap.words flaw.at ≡ Some flaw.found → flaw.found ≢ 0 → flaw.wanted ≡ 0
+    → IsZeroBetween heap from flaw.at
     → IsFirst (BreaksBlank heap from end) flaw
 blank_first heap from end flaw ahead below there other wanted zero = record {
   breaks = breaks_there (BreaksBlank heap from end) (BreaksBlank.word flaw.at flaw.found ahead below there other) refl

@@ -113,8 +113,11 @@ whole_has_no_flaw heap flaw limits whole blank (IsFirstFlaw.of_layouts few words
     layouts_sound heap flaw.at flaw.found flaw.wanted whole.sized.layouts is.breaks
 whole_has_no_flaw heap flaw limits whole blank (IsFirstFlaw.of_rows few sized is) =
     rows_apart limits whole.rows blank is.breaks
-whole_has_no_flaw heap flaw limits whole blank (IsFirstFlaw.of_survivors sized empty is) = survivors_apart whole.rows is.breaks
-whole_has_no_flaw heap flaw limits whole blank (IsFirstFlaw.of_roots sized rows empty is) = roots_apart whole.roots is.breaks
+whole_has_no_flaw heap flaw limits whole blank (IsFirstFlaw.of_survivors sized empty is) =
+    survivors_apart whole.rows is.breaks
+whole_has_no_flaw heap flaw limits whole blank (IsFirstFlaw.of_roots sized rows empty is) =
+    roots_apart whole.roots is.breaks
 whole_has_no_flaw heap flaw limits whole blank (IsFirstFlaw.of_cells frame is) =
     cells_exclude heap flaw.at flaw.found flaw.wanted is.breaks whole.sound
-whole_has_no_flaw heap flaw limits whole blank (IsFirstFlaw.of_owners frame sound is) = owners_apart whole.owned is.breaks
+whole_has_no_flaw heap flaw limits whole blank (IsFirstFlaw.of_owners frame sound is) =
+    owners_apart whole.owned is.breaks

@@ -79,8 +79,8 @@ pub data BreaksSurvivors (heap : Heap) : ℕ → ℕ → ℕ → Type 0 where
 abbrev pub unbound_word : ℕ
 unbound_word = bits_of (Odd unbound_code)
 
--- The first root word of a variable stands for nothing, beside 0 as beside the second one: nothing bound is asked for. Or
--- it stands for something beside 0, and the second one is not 0.
+-- The first root word of a variable stands for nothing, beside 0 as beside the second one: nothing bound is asked for.
+-- Or it stands for something beside 0, and the second one is not 0.
 pub data BreaksRoot (heap : Heap) (variable : ℕ) : ℕ → ℕ → ℕ → Type 0 where
   first : (found second : ℕ) → slice_get heap.words (root_at heap.space variable) ≡ Some found
       → slice_get heap.words (root_at heap.space variable + 1) ≡ Some second

@@ -6,16 +6,19 @@ use Rattle.heap_check.specs.declared.checker.CheckStop.{CheckStop}
 use Rattle.heap_check.specs.declared.checker.CheckStop.TheVariants.{Flaw as Broken, NoMemory}
 use Rattle.heap_check.specs.declared.counts.Counts.{Counts}
 use Rattle.heap_check.specs.declared.flaw.Flaw.{Flaw}
-use Rattle.heap_check.specs.Counting.{IsCountOf}
+use Rattle.live_cells.specs.Census.{objects_in}
+use Rattle.live_cells.specs.Counting.{CountsCellsAndPairs}
 use Rattle.page_space.specs.Sizes.{AreWithin}
 use Rattle.heap_check.specs.FirstFlaws.{IsFirstFlaw}
 use Rattle.heap_check.specs.LayoutParts.{HasBlankRows}
 
--- the heap is whole, with 0 in each word that no cell uses, and has so many objects and entries
+-- The heap is whole, with 0 in each word that no cell uses. So many cells of objects stand in its rows, and its weak
+-- maps count so many pairs together.
 pub record IsCounted (heap : Heap) (counts : Counts) : Type 0 where
   pub whole : Whole heap
   pub blank : Blank heap
-  pub counted : (rows : List Row) → AreRows heap rows → IsCountOf heap rows counts
+  pub counted : (rows : List Row) → AreRows heap rows
+      → CountsCellsAndPairs heap (objects_in rows) counts.objects counts.entries
 
 -- either the heap is whole, and these are its counts; or this is its first flaw
 abbrev pub Judges : Heap → Result Counts Flaw → Type 0

@@ -15,5 +15,4 @@ pub mod Rows
 pub mod SpanFlaws
 pub mod Flags
 pub mod Names
-pub mod Counting
 pub mod Judging

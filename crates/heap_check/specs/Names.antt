@@ -27,7 +27,8 @@ pub record IsBesideBefore (heap : Heap) (to at : ℕ) : Type 0 where
   pub before : object.at < to
   pub is : IsBesideOf heap object at
 
--- there is a flag for each word, and it is set exactly at the cells to which slot 1 of an object before an address refers
+-- there is a flag for each word, and it is set exactly at the cells to which slot 1 of an object before an address
+-- refers
 pub record MarksBesideBefore (heap : Heap) (to : ℕ) (flags : List Bool) : Type 0 where
   pub as_many : length flags ≡ length heap.words
   pub only : (at : ℕ) → slice_get flags at ≡ Some true → IsBesideBefore heap to at

@@ -39,7 +39,8 @@ pub data BreaksRegion (heap : Heap) (start : ℕ) : ℕ → ℕ → ℕ → Type
       → slice_get heap.words at ≡ Some found → found ≢ 0
       → BreaksRegion heap start at found 0
 
--- all regions have used rows with 0 behind them, their survivors have so many words, and the flags of all cells were set
+-- all regions have used rows with 0 behind them, their survivors have so many words, and the flags of all cells were
+-- set
 pub record MarksRows (heap : Heap) (survivors : ℕ) (old new : List Bool) : Type 0 where
   pub rows : List Row
   pub are : AreRows heap rows

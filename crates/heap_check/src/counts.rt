@@ -4,9 +4,8 @@ ghost use Rattle.heap_model.specs.Images.{image_heap};
 ghost use Rattle.heap_model.specs.Heaps.{Row, AreRows};
 ghost use Rattle.heap_model.specs.Wholeness.{Whole};
 ghost use Rattle.image_walk.specs.Spans.{StandsIn};
-ghost use Rattle.live_cells.specs.Census.{pairs_counted};
-ghost use Rattle.live_cells.specs.Counting.{CountsTo, word_pairs_most};
-ghost use Rattle.heap_check.specs.Counting.{IsCountOf};
+ghost use Rattle.live_cells.specs.Census.{objects_in, pairs_counted};
+ghost use Rattle.live_cells.specs.Counting.{CountsCellsAndPairs, CountsTo, word_pairs_most};
 
 use cell_layout::Cell;
 use heap_model::HeapImage;
@@ -25,7 +24,7 @@ pub struct Counts {
 pub(crate) fn count(image: &HeapImage) -> Counts
     requires whole { Whole (image_heap image.now) }
     ensures { (rows : List Row) → AreRows (image_heap image.now) rows
-        → IsCountOf (image_heap image.now) rows result }
+        → CountsCellsAndPairs (image_heap image.now) (objects_in rows) result.objects result.entries }
 {
     let mut counts = Counts {
         objects: 0,

@@ -156,7 +156,8 @@ fn flaw_of_pair(image: &HeapImage, starts: &[bool], table: Span, place: u32) -> 
 
 /// The flaw of a value's slot beside a hole.
 fn flaw_of_none(at: u32, found: u64) -> Option<Flaw>
-    ensures { IsVerdict (found ≡ hole_word) (BreaksWord at found (λ word. word ≡ hole_word) (λ word. hole_word)) result }
+    ensures { IsVerdict (found ≡ hole_word)
+        (BreaksWord at found (λ word. word ≡ hole_word) (λ word. hole_word)) result }
 {
     if is_hole(found) {
         return None;

@@ -9,8 +9,8 @@ use thiserror::Error;
 #[derive(Clone, Copy, Debug, PartialEq, Eq, Error)]
 #[error("word {at} is {found}, and {wanted} is asked for")]
 pub struct Flaw {
-    /// Its address. What is no word of a heap has the number of a heap's words here: how many words of eden are used, how
-    /// many words the survivors have, and how many words there are.
+    /// Its address. What is no word of a heap has the number of a heap's words here: how many words of eden are used,
+    /// how many words the survivors have, and how many words there are.
     pub at: u32,
     /// The word that stands there, or that number.
     pub found: u64,

@@ -57,8 +57,8 @@ fn mark_beside_cell(image: &HeapImage, starts: &[bool], beside: &mut [bool], cel
     }
 }
 
-/// The first slot that names what a slot before it names. Slots of objects name something, and those of the cells beside
-/// them.
+/// The first slot that names what a slot before it names. Slots of objects name something, and those of the cells
+/// beside them.
 pub(crate) fn flaw_of_owners(
     image: &HeapImage,
     starts: &[bool],

@@ -39,7 +39,7 @@ fn flaw_of_root(image: &HeapImage, starts: &[bool], variable: u32) -> Option<Fla
         IsVerdict (HasRoot heap variable) (BreaksRoot heap variable) result }
 {
     // No address of a heap is past 32 bits.
-    let _words_count = image.regions.count();
+    image.regions.sizes_fit();
     let at = image.regions.root_at(variable);
     let first = image.words.as_slice()[at as usize];
     let second = image.words.as_slice()[at as usize + 1];

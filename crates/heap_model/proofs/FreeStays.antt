@@ -1,5 +1,5 @@
--- Free runs of pages stay free cells where objects change inside their own cells, and where a variable is bound anew; and
--- so do the fillers of a range.
+-- Free runs of pages stay free cells where objects change inside their own cells, and where a variable is bound anew;
+-- and so do the fillers of a range.
 use Rattle.std.proofs.Common.{◌≡◌, ℕ, ◌+◌, ◌<◌, ◌≤◌, List, Contains, IsTrue, refl, sym, ap, subst, arith}
 use Rattle.tagged_word.specs.Cells.{is_free_kind}
 use Rattle.page_space.specs.Extents.{Space, eden_start}
@@ -33,7 +33,8 @@ free_stays same moves avoids is = record {
   words = is.words;
   has = free_cell_stays moves is.has is.free (λ filled.
       let begins = filled.begins in
-      avoids begins.other begins.among (omega (arith, begins.from, is.stands)) (omega (arith, begins.below, is.stands)));
+      avoids begins.other begins.among (omega (arith, begins.from, is.stands))
+      (omega (arith, begins.below, is.stands)));
   stands = is.stands;
   size = is.size;
   of_page = subst (λ (space : Space). is.cell.at < eden_start space) (sym same) is.of_page;
@@ -55,7 +56,8 @@ filler_stays moves avoids is = record {
   words = is.words;
   has = free_cell_stays moves is.has (ap is_free_kind is.filler) (λ filled.
       let begins = filled.begins in
-      avoids begins.other begins.among (omega (arith, begins.from, is.stands)) (omega (arith, begins.below, is.stands)));
+      avoids begins.other begins.among (omega (arith, begins.from, is.stands))
+      (omega (arith, begins.below, is.stands)));
   stands = is.stands;
   filler = is.filler;
 }

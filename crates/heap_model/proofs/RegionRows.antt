@@ -77,7 +77,8 @@ one_row_from {heap} {start} {row} {other} limits is is_too =
     (one_extent heap.space row.extent other.extent limits is.among is_too.among (is.starts ∙ sym is_too.starts))
 
 -- it is of the region that stands there
-pub of_region : {heap : Heap} {start end : ℕ} {row : Row} → IsSpace heap.space → (stands : StandsBetween heap.space start end)
+pub of_region : {heap : Heap} {start end : ℕ} {row : Row} → IsSpace heap.space
+    → (stands : StandsBetween heap.space start end)
     → IsRowFrom heap start row → row.extent ≡ stands.extent
 of_region {heap} {row = row} limits stands is =
     one_extent heap.space row.extent stands.extent limits is.among stands.among (is.starts ∙ sym stands.starts)

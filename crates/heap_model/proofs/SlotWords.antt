@@ -50,7 +50,8 @@ store_target (IsStoreWord.store cell words target is) refers =
 -- a property store or the elements of a list
 beside_word : {heap : Heap} (word : ℕ) (slots : List ℕ) → HoldsStore heap kind.Store word slots → IsStoreWord heap word
 beside_word word slots HoldsStore.none = IsStoreWord.none refl
-beside_word word slots (HoldsStore.store to cell words refers of_kind) = IsStoreWord.store cell words refers (inl of_kind)
+beside_word word slots (HoldsStore.store to cell words refers of_kind) =
+    IsStoreWord.store cell words refers (inl of_kind)
 
 -- a weak table
 table_word : {heap : Heap} (word : ℕ) (pairs : List Pair) → HasTable heap word pairs → IsStoreWord heap word

@@ -69,10 +69,10 @@ pub record IsInOneOf (cells : List Cell) (at : ℕ) : Type 0 where
   pub from : cell.at ≤ at
   pub below : at < cell.at + cell.size
 
--- In place of cells of a heap, whose young generation begins at `eden`, others came. Beside the words from an address up
--- to another, in which cells were made, touched were only words of those that went; what was put as a slot's word is in a
--- slot of those that came, and what was wiped in none; and a word that was not touched is a slot of those that came
--- exactly where it was one of those that went.
+-- In place of cells of a heap, whose young generation begins at `eden`, others came. Beside the words from an address
+-- up to another, in which cells were made, touched were only words of those that went; what was put as a slot's word is
+-- in a slot of those that came, and what was wiped in none; and a word that was not touched is a slot of those that
+-- came exactly where it was one of those that went.
 pub record TouchesBeside (eden from to : ℕ) (gone came : List Cell) (touch : ℕ → Touch) : Type 0 where
   pub within : (at : ℕ) → at < eden → (from ≤ at → at < to → ⊥) → (touch at ≡ Touch.Kept) ⊎ IsInOneOf gone at
   pub stored : (at : ℕ) → at < eden → (from ≤ at → at < to → ⊥) → touch at ≡ Touch.Stored → IsSlotOfOne came at

@@ -51,7 +51,8 @@ HasRooms heap graph rooms =
 
 -- The objects of a graph that a heap shows have rooms.
 abbrev pub ShownObjectsHaveRooms : Type 0
-ShownObjectsHaveRooms = (heap : Heap) (graph : Graph) → Shows heap graph → (rooms : ℕ → Room) × HasRooms heap graph rooms
+ShownObjectsHaveRooms =
+    (heap : Heap) (graph : Graph) → Shows heap graph → (rooms : ℕ → Room) × HasRooms heap graph rooms
 
 -- what is needed for what is found; nothing where it is not, since the command faults
 abbrev pub on_found : {A : Type 0} → Option A → (A → ℕ) → ℕ
@@ -123,7 +124,8 @@ push_need capacity list value = list_store_need capacity (length list.elements) 
 
 -- `put` of an element: a box where the value is wide and the one before is not
 abbrev pub put_need : ListObject → Value → ℕ → ℕ
-put_need list value at = on_found (slice_get list.elements at) (λ before. box_need (is_wide value && not (is_wide before)))
+put_need list value at =
+    on_found (slice_get list.elements at) (λ before. box_need (is_wide value && not (is_wide before)))
 
 -- `wput` of a key, by the value of its entry if it is there. A key that is new: a table where there is none, or one
 -- that would be too full, and a box where the value is wide. A key that is there: a box where the value is wide and the
@@ -136,8 +138,8 @@ wput_need_by room value (Some before) = box_need (is_wide value && not (is_wide 
 abbrev pub wput_need : Room → WeakObject → Value → ℕ → ℕ
 wput_need room weak value key = wput_need_by room value (entry_value weak.entries key)
 
--- `wput` of a key finds a weak map with this room full: no entry has the key, and as many pairs of the table are filled as
--- there may be entries, or more. A pair counts whose key can no longer be reached, until it is cleared.
+-- `wput` of a key finds a weak map with this room full: no entry has the key, and as many pairs of the table are filled
+-- as there may be entries, or more. A pair counts whose key can no longer be reached, until it is cleared.
 pub record IsMapFull (room : Room) (weak : WeakObject) (key : ℕ) : Type 0 where
   pub fresh : entry_value weak.entries key ≡ None
   pub full : weak_most ≤ room.entries
@@ -164,7 +166,8 @@ need_of graph rooms (command.New x cap) = plain_head + cap
 need_of graph rooms (command.List x) = list_words
 need_of graph rooms (command.Weak x) = weak_words
 need_of graph rooms (command.Set x name v) =
-    on_found (plain_of graph x) (λ plain. on_found (value_of graph v) (set_need (rooms plain.number).capacity plain name))
+    on_found (plain_of graph x) (λ plain. on_found (value_of graph v)
+    (set_need (rooms plain.number).capacity plain name))
 need_of graph rooms (command.Push x v) =
     on_found (list_of graph x) (λ list. on_found (value_of graph v) (push_need (rooms list.number).capacity list))
 need_of graph rooms (command.Put x i v) =

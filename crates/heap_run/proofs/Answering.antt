@@ -1,7 +1,7 @@
 -- What follows of a run from what it comes to and what the sink took.
 use Rattle.std.proofs.Common.{arith, ◌≡◌, ◌≢◌, ℕ, Bool, List, [], ◌∷◌, Option, Some}
 use Rattle.std.proofs.Common.{None, Ok, Err, refl, sym, ◌∙◌, subst, false, true, lit<, ◌⊎◌, inl, inr}
-use Rattle.std.specs.Prelude.{Contains}
+use Rattle.std.specs.Prelude.{Contains, IsTrue}
 use Rattle.object_graph.specs.Run.{Told}
 use Rattle.script_text.specs.Scripts.{ScriptText}
 use Rattle.heap_model.specs.Types.{Sizes, Run as FreeRun}
@@ -9,7 +9,7 @@ use Rattle.heap_model.specs.Heaps.{Heap}
 use Rattle.heap_model.specs.Images.{image_heap}
 use Rattle.command_line.specs.declared.invocation.Invocation.{Invocation}
 use Rattle.command_line.specs.declared.invocation.Invocation.TheVariants.{Run, Check, Soak, Gen}
-use Rattle.command_line.specs.Invocations.{BeginsCommand, invocation_of, asked_run}
+use Rattle.command_line.specs.Invocations.{begins_with_any, commands, invocation_of, asked_run}
 use Rattle.script_gen.specs.Generated.{generated}
 use Rattle.command_line.proofs.AskedCommands.{begins_command}
 use Rattle.script_text.specs.declared.script.BadScript.{BadScript}
@@ -27,7 +27,7 @@ use Rattle.heap_run.specs.declared.last_line.LastLine.{LastLine}
 use Rattle.heap_run.specs.declared.last_line.LastLine.TheVariants as last
 use Rattle.heap_run.specs.Texts.{last_bytes, status_of, sink_fault_status}
 use Rattle.heap_run.specs.Answers.{Input, ReadsAll, Answer, unopened, refusal_of, last_line_of, soak_line_of}
-use Rattle.heap_run.specs.Answers.{Comes, Taken, Answers, Runs, AsksToRun, AsksToSoak, AsksToGenerate}
+use Rattle.heap_run.specs.Answers.{Comes, Taken, Answers, Runs, AsksFor}
 use Rattle.heap_run.specs.AnswerLaws.{IsKeptAt, IsKeptBy, IsKeptFor, KeepsGraph, KeptIsOfScript, KeptWasRead}
 use Rattle.heap_run.specs.AnswerLaws.{KeptGoesWithStatus}
 
@@ -65,7 +65,7 @@ keeps-comes words input _ (Comes.soaked sizes seed forms script kept came asks u
 
 -- words that ask for a soak ask for no run of what the source has
 no_soak : {A : Type 0} (words : List (List ℕ)) (checks : Bool) (sizes other : Sizes) (seed forms : ℕ)
-    → AsksToRun words checks sizes → AsksToSoak words other seed forms → A
+    → AsksFor words (asked_run checks sizes) → AsksFor words (Soak other seed forms) → A
 no_soak words false sizes other seed forms asks soaks =
     let same : Some (Run sizes) ≡ Some (Soak other seed forms) = sym asks ∙ soaks in
     absurd (cc)
@@ -125,17 +125,17 @@ kept_none (Some (Gen seed forms)) status at = refl
 
 -- where the words ask for a run, what is kept goes with the status
 kept_run : (words : List (List ℕ)) (checks : Bool) (sizes : Sizes) (status : ℕ) (kept : Option Kept)
-    → AsksToRun words checks sizes → IsKeptAt status kept → IsKeptFor words status kept
+    → AsksFor words (asked_run checks sizes) → IsKeptAt status kept → IsKeptFor words status kept
 kept_run words false sizes status kept asks at = subst (λ asked. IsKeptBy asked status kept) (sym asks) at
 kept_run words true sizes status kept asks at = subst (λ asked. IsKeptBy asked status kept) (sym asks) at
 
 -- so it does where they ask for a soak
 kept_soak : (words : List (List ℕ)) (sizes : Sizes) (seed forms status : ℕ) (kept : Option Kept)
-    → AsksToSoak words sizes seed forms → IsKeptAt status kept → IsKeptFor words status kept
+    → AsksFor words (Soak sizes seed forms) → IsKeptAt status kept → IsKeptFor words status kept
 kept_soak words sizes seed forms status kept asks at = subst (λ asked. IsKeptBy asked status kept) (sym asks) at
 
 -- of a generated script that is told none is kept
-kept_generated : (words : List (List ℕ)) (seed forms status : ℕ) → AsksToGenerate words seed forms
+kept_generated : (words : List (List ℕ)) (seed forms status : ℕ) → AsksFor words (Gen seed forms)
     → IsKeptFor words status None
 kept_generated words seed forms status asks = subst (λ asked. IsKeptBy asked status None) (sym asks) refl
 
@@ -252,7 +252,7 @@ pub Runs-unopened : (checks : Bool) (sizes : Sizes) (bytes : List ℕ) (old new 
     (faults_old faults_new : ℕ)
     (ended : Ended)
     (line : LastLine) → ended.kept ≡ None
-    → ((words : List (List ℕ)) (input : Input) → AsksToRun words checks sizes → ReadsAll input bytes
+    → ((words : List (List ℕ)) (input : Input) → AsksFor words (asked_run checks sizes) → ReadsAll input bytes
     → Comes words input (unopened line))
     → Taken old new faults_old faults_new (unopened line) ended.status
     → Runs checks sizes bytes old new faults_old faults_new ended
@@ -260,13 +260,13 @@ Runs-unopened checks sizes bytes old new faults_old faults_new ended line none c
     record { answer = unopened line; kept = sym none; comes = comes; taken = taken }
 
 -- words that ask for a run begin with a command
-pub begins : (words : List (List ℕ)) (checks : Bool) (sizes : Sizes) → AsksToRun words checks sizes
-    → BeginsCommand words
+pub begins : (words : List (List ℕ)) (checks : Bool) (sizes : Sizes) → AsksFor words (asked_run checks sizes)
+    → IsTrue (begins_with_any commands words)
 begins words checks sizes asks = begins_command words (asked_run checks sizes) asks
 
 -- want of memory once the source was read
 pub Comes-memory : (checks : Bool) (sizes : Sizes) (bytes : List ℕ) (words : List (List ℕ)) (input : Input)
-    → AsksToRun words checks sizes
+    → AsksFor words (asked_run checks sizes)
     → ReadsAll input bytes → Comes words input (unopened last.NoMemory)
 Comes-memory checks sizes bytes words input asks reads =
     Comes.no_memory (begins words checks sizes asks) (inr (checks, sizes, bytes, asks, reads))
@@ -275,7 +275,7 @@ Comes-memory checks sizes bytes words input asks reads =
 pub Comes-stopped : (checks : Bool) (sizes : Sizes) (bytes : List ℕ) (stop : BadScript) (line : LastLine)
     → (stop ≢ bad.NoMemory → reading bytes ≡ Err stop) → (stop ≢ bad.NoMemory → refusal_of stop ≡ Some line)
     → (stop ≡ bad.NoMemory → line ≡ last.NoMemory) → (words : List (List ℕ)) (input : Input)
-    → AsksToRun words checks sizes → ReadsAll input bytes → Comes words input (unopened line)
+    → AsksFor words (asked_run checks sizes) → ReadsAll input bytes → Comes words input (unopened line)
 Comes-stopped checks sizes bytes (bad.BadLine at why) line read refusal memory words input asks reads =
     let apart : bad.BadLine at why ≢ bad.NoMemory = λ e. cc in
     Comes.no_script checks sizes bytes (bad.BadLine at why) line asks reads (read apart) (refusal apart)
@@ -301,7 +301,7 @@ stops_for_memory bytes script bad.NoMemory is read = refl
 
 -- a run whose source was read, under the words that ask for it
 pub Answers-runs : (words : List (List ℕ)) (input : Input) (bytes : List ℕ) (checks : Bool) (sizes : Sizes)
-    (old new : List ℕ → Type 0) (faults_old faults_new : ℕ) (ended : Ended) → AsksToRun words checks sizes
+    (old new : List ℕ → Type 0) (faults_old faults_new : ℕ) (ended : Ended) → AsksFor words (asked_run checks sizes)
     → ReadsAll input bytes
     → Runs checks sizes bytes old new faults_old faults_new ended
     → Answers words input old new faults_old faults_new ended

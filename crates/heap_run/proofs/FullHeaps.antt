@@ -1,14 +1,11 @@
 -- A heap that is full for words has no room for them in any part.
-use Rattle.std.proofs.Common.{◌≡◌, ℕ, ◌+◌, ◌<◌, List, [], ◌∷◌, Option, Some, None, inl, inr, IsTrue, Contains, get_or, ◌∙◌}
+use Rattle.std.proofs.Common.{◌≡◌, ℕ, ◌+◌, ◌<◌, List, [], Option, Some, inl, inr, IsTrue, Contains, get_or, ◌∙◌}
 use Rattle.std.proofs.Common.{length, sym, subst, arith}
 use Rattle.std.proofs.lemmas.Bool.{cases_lt}
 use Rattle.std.proofs.lemmas.Bool.Decides.{nat_tests}
 use Rattle.std.proofs.lemmas.Option.{slice_get-get_or}
 use Rattle.heap_model.specs.Types.{Run}
-use Rattle.heap_command.specs.Executed.{Executed}
-use Rattle.heap_model.specs.Types.{Command}
 use Rattle.free_runs.specs.FreeRuns.{AreFree, FitsNowhere, row_of}
-use Rattle.object_graph.specs.Graphs.{Graph}
 use Rattle.script_text.specs.Scripts.{ScriptText}
 use Rattle.heap_model.specs.Heaps.{Heap}
 use Rattle.heap_model.specs.Wholeness.{Whole, HasRows}
@@ -21,7 +18,6 @@ use Rattle.live_cells.proofs.SameNumbers.{all_from_each}
 use Rattle.collector.specs.Born.{Opening}
 use Rattle.heap_script.specs.Stages.{Stage, Collections, fully_collected}
 use Rattle.heap_script.specs.Spending.{Spends}
-use Rattle.heap_script.specs.Runs.{IsFull, LacksRoomFor, IsFullAt}
 
 -- free runs of a heap that neither overlap nor touch
 pub record HasRuns (heap : Heap) (rows : List (List Run)) : Type 0 where
@@ -78,15 +74,3 @@ behind_full (Spends.twice old new n opened spends reached lacks after collected)
 behind_full (Spends.cleared old new n opened spends reached wants after collected) is =
     record { whole = after.shown.whole; apart = collected.apart; tight = collected.tight }
 behind_full (Spends.finally old new n opened spends reached ends after collected) is = absurd (cc)
-
--- where the heap is full for the command of the next line, it is full for these words
-full_of_command : (heap : Heap) (rows : List (List Run)) (graph : Graph) (need : ℕ) (command : Option Command)
-    → LacksRoomFor heap rows graph need command → IsFull heap rows graph need
-full_of_command heap rows graph need None full = absurd full
-full_of_command heap rows graph need (Some command) full = full.1
-
--- so it is at the first of the lines that are left
-pub full_of_lines : (heap : Heap) (rows : List (List Run)) (graph : Graph) (line need : ℕ) (lines : List Executed)
-    → IsFullAt heap rows graph line need lines → IsFull heap rows graph need
-full_of_lines heap rows graph line need [] full = absurd full
-full_of_lines heap rows graph line need (next ∷ more) full = full_of_command heap rows graph need next.command full.1

@@ -2,9 +2,8 @@
 use Rattle.heap_model.specs.Images.{image_heap}
 use Rattle.collector.proofs.ImagesFree.{images_keep_free}
 use Rattle.collector.proofs.ImagesTight.{images_are_tight}
-use Rattle.heap_script.specs.Reached.{left_after}
 use Rattle.heap_run.specs.AnswerLaws.{FullHasNoRoom}
-use Rattle.heap_run.proofs.FullHeaps.{HasRuns, lacks_them, runs_lack_them, behind_full, full_of_lines}
+use Rattle.heap_run.proofs.FullHeaps.{HasRuns, lacks_them, runs_lack_them, behind_full}
 
 -- that it keeps such a heap
 pub full_has_no_room : FullHasNoRoom
@@ -12,8 +11,7 @@ full_has_no_room counted sizes script kept line need keeps comes =
     let image = image_heap kept.image in
     let last = keeps.last in
     let behind = behind_full keeps.spends comes.collected in
-    let is = full_of_lines image last.rows keeps.reached.so_far.graph line need (left_after script kept.executed)
-    comes.full in
+    let is = comes.full in
     let runs : HasRuns image last.rows = record {
       apart = behind.apart;
       free = images_keep_free last.heap image last.rows behind.whole keeps.free keeps.image;

@@ -11,7 +11,7 @@ use Rattle.byte_ends.proofs.Appending.{Appends-along}
 use Rattle.heap_run.specs.declared.ended.Ended.{Ended}
 use Rattle.heap_run.specs.declared.last_line.LastLine.TheVariants as last
 use Rattle.heap_run.specs.Texts.{sink_fault_status}
-use Rattle.heap_run.specs.Answers.{Input, NoReadFailed, AsksToGenerate, Comes, Taken, Answers, Generates, unopened}
+use Rattle.heap_run.specs.Answers.{Input, NoReadFailed, AsksFor, Comes, Taken, Answers, Generates, unopened}
 
 -- want of memory, as it is concluded
 pub Generates-memory : (seed forms : ℕ) (old new : List ℕ → Type 0) (faults_old faults_new : ℕ) (ended : Ended)
@@ -83,7 +83,7 @@ Generates-in_part seed forms old new faults_old faults_new some rose =
 
 -- a generated script, under the words that ask for it
 pub Answers-generates : (words : List (List ℕ)) (input : Input) (seed forms : ℕ) (old new : List ℕ → Type 0)
-    (faults_old faults_new : ℕ) (ended : Ended) → AsksToGenerate words seed forms → input.after ≡ input.before
+    (faults_old faults_new : ℕ) (ended : Ended) → AsksFor words (Gen seed forms) → input.after ≡ input.before
     → NoReadFailed input → Generates seed forms old new faults_old faults_new ended
     → Answers words input old new faults_old faults_new ended
 Answers-generates words input seed forms old new faults_old faults_new ended asks unread steady g =

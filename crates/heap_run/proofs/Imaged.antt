@@ -1,10 +1,9 @@
 -- What holds of a run on a heap holds of its image.
-use Rattle.std.proofs.Common.{◌≡◌, ℕ, Bool, zero, suc, ◌+◌, ◌≤◌, List, [], ◌∷◌, Option, Some, None, ap, ◌∙◌, sym}
+use Rattle.std.proofs.Common.{◌≡◌, ℕ, Bool, zero, suc, ◌+◌, ◌≤◌, List, Option, Some, None, ap, ◌∙◌, sym}
 use Rattle.std.proofs.Common.{subst, inl, inr, IsTrue, arith}
 use Rattle.std.proofs.Common.{nat_lt}
 use Rattle.std.proofs.lemmas.Bool.Decides.{nat_tests}
 use Rattle.heap_model.specs.Types.{Command, Run}
-use Rattle.heap_command.specs.Executed.{Executed}
 use Rattle.page_space.specs.Extents.{Space}
 use Rattle.free_runs.specs.FreeRuns.{AreFree, FitsNowhere}
 use Rattle.object_graph.specs.Graphs.{Graph}
@@ -29,9 +28,9 @@ use Rattle.heap_script.specs.declared.finished.How.{How}
 use Rattle.heap_script.specs.declared.finished.How.TheVariants as how
 use Rattle.heap_script.specs.declared.finished.Finished.{Finished}
 use Rattle.heap_script.specs.Stages.{Stage, Collections, fully_collected}
-use Rattle.heap_script.specs.Reached.{left_after, RanTo}
-use Rattle.heap_script.specs.Spending.{Spends}
-use Rattle.heap_script.specs.Runs.{IsFull, LacksRoomFor, IsFullAt, EndsRun, FailedAt, Writes, Finishes}
+use Rattle.heap_script.specs.Reached.{RanTo}
+use Rattle.heap_script.specs.Spending.{HoldsOfNeed, Spends}
+use Rattle.heap_script.specs.Runs.{IsFull, EndsRun, FailedAt, Writes, Finishes}
 use Rattle.heap_run.proofs.FullHeaps.{HasRuns, lacks_them, runs_lack_them, behind_full}
 
 -- the laws of images, and that words fit nowhere which no run has
@@ -119,23 +118,13 @@ as_full {heap} {image} {rows} {graph} need laws shows runs is full =
       stuck = laws.stuck heap image rows whole full.stuck is;
     }
 
--- it is full for the command of a line, if the heap is
-full_for : {heap image : Heap} (rows : List (List Run)) (graph : Graph) (need : ℕ) (command : Option Command) → Laws
-    → Shows heap graph → HasRuns heap rows → IsImageOf heap image → LacksRoomFor heap rows graph need command
-    → LacksRoomFor image rows graph need command
-full_for rows graph need None laws shows apart is full = full
-full_for {heap = heap} {image = image} rows graph need (Some command) laws shows apart is (needs, full) = (
-  λ rooms has. needs rooms ((laws.rooms heap image graph rooms shows is).1 has),
-  as_full need laws shows apart is full,
-)
-
--- so at the first of the lines that are left
-full_at : {heap image : Heap} (rows : List (List Run)) (graph : Graph) (line need : ℕ) (lines : List Executed) → Laws
-    → Shows heap graph → HasRuns heap rows → IsImageOf heap image → IsFullAt heap rows graph line need lines
-    → IsFullAt image rows graph line need lines
-full_at rows graph line need [] laws shows apart is full = full
-full_at {heap = heap} {image = image} rows graph line need (next ∷ more) laws shows apart is (number-is, full) =
-    (number-is, full_for {heap = heap} {image = image} rows graph need next.command laws shows apart is full)
+-- the command of a line needs as many words on it
+as_needy : {heap image : Heap} (graph : Graph) (need : ℕ) (command : Option Command) → Laws → Shows heap graph
+    → IsImageOf heap image → HoldsOfNeed heap graph command (λ words. need ≡ words)
+    → HoldsOfNeed image graph command (λ words. need ≡ words)
+as_needy graph need None laws shows is needs = needs
+as_needy {heap = heap} {image = image} graph need (Some command) laws shows is needs =
+    λ rooms has. needs rooms ((laws.rooms heap image graph rooms shows is).1 has)
 
 -- a run comes to the same on the image
 comes_imaged : (checks : Bool) {script : ScriptText} {heap image : Heap} {n : ℕ} (rows : List (List Run))
@@ -150,8 +139,11 @@ comes_imaged checks {script = script} {heap = heap} {image = image} {n = n} rows
     apart r comes =
     record {
       goes_on = comes.goes_on;
-      full = full_at {heap = heap} {image = image} rows r.so_far.graph line need (left_after script n) laws
-          r.shown (apart comes.collected) is comes.full;
+      at = comes.at;
+      next = comes.next;
+      number = comes.number;
+      needs = as_needy {heap = heap} {image = image} r.so_far.graph need comes.at.command laws r.shown is comes.needs;
+      full = as_full need laws r.shown (apart comes.collected) is comes.full;
       collected = comes.collected;
     }
 comes_imaged checks rows collections (how.SinkFault need) line laws is apart r comes = comes

@@ -21,7 +21,7 @@ use Rattle.heap_run.specs.declared.ended.Ended.{Ended}
 use Rattle.heap_run.specs.declared.last_line.LastLine.{LastLine}
 use Rattle.heap_run.specs.declared.last_line.LastLine.TheVariants as last
 use Rattle.heap_run.specs.Texts.{last_bytes, status_of, sink_fault_status}
-use Rattle.heap_run.specs.Answers.{Comes, Taken, Soaks, Answers, AsksToSoak, Input, NoReadFailed, unopened}
+use Rattle.heap_run.specs.Answers.{Comes, Taken, Soaks, Answers, AsksFor, Input, NoReadFailed, unopened}
 use Rattle.heap_run.specs.Answers.{soak_line_of}
 use Rattle.heap_run.proofs.Imaged.{FinishesImaged}
 use Rattle.heap_run.proofs.Concluding.{IsKeepable, finished_by, kept_by, ended_by, keeps}
@@ -112,7 +112,7 @@ Soaks-memory sizes seed forms old new faults_old faults_new ended none taken = r
 
 -- a soak, under the words that ask for it
 pub Answers-soaks : (words : List (List ℕ)) (input : Input) (sizes : Sizes) (seed forms : ℕ) (old new : List ℕ → Type 0)
-    (faults_old faults_new : ℕ) (ended : Ended) → AsksToSoak words sizes seed forms → input.after ≡ input.before
+    (faults_old faults_new : ℕ) (ended : Ended) → AsksFor words (Soak sizes seed forms) → input.after ≡ input.before
     → NoReadFailed input → Soaks sizes seed forms old new faults_old faults_new ended
     → Answers words input old new faults_old faults_new ended
 Answers-soaks words input sizes seed forms old new faults_old faults_new ended asks unread steady s =

@@ -21,7 +21,9 @@ use Rattle.heap_script.specs.Runs.{EndsRun}
 use Rattle.heap_run.specs.declared.ended.Kept.{Kept}
 use Rattle.heap_run.specs.declared.last_line.LastLine.{LastLine}
 use Rattle.heap_run.specs.Texts.{status_of, sink_fault_status}
-use Rattle.heap_run.specs.Answers.{AsksToRun, AsksToSoak, Input, Answer, IsKeptHeapOf, Comes}
+use Rattle.command_line.specs.Invocations.{asked_run}
+use Rattle.command_line.specs.declared.invocation.Invocation.TheVariants.{Soak}
+use Rattle.heap_run.specs.Answers.{AsksFor, Input, Answer, IsKeptHeapOf, Comes}
 
 -- a heap is kept at the statuses of a script that was run, and none at the others; the sink may fail before or after
 abbrev pub IsKeptAt : ℕ → Option Kept → Type 0
@@ -42,8 +44,8 @@ IsKeptFor words status kept = IsKeptBy (invocation_of words) status kept
 -- generated script of a seed.
 abbrev pub IsScriptFor : List (List ℕ) → Option (List ℕ) → Sizes → List ℕ → Type 0
 IsScriptFor words left sizes bytes =
-    ((checks : Bool) × AsksToRun words checks sizes × IsInput left bytes)
-    ⊎ ((seed : ℕ) × (forms : ℕ) × AsksToSoak words sizes seed forms × (bytes ≡ script_of_seed seed forms))
+    ((checks : Bool) × AsksFor words (asked_run checks sizes) × IsInput left bytes)
+    ⊎ ((seed : ℕ) × (forms : ℕ) × AsksFor words (Soak sizes seed forms) × (bytes ≡ script_of_seed seed forms))
 
 -- What was read is a script, and the heap that is kept of its run with these sizes shows the graph after the executed
 -- lines.
@@ -62,7 +64,7 @@ KeptIsOfScript =
 abbrev pub KeptWasRead : Type 0
 KeptWasRead =
     (words : List (List ℕ)) (input : Input) (answer : Answer) → Comes words input answer → (checks : Bool)
-    (sizes : Sizes) → AsksToRun words checks sizes
+    (sizes : Sizes) → AsksFor words (asked_run checks sizes)
     → IfSome answer.kept (λ _. IfSome input.before (λ _. input.after ≡ Some []))
 
 -- The heap has no room for so many words in any part: survivors, used words and these are more than the words of the

@@ -1,18 +1,17 @@
 -- What a run comes to, and what of it the sink took.
-use Rattle.std.specs.Prelude.{◌≡◌, ◌⊎◌, ℕ, ◌+◌, ◌<◌, ◌≤◌, Bool, List, [], ◌++◌}
-use Rattle.std.specs.Prelude.{length, sum, take, drop, true, Option, Some, None, IfSome, Ok, Err}
+use Rattle.std.specs.Prelude.{◌≡◌, ◌⊎◌, ℕ, ◌+◌, ◌%◌, ◌^◌, ◌<◌, ◌≤◌, Bool, List, [], ◌++◌}
+use Rattle.std.specs.Prelude.{length, sum, take, drop, true, IsTrue, Option, Some, None, IfSome, Ok, Err}
 use Rattle.heap_model.specs.Types.{Sizes}
+use Rattle.command_line.specs.declared.invocation.Invocation.{Invocation}
 use Rattle.command_line.specs.declared.invocation.Invocation.TheVariants.{Soak, Gen}
-use Rattle.command_line.specs.Invocations.{invocation_of, BeginsCommand, asked_run}
+use Rattle.command_line.specs.Invocations.{invocation_of, begins_with_any, commands, asked_run}
 use Rattle.script_text.specs.declared.script.BadScript.{BadScript}
 use Rattle.script_text.specs.declared.script.BadScript.TheVariants as bad
 use Rattle.script_text.specs.Scripts.{ScriptText}
 use Rattle.script_text.specs.Grammar.{reading}
 use Rattle.script_gen.specs.Generated.{generated as script_of_seed}
 use Rattle.byte_ends.specs.Faults.{Rose}
-use Rattle.byte_ends.specs.Source.{IsInput}
 use Rattle.byte_ends.specs.Sink.{Appends, AppendsSome}
-use Rattle.byte_ends.specs.Sure.{wrapped}
 use Rattle.heap_script.specs.declared.finished.How.{How}
 use Rattle.heap_script.specs.declared.finished.How.TheVariants as how
 use Rattle.heap_script.specs.TheConstants.{OUTPUT_BYTES}
@@ -36,22 +35,9 @@ use Rattle.heap_run.specs.Texts.{last_bytes, status_of, sink_fault_status}
 abbrev pub source_most : ℕ
 source_most = 1048576
 
--- the words ask for the run of a script with these sizes, or for one that is checked
-abbrev pub AsksToRun : List (List ℕ) → Bool → Sizes → Type 0
-AsksToRun words checks sizes = invocation_of words ≡ Some (asked_run checks sizes)
-
--- the words ask for the generated script of a seed, with so many forms
-abbrev pub AsksToGenerate : List (List ℕ) → ℕ → ℕ → Type 0
-AsksToGenerate words seed forms = invocation_of words ≡ Some (Gen seed forms)
-
--- the words ask for the run of the generated script of a seed, with so many forms, on a heap of these sizes, of which
--- only sums are told
-abbrev pub AsksToSoak : List (List ℕ) → Sizes → ℕ → ℕ → Type 0
-AsksToSoak words sizes seed forms = invocation_of words ≡ Some (Soak sizes seed forms)
-
--- the words ask for nothing
-abbrev pub AsksForNothing : List (List ℕ) → Type 0
-AsksForNothing words = invocation_of words ≡ None
+-- the words ask for this
+abbrev pub AsksFor : List (List ℕ) → Invocation → Type 0
+AsksFor words asked = invocation_of words ≡ Some asked
 
 -- what a source had left before a run and has after it, where it tells that, and its counts of faults
 pub record Input : Type 0 where
@@ -71,7 +57,7 @@ NoReadFailed input = input.faults_after ≡ input.faults_before
 
 -- these bytes are all that the source had left; they were read to their end, and no read failed
 pub record ReadsAll (input : Input) (bytes : List ℕ) : Type 0 where
-  pub all : IsInput input.before bytes
+  pub all : IfSome input.before (λ left. bytes ≡ left)
   pub few : length bytes ≤ source_most
   pub none_left : IfSome input.before (λ _. input.after ≡ Some [])
   pub steady : NoReadFailed input
@@ -104,8 +90,8 @@ last_line_of (how.Flawed flaw) line = last.Flawed flaw
 abbrev pub soak_line_of : How → ℕ → ℕ → List ℕ → LastLine
 soak_line_of (how.Counted counts) line executed bytes = last.Soaked (record {
   lines = executed;
-  bytes = wrapped (length bytes);
-  sum = wrapped (sum bytes);
+  bytes = length bytes % 2 ^ 64;
+  sum = sum bytes % 2 ^ 64;
   counts = counts;
 })
 soak_line_of came line executed bytes = last_line_of came line
@@ -114,7 +100,7 @@ soak_line_of came line executed bytes = last_line_of came line
 abbrev pub ReadsNoneOrAll : List (List ℕ) → Input → Type 0
 ReadsNoneOrAll words input =
     ((input.after ≡ input.before) × NoReadFailed input)
-    ⊎ ((checks : Bool) × (sizes : Sizes) × (bytes : List ℕ) × AsksToRun words checks sizes × ReadsAll input bytes)
+    ⊎ ((checks : Bool) × (sizes : Sizes) × (bytes : List ℕ) × AsksFor words (asked_run checks sizes) × ReadsAll input bytes)
 
 -- What is told before the last line, the last line where the run comes to one, and the heap that is kept.
 pub record Answer : Type 0 where
@@ -139,7 +125,8 @@ pub record IsKeptHeapOf (sizes : Sizes) (script : ScriptText) (kept : Kept) : Ty
   pub free : AreFreeRuns last.heap last.rows
   pub image : IsImageOf last.heap (image_heap kept.image)
 
--- A run that is checked came to these counts of its last heap: an image of that is whole, and has these counts.
+-- A run that is checked came to these counts of its last heap: an image of that is whole, and has these counts. It says
+-- nothing of a judge: what the last heap keeps (`IsKeptHeapOf`) and these counts (`EndsRun`) say as much.
 abbrev pub IsChecked : Bool → Heap → How → Type 0
 IsChecked true heap (how.Counted counts) = (image : Heap) × IsImageOf heap image × IsCounted image counts
 IsChecked checks heap came = Unit {0}
@@ -147,23 +134,24 @@ IsChecked checks heap came = Unit {0}
 -- What a run comes to, by the words and the source.
 pub data Comes (words : List (List ℕ)) (input : Input) : Answer → Type 0 where
   -- the words are refused, and nothing is read
-  bad_words : AsksForNothing words → input.after ≡ input.before → NoReadFailed input
+  bad_words : invocation_of words ≡ None → input.after ≡ input.before → NoReadFailed input
       → Comes words input (unopened last.BadWords)
   -- memory was refused, which is free; but not where the words begin with no command, nor between two reads
-  no_memory : BeginsCommand words → ReadsNoneOrAll words input → Comes words input (unopened last.NoMemory)
+  no_memory : IsTrue (begins_with_any commands words) → ReadsNoneOrAll words input
+      → Comes words input (unopened last.NoMemory)
   -- a read failed
-  read_fault : (checks : Bool) (sizes : Sizes) → AsksToRun words checks sizes
+  read_fault : (checks : Bool) (sizes : Sizes) → AsksFor words (asked_run checks sizes)
       → Rose input.faults_before input.faults_after → Comes words input (unopened last.ReadFault)
   -- the source is too long
-  too_long : (checks : Bool) (sizes : Sizes) → AsksToRun words checks sizes → ReadsTooMany input
+  too_long : (checks : Bool) (sizes : Sizes) → AsksFor words (asked_run checks sizes) → ReadsTooMany input
       → Comes words input (unopened last.SourceTooLong)
   -- the source is no script
   no_script : (checks : Bool) (sizes : Sizes) (bytes : List ℕ) (stop : BadScript) (line : LastLine)
-      → AsksToRun words checks sizes → ReadsAll input bytes → reading bytes ≡ Err stop → refusal_of stop ≡ Some line
+      → AsksFor words (asked_run checks sizes) → ReadsAll input bytes → reading bytes ≡ Err stop → refusal_of stop ≡ Some line
       → Comes words input (unopened line)
   -- the source is a script, and its run, which is checked or not, came to an end
   ended : (checks : Bool) (sizes : Sizes) (bytes : List ℕ) (script : ScriptText) (kept : Kept) (came : How)
-      → AsksToRun words checks sizes → ReadsAll input bytes → reading bytes ≡ Ok script
+      → AsksFor words (asked_run checks sizes) → ReadsAll input bytes → reading bytes ≡ Ok script
       → (keeps : IsKeptHeapOf sizes script kept)
       → EndsRun checks script (image_heap kept.image) keeps.last.rows keeps.collections kept.executed
       keeps.reached.so_far came kept.line
@@ -177,21 +165,21 @@ pub data Comes (words : List (List ℕ)) (input : Input) : Answer → Type 0 whe
   -- the source is a script, and the sink failed between two of its lines, just where an output was due, and before the
   -- heap was collected for the next line
   cut_short : (checks : Bool) (sizes : Sizes) (bytes : List ℕ) (script : ScriptText) (kept : Kept)
-      → AsksToRun words checks sizes → ReadsAll input bytes → reading bytes ≡ Ok script
+      → AsksFor words (asked_run checks sizes) → ReadsAll input bytes → reading bytes ≡ Ok script
       → (keeps : IsKeptHeapOf sizes script kept) → kept.line ≡ 0 → kept.need ≡ 0 → keeps.collections ≡ uncollected
       → IsDue script kept.executed
       → Comes words input (record { told = keeps.reached.so_far.bytes; last = None; kept = Some kept })
   -- the words ask for a generated script, which is told; nothing is read, and no heap is opened
-  generated : (seed forms : ℕ) → AsksToGenerate words seed forms → input.after ≡ input.before → NoReadFailed input
+  generated : (seed forms : ℕ) → AsksFor words (Gen seed forms) → input.after ≡ input.before → NoReadFailed input
       → Comes words input (record { told = script_of_seed seed forms; last = Some last.Nothing; kept = None })
   -- the sink failed while it was told; then a front of the script is, and nothing behind it
-  generated_in_part : (seed forms count : ℕ) → AsksToGenerate words seed forms → input.after ≡ input.before
+  generated_in_part : (seed forms count : ℕ) → AsksFor words (Gen seed forms) → input.after ≡ input.before
       → NoReadFailed input
       → Comes words input (record { told = take count (script_of_seed seed forms); last = None; kept = None })
   -- the words ask for a soak: the generated script was run, and counted its heap at its end, and it came to an end;
   -- nothing is read, and of what the script tells only that line is told
   soaked : (sizes : Sizes) (seed forms : ℕ) (script : ScriptText) (kept : Kept) (came : How)
-      → AsksToSoak words sizes seed forms → input.after ≡ input.before → NoReadFailed input
+      → AsksFor words (Soak sizes seed forms) → input.after ≡ input.before → NoReadFailed input
       → reading (script_of_seed seed forms) ≡ Ok script
       → (keeps : IsKeptHeapOf sizes script kept)
       → EndsRun true script (image_heap kept.image) keeps.last.rows keeps.collections kept.executed
@@ -234,7 +222,7 @@ pub record Runs (checks : Bool) (sizes : Sizes) (bytes : List ℕ) (old new : Li
     (ended : Ended) : Type 0 where
   pub answer : Answer
   pub kept : answer.kept ≡ ended.kept
-  pub comes : (words : List (List ℕ)) (input : Input) → AsksToRun words checks sizes → ReadsAll input bytes
+  pub comes : (words : List (List ℕ)) (input : Input) → AsksFor words (asked_run checks sizes) → ReadsAll input bytes
       → Comes words input answer
   pub taken : Taken old new faults_old faults_new answer ended.status
 
@@ -243,7 +231,7 @@ pub record Generates (seed forms : ℕ) (old new : List ℕ → Type 0) (faults_
     (ended : Ended) : Type 0 where
   pub answer : Answer
   pub kept : answer.kept ≡ ended.kept
-  pub comes : (words : List (List ℕ)) (input : Input) → AsksToGenerate words seed forms
+  pub comes : (words : List (List ℕ)) (input : Input) → AsksFor words (Gen seed forms)
       → input.after ≡ input.before → NoReadFailed input → Comes words input answer
   pub taken : Taken old new faults_old faults_new answer ended.status
 
@@ -252,6 +240,6 @@ pub record Soaks (sizes : Sizes) (seed forms : ℕ) (old new : List ℕ → Type
     (ended : Ended) : Type 0 where
   pub answer : Answer
   pub kept : answer.kept ≡ ended.kept
-  pub comes : (words : List (List ℕ)) (input : Input) → AsksToSoak words sizes seed forms
+  pub comes : (words : List (List ℕ)) (input : Input) → AsksFor words (Soak sizes seed forms)
       → input.after ≡ input.before → NoReadFailed input → Comes words input answer
   pub taken : Taken old new faults_old faults_new answer ended.status

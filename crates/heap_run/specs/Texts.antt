@@ -16,41 +16,29 @@ reason_line head number reason = line (head ++ decimal number ++ codes " " ++ re
 abbrev pub numbered : List ℕ → ℕ → List ℕ
 numbered head number = head ++ decimal number
 
--- a head and the number of a line
-abbrev pub numbered_line : List ℕ → ℕ → List ℕ
-numbered_line head number = line (numbered head number)
-
 -- a head, and how many objects and entries were counted of a heap
 abbrev pub counts_line : List ℕ → ℕ → ℕ → List ℕ
 counts_line head objects entries = line (numbered head objects ++ numbered (codes " entries ") entries)
 
--- how many lines were executed and bytes told of a soak, the sum of the bytes, and what was counted at its end
-abbrev pub soaked_line : ℕ → ℕ → ℕ → ℕ → ℕ → List ℕ
-soaked_line lines bytes sum objects entries =
-    numbered (codes "lines ") lines ++ numbered (codes " bytes ") bytes ++ numbered (codes " sum ") sum
-    ++ counts_line (codes " objects ") objects entries
-
--- the address of a word that breaks the heap, what stands there, and what is asked for
-abbrev pub flaw_line : ℕ → ℕ → ℕ → List ℕ
-flaw_line at found wanted =
-    line (numbered (codes "flaw ") at ++ numbered (codes " ") found ++ numbered (codes " ") wanted)
-
--- the bytes of a last line
+-- The bytes of a last line. That of a flaw has the address of the word, what stands there, and what is asked for.
 abbrev pub last_bytes : LastLine → List ℕ
 last_bytes Nothing = []
 last_bytes (Checked counts) = counts_line (codes "checked objects ") counts.objects counts.entries
 last_bytes (Soaked soaked) =
-    soaked_line soaked.lines soaked.bytes soaked.sum soaked.counts.objects soaked.counts.entries
+    numbered (codes "lines ") soaked.lines ++ numbered (codes " bytes ") soaked.bytes
+    ++ numbered (codes " sum ") soaked.sum
+    ++ counts_line (codes " objects ") soaked.counts.objects soaked.counts.entries
 last_bytes (Fault at word) = reason_line (codes "fault ") at (fault_text word)
 last_bytes (BadScript at why) = reason_line (codes "bad script ") at (why_text why)
 last_bytes (TooManyNames at) = reason_line (codes "bad script ") at (codes "names")
-last_bytes (HeapFull at) = numbered_line (codes "heap full ") at
+last_bytes (HeapFull at) = line (numbered (codes "heap full ") at)
 last_bytes ReadFault = line (codes "read fault")
 last_bytes SourceTooLong = line (codes "source too long")
 last_bytes NoMemory = line (codes "no memory")
-last_bytes (LineLimit at) = numbered_line (codes "line limit ") at
+last_bytes (LineLimit at) = line (numbered (codes "line limit ") at)
 last_bytes BadWords = line (codes "bad words")
-last_bytes (Flawed flaw) = flaw_line flaw.at flaw.found flaw.wanted
+last_bytes (Flawed flaw) =
+    line (numbered (codes "flaw ") flaw.at ++ numbered (codes " ") flaw.found ++ numbered (codes " ") flaw.wanted)
 
 -- the status of a run whose sink failed
 abbrev pub sink_fault_status : ℕ

@@ -2,7 +2,8 @@
 ghost use Rattle.std.specs.Prelude.{◌≡◌, ◌≢◌, ◌+◌, ◌++◌, ◌≤◌, List, Some, length, ℕ};
 ghost use Rattle.byte_ends.specs.Faults.{Rose};
 ghost use Rattle.byte_ends.specs.Sink.{Appends, AppendsSome};
-ghost use Rattle.heap_run.specs.Texts.{reason_line, numbered, numbered_line};
+ghost use Rattle.object_graph.specs.Texts.{line};
+ghost use Rattle.heap_run.specs.Texts.{reason_line, numbered};
 ghost use Rattle.heap_run.specs.Texts.{last_bytes, status_of, sink_fault_status};
 ghost use Rattle.heap_run.specs.Answers.{refusal_of, last_line_of, soak_line_of};
 ghost use Rattle.byte_ends.specs.Sure.{HasSums};
@@ -194,13 +195,13 @@ fn reason_text(head: &str, line: u32, reason: &str) -> ArrayString<LAST_LINE_BYT
     text
 }
 
-/// A line of a head and the number of a line.
-fn numbered_text(head: &str, line: u32) -> ArrayString<LAST_LINE_BYTES>
+/// A line of a head and a number.
+fn numbered_text(head: &str, number: u32) -> ArrayString<LAST_LINE_BYTES>
     requires { length head.now ≤ DIGITS }
-    ensures { result.bytes ≡ numbered_line head.now line }
+    ensures { result.bytes ≡ line (numbered head.now number) }
 {
     let mut text = ArrayString::new();
-    push_number(&mut text, head, line as u64);
+    push_number(&mut text, head, number as u64);
     text.push_str("\n");
     text
 }

@@ -1,12 +1,12 @@
 //! What a run is given before its first command, for which all its memory is taken, and the run itself.
-ghost use Rattle.std.specs.Prelude.{◌≡◌, false, length, IfOk};
+ghost use Rattle.std.specs.Prelude.{◌≡◌, Bool, false, length, IfOk, None};
 ghost use Rattle.object_graph.specs.Graphs.{Graph, start};
 ghost use Rattle.page_space.specs.Sizes.{AreWithin};
 ghost use Rattle.write_barrier.specs.MutatorState.{IsOpened};
 ghost use Rattle.collector.specs.States.{HeapShows};
 ghost use Rattle.page_space.specs.Extents.{Space};
 ghost use Rattle.heap_script.specs.declared.inspecting.Inspection.{Inspection as Inspected};
-ghost use Rattle.heap_script.specs.Inspecting.{counts_at_end, JudgesEnd};
+ghost use Rattle.heap_script.specs.Inspecting.{counts_at_end, HasInspected, JudgesEnd};
 ghost use Rattle.heap_script.specs.Inspectors.{ChecksImage};
 ghost use Rattle.heap_script.specs.Runs.{Finishes};
 ghost use Rattle.heap_script.specs.Stages.{stage_of};
@@ -80,10 +80,13 @@ impl Opened {
         gate: &G,
     ) -> Ran
         requires { (inspects : Inspects) × (sizes : Sizes) × IsReady inspects sizes (length script.now.variables) self }
-        ensures finishes { let main = result.heap.main in (later : Inspected Space)
+        ensures finishes { let main = result.heap.main in let executed = result.finished.executed in
+            (later : Inspected Space) × (ended : Bool)
+            × HasInspected ChecksImage script.now self.heap self.inspection ended executed result.heap later None
             × (finishes : Finishes (counts_at_end self.inspection) script.now (stage_of main) result.finished
             (K.HasTaken sink.old) (K.HasTaken sink.new) (K.faults sink.old) (K.faults sink.new))
-            × JudgesEnd ChecksImage self.inspection later main finishes.reached.so_far.graph finishes.collections }
+            × JudgesEnd ChecksImage script.now self.heap self.inspection later executed main
+            finishes.reached.so_far.graph finishes.collections }
         ensures shows { (graph : Graph) × HeapShows result.heap graph }
         ensures space { result.heap.main.seat.space ≡ self.heap.main.seat.space }
     {

@@ -8,7 +8,8 @@ ghost use Rattle.byte_ends.specs.Sink.{Appends, AppendsSome};
 ghost use Rattle.heap_script.specs.Runs.{IsCut};
 ghost use Rattle.heap_run.specs.Texts.{last_bytes, status_of, sink_fault_status};
 ghost use Rattle.heap_run.specs.Opening.{inspects_for, IsReady};
-ghost use Rattle.heap_run.specs.Answers.{Answers, Runs, AsksToRun, Taken};
+ghost use Rattle.command_line.specs.Invocations.{asked_run};
+ghost use Rattle.heap_run.specs.Answers.{Answers, Runs, AsksFor, Taken};
 ghost use Rattle.heap_run.specs.Answers.{input_of, last_line_of, unopened};
 
 use crate::ended::{Ended, keep};
@@ -29,10 +30,10 @@ use std::thread::Threads;
 /// Runs the program. `words` are the words of the command line without the program's name, `source`
 /// is the script, and `sink` takes what it writes and the last line. The heap has the sizes that the
 /// words give; threads and gates are not used. Where the words ask for a check, the heap is judged
-/// behind each full collection, and once more at the script's end, with what is left counted. Where
-/// they ask for a generated script, `sink` takes that, nothing is read, and there is no heap. Where they
-/// ask for a soak, a generated script is run, and `sink` takes the sums of what it tells, and nothing is
-/// read.
+/// after each line for which it was fully collected, and once more at the script's end, with what is
+/// left counted. Where they ask for a generated script, `sink` takes that, nothing is read, and there is
+/// no heap. Where they ask for a soak, a generated script is run, and `sink` takes the sums of what it
+/// tells, and nothing is read.
 ///
 /// Where a heap is kept, it shows the graph after the executed lines, whatever became of the bytes.
 pub fn run<S: Source, K: Sink, G: Gate, R: Threads + Sync>(
@@ -84,7 +85,7 @@ fn run_read<S: Source, K: Sink, G: Gate, R: Threads + Sync>(
 ) -> Ended
     requires { AreWithin sizes 0 }
     ensures { (words : List (List ℕ)) (checks : Bool) → inspects ≡ inspects_for checks
-        → AsksToRun words checks sizes → Answers words
+        → AsksFor words (asked_run checks sizes) → Answers words
         (input_of (S.left source.old) (S.left source.new) (S.faults source.old) (S.faults source.new))
         (K.HasTaken sink.old) (K.HasTaken sink.new) (K.faults sink.old) (K.faults sink.new) result }
 {

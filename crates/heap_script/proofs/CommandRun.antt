@@ -1,5 +1,5 @@
 -- A command that is executed.
-use Rattle.std.proofs.Common.{◌≡◌, ◌∙◌, ℕ, suc, ◌+◌, ◌-◌, ◌≤◌, List, [], length, drop, Some, Ok, refl, sym, subst}
+use Rattle.std.proofs.Common.{◌≡◌, ◌∙◌, ℕ, suc, ◌+◌, ◌-◌, ◌≤◌, List, [], length, drop, false, Some, Ok, refl, sym, subst}
 use Rattle.std.proofs.Common.{arith}
 use Rattle.std.proofs.lemmas.List.Elements.{All-get_or}
 use Rattle.object_graph.specs.Graphs.{Graph}
@@ -16,10 +16,11 @@ use Rattle.mutator.specs.declared.output.TheConstants.{OUTPUT_BYTES, ROOM}
 use Rattle.heap_script.specs.Between.{RunsLines}
 use Rattle.heap_script.specs.Collecting.{Tries, Collects, CarriesCommand}
 use Rattle.heap_script.specs.Cycles.{cycle_after_line}
+use Rattle.heap_script.specs.Noting.{Passes}
 use Rattle.heap_script.specs.Progress.{objects_made, CarriesLine}
 use Rattle.heap_script.specs.Runs.{OutputHolds}
 use Rattle.heap_script.proofs.LinesRun.{place_of, behind_first, by_index, one_less, below, reads}
-use Rattle.heap_script.proofs.LinesRun.{RunsLines-line, holds_line}
+use Rattle.heap_script.proofs.LinesRun.{RunsLines-line, passes_line, holds_line}
 use Rattle.heap_script.proofs.Asking.{rest_stays}
 use Rattle.heap_script.proofs.Ways.{past_end}
 
@@ -60,7 +61,7 @@ module _ {script : ScriptText} {heap : HeapState} {objects : ℕ} {out taken ts 
   stays_command = same ∙ sym (rest_stays heap.rest command tries.apart)
 
   -- it came through
-  carries_command : CarriesLine script.fields heap.rest.in_cycle heap.main after.main r.running.reached.so_far.graph
+  abbrev carries_command : CarriesLine script.fields heap.rest.in_cycle heap.main after.main r.running.reached.so_far.graph
       (Some command) [] (Ok tt)
   carries_command =
       CarriesCommand.apart tries.apart
@@ -88,7 +89,15 @@ module _ {script : ScriptText} {heap : HeapState} {objects : ℕ} {out taken ts 
       RunsLines-line r (Run command) does after next spare on_command count_command stays_command carries_command
       objects' ts made refl
 
-  -- and wrote nothing
+  -- no full collection came for it
+  pub passes_command : {start : HeapState} {from : ℕ} → after.collected ≡ heap.collected → heap.collected ≡ false
+      → Passes script start from heap (last - (spare + length rest))
+      → Passes script start from after (last - (spare + length next))
+  passes_command noted none =
+      passes_line r (Run command) does after next spare on_command count_command stays_command carries_command
+      (record { carries = carries_command; noted = noted }) (noted ∙ none)
+
+  -- and it wrote nothing
   pub holds_command : length out + ROOM ≤ OUTPUT_BYTES → OutputHolds script (last - (spare + length rest)) out
       → OutputHolds script (last - (spare + length next)) out
   holds_command =

@@ -9,7 +9,7 @@ use Rattle.object_graph.specs.Graphs.{Graph}
 use Rattle.object_graph.specs.Meaning.{meaning, fault}
 use Rattle.object_graph.specs.Run.{lines_most, Ending, end, fault_at, limit_at, fault_in, ending}
 use Rattle.script_text.specs.Scripts.{ScriptText}
-use Rattle.script_text.specs.Unrolled.{executed}
+use Rattle.script_text.specs.Unrolled.{executed, executed_lines}
 use Rattle.script_text.specs.Left.{IsLeft, Goes}
 use Rattle.script_text.proofs.Left.{at_end}
 use Rattle.mutator.specs.declared.stop.Stop.{Stop}
@@ -26,14 +26,14 @@ use Rattle.heap_script.specs.Cycles.{cycle_after_line}
 use Rattle.heap_script.specs.Collecting.{IsSound, CollectsFully, HasNoPlace, FaultsOn, StopsAt, CarriesCommand}
 use Rattle.heap_script.specs.Stages.{Stage, Collections, uncollected, fully_collected, stage_of}
 use Rattle.heap_script.specs.Reached.{left_after, RanTo, EndsAs}
-use Rattle.heap_script.specs.Runs.{EndsRun, FaultsBehind, IsFull, IsFullAt}
+use Rattle.heap_script.specs.Runs.{EndsRun, FaultsBehind, IsFull}
 use Rattle.heap_script.specs.Progress.{how_of, CarriesLine, Pauses}
 use Rattle.heap_script.proofs.Asking.{rest_stays}
 use Rattle.heap_script.proofs.Retrying.{fully_collects}
 use Rattle.heap_script.specs.Between.{Running}
 use Rattle.heap_script.proofs.GoingOn.{ending-within, ending-below, goes-on}
 use Rattle.heap_script.proofs.Collected.{wants, heap_with, Running-fully}
-use Rattle.heap_script.proofs.Running.{Running-noted}
+use Rattle.heap_script.proofs.Running.{Running-noted, next_at}
 
 -- at the limit, it ends at whatever line is next
 ending-limit : (names : List (List ℕ)) (graph : Graph) (next : Executed) (more : List Executed)
@@ -101,8 +101,11 @@ EndsRun-full script old main at' n number ts' command need r collects below goes
     } in
     record {
       goes_on = goes-on script graph sound.after sound.written at' n number ts' command below goes sound.is;
-      full = subst (IsFullAt (heap_of main) main.free graph number need) (sym goes.is)
-          (refl, (place.lacks.needs, filled));
+      at = executed number (Some command);
+      next = next_at (executed_lines script.lines) n (executed number (Some command)) goes.rest goes.is;
+      number = refl;
+      needs = place.lacks.needs;
+      full = filled;
       collected = refl;
     }
 

@@ -1,11 +1,13 @@
 -- A run whose judge answered: with a flaw, to which it comes, or with none.
-use Rattle.std.proofs.Common.{◌≡◌, ◌≢◌, ◌⊎◌, ◌∙◌, ℕ, Bool, true, false, List, Option, Some, None, inl, inr, refl, sym, ap}
-use Rattle.std.proofs.Common.{subst, Result, Ok, Err, IfOk}
+use Rattle.std.proofs.Common.{◌≡◌, ◌≢◌, ◌⊎◌, ◌∙◌, ℕ, Bool, true, false, List, Option, Some, None, inl, inr, refl, sym}
+use Rattle.std.proofs.Common.{ap, subst, Result, Ok, Err, IfOk}
 use Rattle.object_graph.specs.Graphs.{Graph}
 use Rattle.page_space.specs.Extents.{Space}
 use Rattle.script_text.specs.Scripts.{ScriptText}
-use Rattle.write_barrier.specs.MutatorState.{Mutator}
+use Rattle.collector.specs.Collected.{CollectsAll}
 use Rattle.collector.specs.States.{HeapState, HeapShows}
+use Rattle.mutator.specs.declared.stop.Stop.{Stop}
+use Rattle.mutator.specs.declared.stop.Stop.TheVariants as stop
 use Rattle.heap_check.specs.declared.counts.Counts.{Counts}
 use Rattle.heap_check.specs.declared.flaw.Flaw.{Flaw}
 use Rattle.heap_script.specs.declared.finished.How.{How}
@@ -14,10 +16,10 @@ use Rattle.heap_script.specs.declared.finished.Finished.{Finished}
 use Rattle.heap_script.specs.declared.inspecting.Inspection.{Inspection}
 use Rattle.heap_script.specs.declared.inspecting.Inspection.TheVariants.{Nothing, Counts as ByCensus, Checks}
 use Rattle.heap_script.specs.Found.{PausesFound}
-use Rattle.heap_script.specs.Inspecting.{HasInspected, JudgesAfter, InspectsEnd, EndsJudged, JudgesLast, JudgesEnd}
+use Rattle.heap_script.specs.Inspecting.{HasInspected, InspectsEnd, EndsJudged, JudgesLast, JudgesEnd}
 use Rattle.heap_script.specs.Inspecting.{counts_at_end, plan_of, how_found, how_judged}
 use Rattle.heap_script.specs.Between.{Running}
-use Rattle.heap_script.specs.Progress.{Pauses, Halts}
+use Rattle.heap_script.specs.Progress.{Pauses, Halts, how_of}
 use Rattle.heap_script.specs.Runs.{HasCounts}
 use Rattle.heap_script.specs.Stages.{Collections, uncollected, finally_collected, stage_of}
 use Rattle.object_graph.specs.Run.{Told}
@@ -26,17 +28,6 @@ use Rattle.heap_script.proofs.FinalJudgements.{Answering, PauseIsJudged, not_fin
 use Rattle.heap_script.proofs.FinalJudgements.{census_first}
 use Rattle.heap_script.proofs.Judging.{pauses_alike, pauses_counted}
 
--- what was judged after a line was judged too
-pub inspected_after : {J : Type 0} {Judged : Answering J} {before : Inspection J} (collected : Bool) (main : Mutator)
-    (mid later : Inspection J) (found : Option Flaw) → HasInspected Judged before mid None
-    → JudgesAfter Judged collected main mid later found → HasInspected Judged before later found
-inspected_after true main Nothing later found begun (same, none) = rw (same, none) begun
-inspected_after true main ByCensus later found begun (same, none) = rw (same, none) begun
-inspected_after {Judged = Judged} {before} true main (Checks judge) later found begun (next, is, finds) =
-    subst (λ (one : Inspection _). HasInspected Judged before one found) (sym is)
-    (HasInspected.one_more judge next main found begun finds)
-inspected_after false main mid later found begun (same, none) = rw (same, none) begun
-
 -- a run that stopped, while the sink did not fail, comes to that, or to a flaw
 pub paused_found : (found : Option Flaw) (how : How) {script : ScriptText} {heap : HeapState} {waiting : List ℕ}
     {line n : ℕ} {old new : List ℕ → Type 0} {fo fn : ℕ} → fn ≡ fo
@@ -44,6 +35,13 @@ pub paused_found : (found : Option Flaw) (how : How) {script : ScriptText} {heap
     → PausesFound false script heap waiting (finished_by (how_found found how) line n) old new fo fn found
 paused_found None how steady p = PausesFound.unflawed p
 paused_found (Some flaw) how steady p = PausesFound.flawed flaw p.reached.so_far.graph refl p.shown steady
+
+-- a line that stopped is no end of a script, whatever is found after it
+pub stopped_not_end : (found : Option Flaw) (why : Stop) → how_found found (how_of why) ≢ ways.End
+stopped_not_end (Some flaw) why is = cc
+stopped_not_end None (stop.Fault word) is = cc
+stopped_not_end None (stop.NoRoom need) is = cc
+stopped_not_end None (stop.NoClear entries) is = cc
 
 -- a run that goes no further between two lines, where no collection came since the last one, pauses there
 pub paused_here : {script : ScriptText} {heap : HeapState} {objects : ℕ} {waiting kept : List ℕ}
@@ -123,49 +121,54 @@ inspected_space Judged inspection later heap after graph how came e = elim (ends
 ]
 
 -- What a run came to before its last bytes are handed on, once its end was inspected.
-pub record IsInspected {J : Type 0} (Judged : Answering J) (before later : Inspection J) (counted : Bool)
-    (script : ScriptText) (heap : HeapState) (waiting : List ℕ) (finished : Finished) (old new : List ℕ → Type 0)
-    (fo fn : ℕ) : Type 0 where
+pub record IsInspected {J : Type 0} (Judged : Answering J) (start : HeapState) (before later : Inspection J)
+    (counted : Bool) (script : ScriptText) (heap : HeapState) (waiting : List ℕ) (finished : Finished)
+    (old new : List ℕ → Type 0) (fo fn : ℕ) : Type 0 where
   pub found : Option Flaw
-  pub inspected : HasInspected Judged before later found
+  pub ended : Bool
+  pub inspected : HasInspected Judged script start before ended finished.executed heap later found
   pub paused : PausesFound counted script heap waiting finished old new fo fn found
-  pub ends : PauseIsJudged Judged before later heap.main paused
+  pub ends : PauseIsJudged Judged start before later heap.main paused
 
-module _ {J : Type 0} (Judged : Answering J) (regions : J → Space) (before : Inspection J) (script : ScriptText)
-    (heap after : HeapState) (waiting : List ℕ) (line n : ℕ) (old new : List ℕ → Type 0) (fo fn : ℕ) where
+module _ {J : Type 0} (Judged : Answering J) (regions : J → Space) (start : HeapState) (before : Inspection J)
+    (script : ScriptText) (heap after : HeapState) (waiting : List ℕ) (line n : ℕ) (old new : List ℕ → Type 0)
+    (fo fn : ℕ) where
   -- what is inspected of a run that came to this, by its inspection before and after
   abbrev pub Inspects : Inspection J → Inspection J → How → Type 0
   Inspects mid later came =
-      IsInspected Judged before later (counts_at_end (plan_of regions mid)) script after waiting
+      IsInspected Judged start before later (counts_at_end (plan_of regions mid)) script after waiting
       (finished_by came line n) old new fo fn
 
   -- what is left was judged last of all, and so were the counts of what can be reached
   end_judged : (judge next : J) (counts : Counts) (graph : Graph) (collections : Collections)
-      → HasInspected Judged before (Checks judge) None → Judged judge next after.main (Ok counts)
-      → HasCounts graph counts → collections ≡ finally_collected
-      → JudgesEnd Judged before (Checks next) after.main graph collections
-  end_judged judge next counts graph collections begun judged has is =
+      → HasInspected Judged script start before false n heap (Checks judge) None
+      → CollectsAll heap.main after.main graph → Judged judge next after.main (Ok counts) → HasCounts graph counts → collections ≡ finally_collected
+      → JudgesEnd Judged script start before (Checks next) n after.main graph collections
+  end_judged judge next counts graph collections begun collects judged has is =
       let (first, from) = judged_first (Checks judge) judge refl begun in
-      let last : JudgesLast Judged (Checks first) (Checks next) after.main (Ok counts) = record {
+      let last : JudgesLast Judged script start (Checks first) (Checks next) n after.main graph (Ok counts) = record {
+        heap = heap;
         judge = judge;
         next = next;
-        lines = subst (λ one. HasInspected Judged one (Checks judge) None) from begun;
+        lines = subst (λ one. HasInspected Judged script start one false n heap (Checks judge) None) from begun;
+        collects = collects;
         is = refl;
         judged = judged;
       } in
-      subst (λ one. JudgesEnd Judged one (Checks next) after.main graph collections) (sym from)
-      (subst (λ one. JudgesEnd Judged (Checks first) (Checks next) after.main graph one) (sym is)
+      subst (λ one. JudgesEnd Judged script start one (Checks next) n after.main graph collections) (sym from)
+      (subst (λ one. JudgesEnd Judged script start (Checks first) (Checks next) n after.main graph one) (sym is)
       (counts, has, last))
 
   -- a judge answered at the end of the script
   judged_end : (judge next : J) (later : Inspection J) (came : How) (answer : Result Counts Flaw)
-      → HasInspected Judged before (Checks judge) None
+      → HasInspected Judged script start before false n heap (Checks judge) None
       → (p : Pauses false script heap waiting (finished_by ways.End line n) old new fo fn) → later ≡ Checks next
       → (e : EndsJudged Judged judge next heap after p.reached.so_far.graph came) → e.answer ≡ answer
       → Inspects (Checks judge) later came
   judged_end judge next later came (Ok counts) begun p kept e is =
       let judged = subst (Judged judge next after.main) is e.judged in
       let has = subst (λ (one : Result Counts Flaw). IfOk one (HasCounts p.reached.so_far.graph)) is e.counted in
+      let ((none, zero, since, ends), handed, steady) = p.halts in
       let (paused, collections-is, told) =
       pauses_counted came p
       (record {
@@ -178,96 +181,112 @@ module _ {J : Type 0} (Judged : Answering J) (regions : J → Space) (before : I
       rw kept
       (record {
         found = None;
-        inspected = HasInspected.one_more judge next after.main None begun (Ok counts, judged, refl);
+        ended = true;
+        inspected = HasInspected.at_end n heap after (Checks judge) (Checks next) None begun p.reached ends e.collects
+            (next, refl, (Ok counts, judged, refl));
         paused = PausesFound.unflawed paused;
-        ends = end_judged judge next counts paused.reached.so_far.graph paused.collections begun judged
+        ends = end_judged judge next counts paused.reached.so_far.graph paused.collections begun
+            (subst (λ (one : Told). CollectsAll heap.main after.main one.graph) (sym told) e.collects) judged
             (subst (λ (one : Told). HasCounts one.graph counts) (sym told) has) collections-is;
       })
   judged_end judge next later came (Err flaw) begun p kept e is =
-      let (ends, handed, steady) = p.halts in
+      let ((none, zero, since, ends), handed, steady) = p.halts in
       rw kept
       (record {
         found = Some flaw;
-        inspected = HasInspected.one_more judge next after.main (Some flaw) begun
-            (Err flaw, subst (Judged judge next after.main) is e.judged, refl);
+        ended = true;
+        inspected = HasInspected.at_end n heap after (Checks judge) (Checks next) (Some flaw) begun p.reached ends
+            e.collects
+            (next, refl, (Err flaw, subst (Judged judge next after.main) is e.judged, refl));
         paused = PausesFound.flawed flaw p.reached.so_far.graph (e.is ∙ ap how_judged is) e.shows steady;
         ends = tt;
       })
 
   -- the run came to the end of its script
-  inspected_end : (mid later : Inspection J) (came : How) → HasInspected Judged before mid None
+  inspected_end : (mid later : Inspection J) (came : How)
+      → HasInspected Judged script start before false n heap mid None
       → (p : Pauses false script heap waiting (finished_by ways.End line n) old new fo fn)
       → InspectsEnd Judged mid later heap after p.reached.so_far.graph ways.End came → Inspects mid later came
   inspected_end Nothing later came begun p (kept, is, same) =
       rw (kept, is, same)
       (record {
         found = None;
+        ended = false;
         inspected = begun;
         paused = PausesFound.unflawed p;
-        ends = not_final Judged before Nothing heap.main p.reached.so_far.graph p.collections
+        ends = not_final Judged script start before Nothing n heap.main p.reached.so_far.graph p.collections
             (halts_not_final script (stage_of heap.main) p.collections waiting (finished_by ways.End line n)
             p.reached.so_far old new fo fn ways.End p.halts);
       })
   inspected_end ByCensus later came begun p (kept, counted) =
       let (paused, collections-is, told) = pauses_counted came p counted in
+      let ((none, zero, since, ends), handed, steady) = p.halts in
       rw kept
       (record {
         found = None;
-        inspected = begun;
+        ended = true;
+        inspected = HasInspected.at_end n heap after ByCensus ByCensus None begun p.reached ends counted.collects
+            (refl, refl);
         paused = PausesFound.unflawed paused;
         ends = subst
-            (λ one. JudgesEnd Judged one ByCensus after.main paused.reached.so_far.graph paused.collections)
+            (λ one. JudgesEnd Judged script start one ByCensus n after.main paused.reached.so_far.graph
+            paused.collections)
             (sym (census_first ByCensus refl begun)) tt;
       })
   inspected_end (Checks judge) later came begun p (next, kept, e) =
       judged_end judge next later came e.answer begun p kept e refl
 
   -- it came to something else
-  inspected_else : (mid later : Inspection J) (how came : How) → how ≢ ways.End → HasInspected Judged before mid None
+  inspected_else : {ended : Bool} (mid later : Inspection J) (how came : How) → how ≢ ways.End
+      → HasInspected Judged script start before ended n heap mid None
       → (p : Pauses false script heap waiting (finished_by how line n) old new fo fn)
       → (later ≡ mid) × (came ≡ how) × (after ≡ heap) → Inspects mid later came
-  inspected_else mid later how came other begun p (kept, is, same) =
+  inspected_else {ended = ended} mid later how came other begun p (kept, is, same) =
       let (paused, collections-is) =
       pauses_alike (counts_at_end (plan_of regions mid)) how came other p (is, same) in
       rw kept
       (record {
         found = None;
-        inspected = begun;
+        ended = ended;
+        inspected = subst (λ one. HasInspected Judged script start before ended n one mid None) (sym same) begun;
         paused = PausesFound.unflawed paused;
-        ends = not_final Judged before mid after.main paused.reached.so_far.graph paused.collections
+        ends = not_final Judged script start before mid n after.main paused.reached.so_far.graph paused.collections
             (λ final. halts_not_final script (stage_of heap.main) p.collections waiting (finished_by how line n)
             p.reached.so_far old new fo fn how p.halts (sym collections-is ∙ final));
       })
 
   -- so it is wherever it came to, if no flaw was found before
-  inspected_none : (mid later : Inspection J) (how came : How) → HasInspected Judged before mid None
-      → (how ≡ ways.End) ⊎ (how ≢ ways.End)
+  inspected_none : {ended : Bool} (mid later : Inspection J) (how came : How) → (how ≡ ways.End → ended ≡ false)
+      → HasInspected Judged script start before ended n heap mid None → (how ≡ ways.End) ⊎ (how ≢ ways.End)
       → (p : Pauses false script heap waiting (finished_by how line n) old new fo fn)
       → InspectsEnd Judged mid later heap after p.reached.so_far.graph how came → Inspects mid later came
-  inspected_none mid later how came begun (inl is) =
+  inspected_none mid later how came goes begun (inl is) =
       subst
       (λ one. (p : Pauses false script heap waiting (finished_by one line n) old new fo fn)
       → InspectsEnd Judged mid later heap after p.reached.so_far.graph one came → Inspects mid later came) (sym is)
-      (inspected_end mid later came begun)
-  inspected_none mid later how came begun (inr other) = λ p e.
+      (inspected_end mid later came
+      (subst (λ one. HasInspected Judged script start before one n heap mid None) (goes is) begun))
+  inspected_none mid later how came goes begun (inr other) = λ p e.
       inspected_else mid later how came other begun p
       (unended Judged mid later heap after p.reached.so_far.graph how came other e)
 
   -- so a run is inspected that paused anywhere
-  pub pauses_inspected : {found : Option Flaw} (mid later : Inspection J) (how came : How)
-      → HasInspected Judged before mid found
+  pub pauses_inspected : {found : Option Flaw} {ended : Bool} (mid later : Inspection J) (how came : How)
+      → (how ≡ ways.End → ended ≡ false) → HasInspected Judged script start before ended n heap mid found
       → PausesFound false script heap waiting (finished_by how line n) old new fo fn found
       → ((graph : Graph) → HeapShows heap graph → InspectsEnd Judged mid later heap after graph how came)
       → Inspects mid later came
-  pauses_inspected mid later how came begun (PausesFound.unflawed p) ends =
-      inspected_none mid later how came begun (ends_or how) p (ends p.reached.so_far.graph p.shown)
-  pauses_inspected mid later how came begun (PausesFound.flawed flaw graph is shown steady) ends =
+  pauses_inspected mid later how came goes begun (PausesFound.unflawed p) ends =
+      inspected_none mid later how came goes begun (ends_or how) p (ends p.reached.so_far.graph p.shown)
+  pauses_inspected {ended = ended} mid later how came goes begun (PausesFound.flawed flaw graph is shown steady)
+      ends =
       let other : how ≢ ways.End = λ ended. cc in
       let (kept, was, same) = unended Judged mid later heap after graph how came other (ends graph shown) in
       rw kept
       (record {
         found = Some flaw;
-        inspected = begun;
+        ended = ended;
+        inspected = subst (λ one. HasInspected Judged script start before ended n one mid (Some flaw)) (sym same) begun;
         paused = PausesFound.flawed flaw graph (was ∙ is) (subst (λ one. HeapShows one graph) (sym same) shown)
             steady;
         ends = tt;

@@ -1,7 +1,7 @@
 -- What a check of a whole heap answers: no flaw, and the counts of what can be reached, if the heap keeps nothing else.
 -- So a run that an inspector judges comes to no flaw.
 use Rattle.std.proofs.Common.{◌≡◌, ◌∙◌, ℕ, Bool, true, false, List, Option, Some, None, Result, Ok, Err, OnErr, IfOk}
-use Rattle.std.proofs.Common.{refl, sym, subst}
+use Rattle.std.proofs.Common.{refl, subst}
 use Rattle.object_graph.specs.Graphs.{Graph}
 use Rattle.object_graph.specs.Invariants.{IsGraph}
 use Rattle.page_space.specs.Sizes.{AreWithin}
@@ -21,7 +21,7 @@ use Rattle.heap_script.specs.declared.inspecting.Inspection.TheVariants.{Nothing
 use Rattle.heap_script.specs.declared.finished.Finished.{Finished}
 use Rattle.write_barrier.specs.MutatorState.{Mutator}
 use Rattle.heap_script.specs.Found.{FinishesFound, EndIsJudged}
-use Rattle.heap_script.specs.Inspecting.{HasInspected, JudgesEnd, counts_at_end, plan_of}
+use Rattle.heap_script.specs.Inspecting.{HasInspected, JudgesAfter, JudgesEnd, counts_at_end, plan_of}
 use Rattle.heap_script.specs.Inspectors.{same_space, ChecksImage}
 use Rattle.heap_script.specs.Stages.{Stage}
 use Rattle.heap_script.specs.Runs.{HasCounts, Finishes}
@@ -49,23 +49,41 @@ same_plan Nothing = refl
 same_plan ByCensus = refl
 same_plan (Checks space) = refl
 
--- an inspector finds no flaw
-no_flaw : {before later : Inspection Space} {flaw : Flaw} → HasInspected ChecksImage before later (Some flaw) → ⊥
-no_flaw (HasInspected.one_more mid new main found begun (Ok counts, judged, is)) = cc
-no_flaw (HasInspected.one_more mid new main found begun (Err flaw, judged, is)) = judged.no_flaw
+-- an inspector that judges finds no flaw
+judges_no_flaw : (collected : Bool) (main : Mutator) (inspection later : Inspection Space) (flaw : Flaw)
+    → JudgesAfter ChecksImage collected main inspection later (Some flaw) → ⊥
+judges_no_flaw true main Nothing later flaw (same, none) = cc
+judges_no_flaw true main ByCensus later flaw (same, none) = cc
+judges_no_flaw true main (Checks space) later flaw (next, kept, (Ok counts, judged, is)) = cc
+judges_no_flaw true main (Checks space) later flaw (next, kept, (Err found, judged, is)) = judged.no_flaw
+judges_no_flaw false main inspection later flaw (same, none) = cc
+
+-- nor did it ever
+no_flaw : {script : ScriptText} {start heap : HeapState} {before later : Inspection Space} {ended : Bool} {n : ℕ}
+    {flaw : Flaw} → HasInspected ChecksImage script start before ended n heap later (Some flaw) → ⊥
+no_flaw {later = later} {flaw = flaw}
+    (HasInspected.line executed old new inspection last found begun result notes judged) =
+    judges_no_flaw new.collected new.main inspection later flaw judged
+no_flaw {later = later} {flaw = flaw}
+    (HasInspected.at_end executed old new inspection last found begun reached ends collects judged) =
+    judges_no_flaw true new.main inspection later flaw judged
 
 -- so the run finishes as it would with none, and what it left at the end of its script was judged, if it is to be
-pub finishes_unflawed : (found : Option Flaw) (before later : Inspection Space) (main : Mutator) {script : ScriptText}
-    {stage : Stage} {finished : Finished} {old new : List ℕ → Type 0} {fo fn : ℕ}
-    → HasInspected ChecksImage before later found
+pub finishes_unflawed : (found : Option Flaw) (start heap : HeapState) (before later : Inspection Space)
+    {script : ScriptText} {stage : Stage} {finished : Finished} {old new : List ℕ → Type 0} {fo fn : ℕ} {ended : Bool}
+    → HasInspected ChecksImage script start before ended finished.executed heap later found
     → (told : FinishesFound (counts_at_end (plan_of same_space before)) script stage finished old new fo fn found)
-    → EndIsJudged ChecksImage before later main told
-    → (finishes : Finishes (counts_at_end before) script stage finished old new fo fn)
-    × JudgesEnd ChecksImage before later main finishes.reached.so_far.graph finishes.collections
-finishes_unflawed None before later main {script} {stage} {finished} {old} {new} {fo} {fn} inspected
+    → EndIsJudged ChecksImage start before later heap.main told
+    → HasInspected ChecksImage script start before ended finished.executed heap later None
+    × (finishes : Finishes (counts_at_end before) script stage finished old new fo fn)
+    × JudgesEnd ChecksImage script start before later finished.executed heap.main finishes.reached.so_far.graph
+    finishes.collections
+finishes_unflawed None start heap before later {script} {stage} {finished} {old} {new} {fo} {fn} inspected
     (FinishesFound.unflawed finishes) judged =
+    let (as_planned, ends) =
     subst
     (λ (one : Inspection Space). (finishes : Finishes (counts_at_end one) script stage finished old new fo fn)
-    × JudgesEnd ChecksImage before later main finishes.reached.so_far.graph finishes.collections)
-    (same_plan before) (finishes, judged)
-finishes_unflawed (Some flaw) before later main inspected told judged = absurd (no_flaw inspected)
+    × JudgesEnd ChecksImage script start before later finished.executed heap.main finishes.reached.so_far.graph
+    finishes.collections) (same_plan before) (finishes, judged) in
+    (inspected, as_planned, ends)
+finishes_unflawed (Some flaw) start heap before later inspected told judged = absurd (no_flaw inspected)

@@ -1,13 +1,12 @@
 -- A run whose heap was judged: it stands where it stood.
 use Rattle.std.proofs.Common.{◌≡◌, ◌≢◌, ◌∙◌, ℕ, Bool, true, false, List, refl, sym, ap, subst}
-use Rattle.object_graph.specs.Graphs.{Graph}
 use Rattle.page_space.specs.Extents.{Space}
 use Rattle.std.proofs.lemmas.Bool.{false≢true}
 use Rattle.object_graph.specs.Run.{Told}
 use Rattle.script_text.specs.Scripts.{ScriptText}
 use Rattle.write_barrier.specs.MutatorState.{heap_of}
-use Rattle.collector.specs.States.{HeapState, HeapShows, Rest}
-use Rattle.collector.proofs.Keeping.{same_heap}
+use Rattle.collector.specs.States.{HeapState, with_collected}
+use Rattle.collector.proofs.Keeping.{noted_shows}
 use Rattle.heap_script.specs.declared.finished.How.{How}
 use Rattle.heap_script.specs.declared.finished.How.TheVariants as ways
 use Rattle.heap_script.specs.declared.finished.Finished.{Finished}
@@ -19,6 +18,7 @@ use Rattle.heap_script.specs.declared.inspecting.Inspection.TheVariants.{Nothing
 use Rattle.heap_script.specs.Inspecting.{IsFor, EndsCounted}
 use Rattle.heap_script.specs.Progress.{Halts, Pauses}
 use Rattle.heap_script.specs.Between.{Running}
+use Rattle.heap_script.proofs.Running.{Running-noted}
 use Rattle.heap_script.proofs.Finishing.{finished_by}
 
 -- an inspection that is for a heap is for one over the same regions
@@ -28,72 +28,36 @@ is_for heap after {inspection = Nothing} same space fits = rw same tt
 is_for heap after {inspection = ByCensus} same space fits = rw same tt
 is_for heap after {inspection = Checks regions} same space fits = rw same (fits ∙ sym space)
 
--- the same mutator's side beside another rest
-abbrev beside : HeapState → Rest → Bool → HeapState
-beside heap rest collected = record { main = heap.main; rest = rest; collected = collected }
-
--- a run stands between two lines, whatever is beside
-Running-beside : {script : ScriptText} {heap : HeapState} {objects : ℕ} {waiting : List ℕ} {old new : List ℕ → Type 0}
-    {at : ℕ} {ts : List ℕ} {n : ℕ} {collections : Collections} (rest : Rest) (noted : Bool)
-    → (r : Running script heap objects waiting old new at ts n collections)
-    → rest.in_cycle ≡ heap.rest.in_cycle → HeapShows (beside heap rest noted) r.reached.so_far.graph
-    → Running script (beside heap rest noted) objects waiting old new at ts n collections
-Running-beside rest noted r cycle shown = record {
-  reached = r.reached;
-  opened = r.opened;
-  spends = r.spends;
-  ungranted = r.ungranted;
-  shown = shown;
-  left = r.left;
-  handed = r.handed;
-  made = r.made;
-  few = r.few;
-  cycle = cycle ∙ r.cycle;
-  since = r.since;
-}
-
--- so it does once the heap was judged
+-- a run stands between two lines where it stood once the heap was judged
 pub Running-judged : {script : ScriptText} {heap after : HeapState} {objects : ℕ} {waiting : List ℕ}
     {old new : List ℕ → Type 0} {at : ℕ} {ts : List ℕ} {n : ℕ} {collections : Collections}
-    → (r : Running script heap objects waiting old new at ts n collections) → after.main ≡ heap.main
-    → after.rest.in_cycle ≡ heap.rest.in_cycle → ((graph : Graph) → HeapShows heap graph → HeapShows after graph)
+    → Running script heap objects waiting old new at ts n collections → after ≡ with_collected heap false
     → Running script after objects waiting old new at ts n collections
-Running-judged {script} {heap} {after} {objects} {waiting} {old} {new} {at} {ts} {n} {collections} r main cycle
-    shows =
-    let there = beside heap after.rest after.collected in
-    let same : after ≡ there = same_heap there after main refl refl in
-    let graph = r.reached.so_far.graph in
-    subst (λ one. Running script one objects waiting old new at ts n collections) (sym same)
-    (Running-beside after.rest after.collected r cycle (subst (λ one. HeapShows one graph) same (shows graph r.shown)))
+Running-judged {script} {heap} {after} {objects} {waiting} {old} {new} {at} {ts} {n} {collections} r taken =
+    subst (λ one. Running script one objects waiting old new at ts n collections) (sym taken) (Running-noted false r)
 
--- a run halts alike, whatever is beside
-Pauses-beside : {counted : Bool} {script : ScriptText} {heap : HeapState} {waiting : List ℕ} {finished : Finished}
-    {old new : List ℕ → Type 0} {faults_old faults_new : ℕ} (rest : Rest) (noted : Bool)
-    → (p : Pauses counted script heap waiting finished old new faults_old faults_new)
-    → HeapShows (beside heap rest noted) p.reached.so_far.graph
-    → Pauses counted script (beside heap rest noted) waiting finished old new faults_old faults_new
-Pauses-beside rest noted p shown = record {
+-- a run halts alike, whether a full collection is noted or not
+Pauses-noted : {counted : Bool} {script : ScriptText} {heap : HeapState} {waiting : List ℕ} {finished : Finished}
+    {old new : List ℕ → Type 0} {faults_old faults_new : ℕ} (collected : Bool)
+    → Pauses counted script heap waiting finished old new faults_old faults_new
+    → Pauses counted script (with_collected heap collected) waiting finished old new faults_old faults_new
+Pauses-noted {heap = heap} collected p = record {
   reached = p.reached;
   collections = p.collections;
   opened = p.opened;
   spends = p.spends;
-  shown = shown;
+  shown = noted_shows heap collected p.reached.so_far.graph p.shown;
   halts = p.halts;
 }
 
 -- so it does once the heap was judged
 pub Pauses-judged : {counted : Bool} {script : ScriptText} {heap after : HeapState} {waiting : List ℕ}
     {finished : Finished} {old new : List ℕ → Type 0} {faults_old faults_new : ℕ}
-    → (p : Pauses counted script heap waiting finished old new faults_old faults_new) → after.main ≡ heap.main
-    → ((graph : Graph) → HeapShows heap graph → HeapShows after graph)
+    → Pauses counted script heap waiting finished old new faults_old faults_new → after ≡ with_collected heap false
     → Pauses counted script after waiting finished old new faults_old faults_new
-Pauses-judged {counted} {script} {heap} {after} {waiting} {finished} {old} {new} {faults_old} {faults_new} p main
-    shows =
-    let there = beside heap after.rest after.collected in
-    let same : after ≡ there = same_heap there after main refl refl in
-    let graph = p.reached.so_far.graph in
-    subst (λ one. Pauses counted script one waiting finished old new faults_old faults_new) (sym same)
-    (Pauses-beside after.rest after.collected p (subst (λ one. HeapShows one graph) same (shows graph p.shown)))
+Pauses-judged {counted} {script} {heap} {after} {waiting} {finished} {old} {new} {faults_old} {faults_new} p taken =
+    subst (λ one. Pauses counted script one waiting finished old new faults_old faults_new) (sym taken)
+    (Pauses-noted false p)
 
 -- where a run is to count its heap, one that halted anywhere but at the end of its script halts alike
 halts_alike : (counted : Bool) (script : ScriptText) (stage : Stage) (collections : Collections) (waiting : List ℕ)

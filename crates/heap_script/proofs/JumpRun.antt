@@ -1,5 +1,5 @@
 -- A `repeat` or an `end` that is executed.
-use Rattle.std.proofs.Common.{◌≡◌, ◌∙◌, ℕ, suc, ◌+◌, ◌-◌, ◌≤◌, List, [], length, drop, Option, Ok, refl, sym, ap, subst}
+use Rattle.std.proofs.Common.{◌≡◌, ◌∙◌, ℕ, suc, ◌+◌, ◌-◌, ◌≤◌, List, [], length, drop, false, Option, Ok, refl, sym, ap, subst}
 use Rattle.std.proofs.Common.{add-zero, arith}
 use Rattle.std.proofs.lemmas.List.{length-drop}
 use Rattle.heap_model.specs.Types.{Command}
@@ -10,10 +10,11 @@ use Rattle.collector.specs.States.{HeapState, with_cycle}
 use Rattle.mutator.specs.declared.output.TheConstants.{OUTPUT_BYTES, ROOM}
 use Rattle.heap_script.specs.Between.{RunsLines, Begins}
 use Rattle.heap_script.specs.Cycles.{cycle_after_line}
+use Rattle.heap_script.specs.Noting.{NotesLine, Passes}
 use Rattle.heap_script.specs.Progress.{made_by, command_in, CarriesLine}
 use Rattle.heap_script.specs.Runs.{OutputHolds}
 use Rattle.heap_script.proofs.LinesRun.{place_of, behind, by_index, one_spent, stays_within, stays_shallow}
-use Rattle.heap_script.proofs.LinesRun.{RunsLines-line, holds_line}
+use Rattle.heap_script.proofs.LinesRun.{RunsLines-line, passes_line, holds_line}
 use Rattle.heap_script.proofs.Asking.{rest_without}
 
 module _ {script : ScriptText} {heap : HeapState} {objects : ℕ} {out taken ts : List ℕ} {rest : List Line}
@@ -78,6 +79,20 @@ module _ {script : ScriptText} {heap : HeapState} {objects : ℕ} {out taken ts 
         subst (λ (one : Option Command). objects ≡ objects + made_by one) (sym begins.none) (sym (add-zero objects)) in
         RunsLines-line r what begins.first heap next spared on_jump count_jump stays_jump carries_jump objects ts' made
         (turned ∙ ap (λ (all : List Line). (behind all rest ts what).turns) same)
+
+    -- no full collection is noted for it
+    notes_jump : NotesLine script.fields heap heap r.running.reached.so_far.graph (command_in what) [] (Ok tt)
+    notes_jump =
+        subst (λ (one : Option Command).
+        NotesLine script.fields heap heap r.running.reached.so_far.graph one [] (Ok tt))
+        (sym begins.none) (record { carries = (refl, refl, refl); noted = refl })
+
+    -- so it led on
+    pub passes_jump : {start : HeapState} {from : ℕ} → heap.collected ≡ false
+        → Passes script start from heap (last - (spare + length rest))
+        → Passes script start from heap (last - (spared + length next))
+    passes_jump none =
+        passes_line r what begins.first heap next spared on_jump count_jump stays_jump carries_jump notes_jump none
 
     -- and wrote nothing
     pub holds_jump : length out + ROOM ≤ OUTPUT_BYTES → OutputHolds script (last - (spare + length rest)) out

@@ -18,6 +18,8 @@ mod GoingOn
 mod Collected
 mod LineCarried
 mod LineSpaces
+mod FinalJudgements
+mod InspectedLines
 mod Passing
 mod Executed
 mod LinesRun
@@ -27,6 +29,5 @@ mod Ending
 mod Finishing
 mod Judging
 pub mod Judged
-mod FinalJudgements
 mod Inspected
 mod FoundEnds

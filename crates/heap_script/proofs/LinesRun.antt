@@ -19,11 +19,13 @@ use Rattle.mutator.specs.declared.output.TheConstants.{OUTPUT_BYTES, ROOM}
 use Rattle.heap_script.specs.Between.{Running, only, IsRest, RunsLines}
 use Rattle.heap_script.specs.Cycles.{cycle_after_line}
 use Rattle.heap_script.specs.LoopCounters.{Standing, standing_after, IsInside}
+use Rattle.heap_script.specs.Noting.{NotesLine, Passes}
 use Rattle.heap_script.specs.Progress.{made_by, command_in, CarriesLine}
 use Rattle.heap_script.specs.Reached.{left_after}
 use Rattle.heap_script.specs.Runs.{OutputHolds}
 use Rattle.heap_script.specs.Stages.{uncollected}
 use Rattle.heap_script.proofs.LineCarried.{Running-line, TellsAt-line}
+use Rattle.heap_script.proofs.InspectedLines.{notes_next}
 use Rattle.heap_script.proofs.Passing.{holds_on}
 use Rattle.heap_script.proofs.Ways.{goes_on, goes_within, is_inside, past_end}
 
@@ -199,6 +201,20 @@ module _ {script : ScriptText} {heap : HeapState} {objects : ℕ} {out taken ts 
               way.turns n (get_or script.lines (place_of script.lines rest) past_end).number (command_in what) []
               r.running few goes_next stays carries);
         }
+
+    -- and led on, if no full collection is noted for it
+    pub passes_line : {start : HeapState} {from : ℕ}
+        → NotesLine script.fields heap after r.running.reached.so_far.graph (command_in what) [] (Ok tt)
+        → after.collected ≡ false → Passes script start from heap (last - (spare + length rest))
+        → Passes script start from after (last - (spare' + length next))
+    passes_line {start} {from} notes none passed =
+        let n = last - (spare + length rest) in
+        let way = behind script.lines rest ts what in
+        subst (λ (m : ℕ). Passes script start from after m) (sym one_executed)
+        (Passes.one_more heap after n passed
+        (notes_next script heap after way.at way.turns n
+        (get_or script.lines (place_of script.lines rest) past_end).number (command_in what) [] (Ok tt)
+        r.running.reached goes_next stays notes) none)
 
     -- and wrote nothing
     pub holds_line : length out + ROOM ≤ OUTPUT_BYTES → OutputHolds script (last - (spare + length rest)) out

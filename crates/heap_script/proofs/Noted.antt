@@ -1,5 +1,5 @@
 -- What the heap notes of full collections while a command is tried, and once it came out.
-use Rattle.std.proofs.Common.{◌≡◌, ◌≢◌, ◌∙◌, ◌||◌, ℕ, Bool, true, false, List, Some, None, Ok, Err, refl, ap, subst}
+use Rattle.std.proofs.Common.{◌≡◌, ◌≢◌, ◌∙◌, ◌||◌, ℕ, Bool, true, false, List, Some, None, Ok, Err, refl, subst}
 use Rattle.heap_model.specs.Types.{Command, FaultWord}
 use Rattle.heap_command.specs.declared.command.FaultWord.TheVariants.{WeakFull}
 use Rattle.object_graph.specs.Graphs.{Graph}
@@ -15,7 +15,7 @@ use Rattle.heap_script.specs.MakingRoom.{FindsFirst, FindsLast, MakesRoomFor, no
 use Rattle.heap_script.specs.Noting.{found_fully, faults_fully, stops_fully, NotesAtLast}
 use Rattle.heap_script.proofs.Carrying.{never_faults}
 use Rattle.heap_script.proofs.FullMaps.{faults_otherwise}
-use Rattle.heap_script.proofs.Retrying.{Stands, fully_collects, fully_faults, no_more}
+use Rattle.heap_script.proofs.Retrying.{Stands, fully_faults, no_more}
 use Rattle.heap_script.proofs.Stopping.{sound_lacking, nothing_done}
 
 -- what is noted at a try, by what was noted before the first one

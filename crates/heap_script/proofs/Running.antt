@@ -20,7 +20,7 @@ use Rattle.nursery.specs.Young.{Young, in_eden}
 use Rattle.write_barrier.specs.MutatorState.{heap_of, MainShows, IsOpened}
 use Rattle.collector.specs.States.{HeapState, HeapShows, Rest, with_cycle, with_collected}
 use Rattle.collector.proofs.Keeping.{still_shows, cycled_shows, noted_shows}
-use Rattle.heap_script.specs.Cycles.{cycle_after_command, opened_after_command}
+use Rattle.heap_script.specs.Cycles.{cycle_after_command, opened_after}
 use Rattle.heap_script.specs.Stages.{Collections, uncollected, stage_of}
 use Rattle.heap_script.specs.Reached.{left_after, RanTo}
 use Rattle.heap_script.specs.Spending.{Spends, LineAllocates}
@@ -201,7 +201,7 @@ Running-carried script heap after objects waiting old new at at' ts ts' n number
     } in
     record {
       reached = reached;
-      opened = opened_after_command r.opened command (heap_of after.main) graph;
+      opened = opened_after r.opened (Some command) (heap_of after.main) graph;
       spends = Spends.one_more (stage_of heap.main) (stage_of after.main) n collections r.opened line r.spends
           (next_at (executed_lines script.lines) n line goes.rest goes.is) r.reached reached uses;
       ungranted = ungranted;

@@ -1,5 +1,5 @@
 -- A cycle that is open between two lines: what it began with, and that what was lost then stays lost.
-use Rattle.std.proofs.Common.{◌≡◌, ℕ, true, false, List, Option, Some, None, is_some, inl, inr, refl, arith}
+use Rattle.std.proofs.Common.{◌≡◌, ℕ, true, false, List, Option, Some, None, is_some, refl}
 use Rattle.std.proofs.lemmas.Bool.{false≢true}
 use Rattle.heap_model.specs.Types.{Command}
 use Rattle.heap_model.specs.Heaps.{Heap}
@@ -12,11 +12,11 @@ use Rattle.graph_laws.specs.ReachAfter.{StaysLost}
 use Rattle.graph_laws.proofs.LostObjects.{stays_itself, stays_twice, command_stays}
 use Rattle.collector.specs.Born.{Opening}
 use Rattle.heap_script.specs.Between.{StaysLostSince}
-use Rattle.heap_script.specs.Cycles.{cycle_after_command, opened_after_command}
+use Rattle.heap_script.specs.Cycles.{cycle_after_command, opened_after}
 
 -- behind a command a cycle is open where the heap holds one open
 pub cycle_opened : (opened : Option Opening) (one : Command) (heap : Heap) (graph : Graph)
-    → is_some (opened_after_command opened one heap graph) ≡ cycle_after_command (is_some opened) one
+    → is_some (opened_after opened (Some one) heap graph) ≡ cycle_after_command (is_some opened) one
 cycle_opened opened command.Mark heap graph = refl
 cycle_opened opened command.Finish heap graph = refl
 cycle_opened opened command.Gc heap graph = refl
@@ -42,13 +42,13 @@ since_later {before} {after} (Some opening) later since = stays_twice opening.gr
 
 -- and since the one began that is open behind a `mark`
 since_marked : (opened : Option Opening) (heap : Heap) (graph : Graph) → StaysLostSince opened graph
-    → StaysLostSince (opened_after_command opened command.Mark heap graph) graph
+    → StaysLostSince (opened_after opened (Some command.Mark) heap graph) graph
 since_marked None heap graph since = stays_itself graph
 since_marked (Some opening) heap graph since = since
 
 -- and behind any command
 since_command : (opened : Option Opening) (one : Command) (heap : Heap) (graph : Graph) → StaysLostSince opened graph
-    → StaysLostSince (opened_after_command opened one heap graph) graph
+    → StaysLostSince (opened_after opened (Some one) heap graph) graph
 since_command opened command.Mark heap graph since = since_marked opened heap graph since
 since_command opened command.Finish heap graph since = tt
 since_command opened command.Gc heap graph since = tt
@@ -58,7 +58,7 @@ since_command opened _ heap graph since = since
 -- since the cycle began that is open behind a command, what was lost then stays lost
 pub since_behind : (names : List (List ℕ)) (opened : Option Opening) (one : Command) (heap : Heap)
     (graph after : Graph) (text : List ℕ) → IsGraph graph → meaning ideal_limits names graph one ≡ done after text
-    → StaysLostSince opened graph → StaysLostSince (opened_after_command opened one heap after) after
+    → StaysLostSince opened graph → StaysLostSince (opened_after opened (Some one) heap after) after
 since_behind names opened one heap graph after text is_graph does since =
     since_command opened one heap after
     (since_later opened (command_stays ideal_limits names graph one after text is_graph does) since)

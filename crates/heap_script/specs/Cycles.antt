@@ -1,5 +1,5 @@
 -- Commands of the collector, and cycles of marking, which some of them open and end.
-use Rattle.std.specs.Prelude.{◌≡◌, ◌⊎◌, Bool, true, false, Option, Some, None}
+use Rattle.std.specs.Prelude.{◌≡◌, ◌⊎◌, Bool, true, false, Option, Some, None, unwrap_or}
 use Rattle.object_graph.specs.Graphs.{Graph}
 use Rattle.heap_model.specs.Types.{Command}
 use Rattle.heap_model.specs.Heaps.{Heap}
@@ -29,25 +29,15 @@ abbrev pub cycle_after_line : Bool → Option Command → Bool
 cycle_after_line in_cycle None = in_cycle
 cycle_after_line in_cycle (Some command) = cycle_after_command in_cycle command
 
--- what the cycle that is open behind a `mark` began with: one that was open stays so
-abbrev pub marked_after : Option Opening → Heap → Graph → Opening
-marked_after None heap graph = record { heap = heap; graph = graph }
-marked_after (Some opening) heap graph = opening
-
--- What the cycle began with that is open behind a command, if one is, by what that before it began with, and by the heap
--- and the graph behind the command.
-abbrev pub opened_after_command : Option Opening → Command → Heap → Graph → Option Opening
-opened_after_command opened Mark heap graph = Some (marked_after opened heap graph)
-opened_after_command opened Finish heap graph = None
-opened_after_command opened Gc heap graph = None
-opened_after_command opened Census heap graph = None
-opened_after_command opened _ heap graph = opened
-
--- Behind a line. The lines alone tell whether a cycle is open: a full collection that is forced between two of them ends
--- none.
+-- What the cycle began with that is open behind a line, if one is, by what that before it began with, and by the heap and
+-- the graph behind the line. `mark` opens one where none is open. `finish`, `gc` and `census` end it. The lines alone tell
+-- whether a cycle is open: a full collection that is forced between two of them ends none.
 abbrev pub opened_after : Option Opening → Option Command → Heap → Graph → Option Opening
-opened_after opened None heap graph = opened
-opened_after opened (Some command) heap graph = opened_after_command opened command heap graph
+opened_after opened (Some Mark) heap graph = Some (unwrap_or opened (record { heap = heap; graph = graph }))
+opened_after opened (Some Finish) heap graph = None
+opened_after opened (Some Gc) heap graph = None
+opened_after opened (Some Census) heap graph = None
+opened_after opened _ heap graph = opened
 
 -- the command asks for a full collection: `gc`, or `census`, which counts what is left
 abbrev pub AsksForAll : Command → Type 0

@@ -16,10 +16,10 @@ writes (Alike x y) = true
 writes (Shape x) = true
 writes _ = false
 
--- so many objects and one more, if the command came out well
+-- so many and one more, if the command came out well
 abbrev pub counted_more : ℕ → Result (Unit {0}) Stop → ℕ
-counted_more objects (Ok _) = objects + 1
-counted_more objects (Err stop) = objects
+counted_more count (Ok _) = count + 1
+counted_more count (Err stop) = count
 
 -- so many objects and those that the command makes, if it came out well
 abbrev pub objects_after : ℕ → Command → Result (Unit {0}) Stop → ℕ

@@ -15,8 +15,8 @@ use Rattle.heap_script.specs.Runs.{Finishes}
 use Rattle.heap_script.specs.Progress.{Pauses}
 use Rattle.heap_script.specs.Inspecting.{JudgesEnd}
 
--- Before its last bytes are handed on: a run whose judge answered with a flaw comes to that, and the sink did not fail;
--- any other run pauses.
+-- Before its last bytes are handed on: a run whose judge answered with a flaw comes to that, the sink did not fail, and
+-- the heap shows some graph; what the run wrote and counted is left open. Any other run pauses.
 pub data PausesFound (counted : Bool) (script : ScriptText) (heap : HeapState) (waiting : List ℕ) (finished : Finished)
     (old new : List ℕ → Type 0) (faults_old faults_new : ℕ) : Option Flaw → Type 0 where
   unflawed : Pauses counted script heap waiting finished old new faults_old faults_new
@@ -26,7 +26,7 @@ pub data PausesFound (counted : Bool) (script : ScriptText) (heap : HeapState) (
       → PausesFound counted script heap waiting finished old new faults_old faults_new (Some flaw)
 
 -- At its end: a run whose judge answered with a flaw comes to that where the sink did not fail, and else to a failed
--- sink; any other run finishes.
+-- sink, with a need of 0; what the run wrote and counted is left open. Any other run finishes.
 pub data FinishesFound (counted : Bool) (script : ScriptText) (stage : Stage) (finished : Finished)
     (old new : List ℕ → Type 0) (faults_old faults_new : ℕ) : Option Flaw → Type 0 where
   unflawed : Finishes counted script stage finished old new faults_old faults_new
@@ -37,11 +37,12 @@ pub data FinishesFound (counted : Bool) (script : ScriptText) (stage : Stage) (f
       → FinishesFound counted script stage finished old new faults_old faults_new (Some flaw)
 
 -- Of a run that finished so and found no flaw: what it left at the end of its script was judged, if it has a judge.
-abbrev pub EndIsJudged : {J : Type 0} → (J → J → Mutator → Result Counts Flaw → Type 0) → Inspection J → Inspection J
-    → Mutator → {counted : Bool} {script : ScriptText} {stage : Stage} {finished : Finished}
+abbrev pub EndIsJudged : {J : Type 0} → (J → J → Mutator → Result Counts Flaw → Type 0) → HeapState → Inspection J
+    → Inspection J → Mutator → {counted : Bool} {script : ScriptText} {stage : Stage} {finished : Finished}
     {old new : List ℕ → Type 0} {faults_old faults_new : ℕ} {found : Option Flaw}
     → FinishesFound counted script stage finished old new faults_old faults_new found → Type 0
-EndIsJudged Judged before later main (FinishesFound.unflawed finishes) =
-    JudgesEnd Judged before later main finishes.reached.so_far.graph finishes.collections
-EndIsJudged Judged before later main (FinishesFound.flawed flaw is steady) = Unit {0}
-EndIsJudged Judged before later main (FinishesFound.cut flaw is rose) = Unit {0}
+EndIsJudged Judged start before later main {script = script} {finished = finished}
+    (FinishesFound.unflawed finishes) =
+    JudgesEnd Judged script start before later finished.executed main finishes.reached.so_far.graph finishes.collections
+EndIsJudged Judged start before later main (FinishesFound.flawed flaw is steady) = Unit {0}
+EndIsJudged Judged start before later main (FinishesFound.cut flaw is rose) = Unit {0}

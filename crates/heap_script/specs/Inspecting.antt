@@ -1,11 +1,14 @@
--- How the heap of a run is inspected: at its end, and after full collections.
-use Rattle.std.specs.Prelude.{◌≡◌, Bool, true, false, Option, Some, None, Result, Ok, Err, IfOk}
+-- How the heap of a run is inspected: at its end, and after lines for which it was fully collected.
+use Rattle.std.specs.Prelude.{◌≡◌, ℕ, Bool, true, false, Option, Some, None, Result, Ok, Err, IfOk, is_err}
 use Rattle.std.specs.Result.{result_err}
 use Rattle.object_graph.specs.Graphs.{Graph}
+use Rattle.object_graph.specs.Run.{end}
 use Rattle.page_space.specs.Extents.{Space}
-use Rattle.write_barrier.specs.MutatorState.{Mutator}
+use Rattle.script_text.specs.Scripts.{ScriptText}
+use Rattle.mutator.specs.declared.stop.Stop.{Stop}
+use Rattle.write_barrier.specs.MutatorState.{Mutator, heap_of}
 use Rattle.collector.specs.Collected.{CollectsAll}
-use Rattle.collector.specs.States.{HeapState, HeapShows}
+use Rattle.collector.specs.States.{HeapState, HeapShows, with_collected}
 use Rattle.heap_check.specs.declared.counts.Counts.{Counts}
 use Rattle.heap_check.specs.declared.flaw.Flaw.{Flaw}
 use Rattle.heap_script.specs.declared.inspecting.Inspection.{Inspection}
@@ -14,6 +17,9 @@ use Rattle.heap_script.specs.declared.finished.How.{How}
 use Rattle.heap_script.specs.declared.finished.How.TheVariants.{End, Counted, Flawed}
 use Rattle.heap_script.specs.Runs.{HasCounts}
 use Rattle.heap_script.specs.Stages.{Collections}
+use Rattle.heap_script.specs.Executing.{counted_more}
+use Rattle.heap_script.specs.Noting.{NotesNext}
+use Rattle.heap_script.specs.Reached.{RanTo, EndsAs}
 
 -- the run is to count its heap at the end
 abbrev pub counts_at_end : Inspection Space → Bool
@@ -39,14 +45,6 @@ abbrev pub Finds : {J : Type 0} → (J → J → Mutator → Result Counts Flaw 
 Finds Judged old new main found =
     (answer : Result Counts Flaw) × Judged old new main answer × (found ≡ result_err answer)
 
--- The judge went from one state to the other by judging heaps, one after another. It answered with no flaw each time, but
--- the last time perhaps with this one. It is not said which heaps these were.
-pub data HasInspected {J : Type 0} (Judged : J → J → Mutator → Result Counts Flaw → Type 0) (old : Inspection J)
-    : Inspection J → Option Flaw → Type 0 where
-  nothing : HasInspected Judged old old None
-  one_more : (mid new : J) (main : Mutator) (found : Option Flaw) → HasInspected Judged old (Checks mid) None
-      → Finds Judged mid new main found → HasInspected Judged old (Checks new) found
-
 -- Where a full collection came, the heap is judged, if there is a judge, and the flaw that it answers with is this one.
 -- Else nothing is judged.
 abbrev pub JudgesAfter : {J : Type 0} → (J → J → Mutator → Result Counts Flaw → Type 0) → Bool → Mutator
@@ -54,6 +52,28 @@ abbrev pub JudgesAfter : {J : Type 0} → (J → J → Mutator → Result Counts
 JudgesAfter {J} Judged true main (Checks judge) later found =
     (next : J) × (later ≡ Checks next) × Finds Judged judge next main found
 JudgesAfter Judged collected main inspection later found = (later ≡ inspection) × (found ≡ None)
+
+-- The first so many lines of a script led from one heap to another, and the judge from one state to another. After each
+-- line, whether it was executed or stopped, the heap was judged if a full collection was noted, and the note was taken;
+-- so it was once the heap was fully collected at the end of the script. The judge answered with no flaw each time, but
+-- the last time perhaps with this one. Nothing comes after a line that stopped, after that collection, or after a flaw:
+-- `ended` says of the first two that one of them came.
+pub data HasInspected {J : Type 0} (Judged : J → J → Mutator → Result Counts Flaw → Type 0) (script : ScriptText)
+    (start : HeapState) (before : Inspection J) : (ended : Bool) → ℕ → HeapState → Inspection J → Option Flaw
+    → Type 0 where
+  nothing : HasInspected Judged script start before false 0 start before None
+  line : (executed : ℕ) (old new : HeapState) (inspection later : Inspection J) (found : Option Flaw)
+      → HasInspected Judged script start before false executed old inspection None
+      → (result : Result (Unit {0}) Stop) → NotesNext script executed old new result
+      → JudgesAfter Judged new.collected new.main inspection later found
+      → HasInspected Judged script start before (is_err result) (counted_more executed result)
+      (with_collected new false) later found
+  at_end : (executed : ℕ) (old new : HeapState) (inspection later : Inspection J) (found : Option Flaw)
+      → HasInspected Judged script start before false executed old inspection None
+      → (reached : RanTo script (heap_of old.main) executed) → EndsAs script executed reached.so_far end
+      → CollectsAll old.main new.main reached.so_far.graph
+      → JudgesAfter Judged true new.main inspection later found
+      → HasInspected Judged script start before true executed new later found
 
 -- to what a run comes that came to this, and whose judge answered with this flaw, or with none
 abbrev pub how_found : Option Flaw → How → How
@@ -94,19 +114,24 @@ InspectsEnd {J} Judged (Checks judge) later old new graph End came =
     (next : J) × (later ≡ Checks next) × EndsJudged Judged judge next old new graph came
 InspectsEnd Judged inspection later old new graph how came = (later ≡ inspection) × (came ≡ how) × (new ≡ old)
 
--- The judge judged this heap last of all, and answered this. It had found no flaw before.
-pub record JudgesLast {J : Type 0} (Judged : J → J → Mutator → Result Counts Flaw → Type 0)
-    (before later : Inspection J) (main : Mutator) (answer : Result Counts Flaw) : Type 0 where
+-- After so many lines of a script, the heap to which they led was fully collected, and the judge judged what is left,
+-- last of all, and answered this. It had found no flaw before.
+pub record JudgesLast {J : Type 0} (Judged : J → J → Mutator → Result Counts Flaw → Type 0) (script : ScriptText)
+    (start : HeapState) (before later : Inspection J) (executed : ℕ) (main : Mutator) (graph : Graph)
+    (answer : Result Counts Flaw) : Type 0 where
+  pub heap : HeapState
   pub judge : J
   pub next : J
-  pub lines : HasInspected Judged before (Checks judge) None
+  pub lines : HasInspected Judged script start before false executed heap (Checks judge) None
+  pub collects : CollectsAll heap.main main graph
   pub is : later ≡ Checks next
   pub judged : Judged judge next main answer
 
--- Where a run that has a judge collected its heap at the end of its script, the judge judged what is left, last of all,
--- and answered with the counts of what can be reached.
-abbrev pub JudgesEnd : {J : Type 0} → (J → J → Mutator → Result Counts Flaw → Type 0) → Inspection J → Inspection J
-    → Mutator → Graph → Collections → Type 0
-JudgesEnd {J} Judged (Checks judge) later main graph Collections.finally_collected =
-    (counts : Counts) × HasCounts graph counts × JudgesLast Judged (Checks judge) later main (Ok counts)
-JudgesEnd Judged before later main graph collections = Unit {0}
+-- Where a run that has a judge collected its heap at the end of its script, after so many lines, the judge judged what
+-- is left, last of all, and answered with the counts of what can be reached.
+abbrev pub JudgesEnd : {J : Type 0} → (J → J → Mutator → Result Counts Flaw → Type 0) → ScriptText → HeapState
+    → Inspection J → Inspection J → ℕ → Mutator → Graph → Collections → Type 0
+JudgesEnd {J} Judged script start (Checks judge) later executed main graph Collections.finally_collected =
+    (counts : Counts) × HasCounts graph counts
+    × JudgesLast Judged script start (Checks judge) later executed main graph (Ok counts)
+JudgesEnd Judged script start before later executed main graph collections = Unit {0}

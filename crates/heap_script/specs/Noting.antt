@@ -1,15 +1,21 @@
 -- For which lines the heap was fully collected. It notes that, until it is asked whether it was.
-use Rattle.std.specs.Prelude.{◌≡◌, ◌||◌, Bool, true, false, ℕ, List, Option, Some, None, Result, Ok, Err}
+use Rattle.std.specs.Prelude.{◌≡◌, ◌||◌, ◌+◌, Bool, true, false, ℕ, List, Option, Some, None, Result, Ok, Err}
+use Rattle.std.specs.Prelude.{slice_get}
 use Rattle.heap_model.specs.Types.{Command, FaultWord}
+use Rattle.heap_command.specs.Executed.{Executed}
 use Rattle.heap_command.specs.declared.command.FaultWord.TheVariants.{WeakFull}
 use Rattle.object_graph.specs.Graphs.{Graph}
-use Rattle.write_barrier.specs.MutatorState.{Mutator}
+use Rattle.script_text.specs.Scripts.{ScriptText}
+use Rattle.script_text.specs.Unrolled.{executed_lines}
+use Rattle.write_barrier.specs.MutatorState.{Mutator, heap_of}
 use Rattle.collector.specs.Born.{begins_fully}
-use Rattle.collector.specs.States.{HeapState}
+use Rattle.collector.specs.States.{HeapState, with_cycle}
 use Rattle.mutator.specs.declared.stop.Stop.{Stop}
 use Rattle.mutator.specs.declared.stop.Stop.TheVariants.{Fault, NoRoom, NoClear}
 use Rattle.heap_script.specs.Collecting.{Collects, CarriesAsked, CarriesAtLast, CarriesCommand}
+use Rattle.heap_script.specs.Cycles.{cycle_after_line}
 use Rattle.heap_script.specs.Progress.{CarriesLine}
+use Rattle.heap_script.specs.Reached.{RanTo}
 
 -- whether the heap was fully collected, by what a command finds of it
 abbrev pub found_fully : {names : List (List ℕ)} {old mid : Mutator} {graph : Graph} {command : Command}
@@ -81,3 +87,22 @@ pub record NotesLine (names : List (List ℕ)) (old new : HeapState) (graph : Gr
   pub carries : CarriesLine names old.rest.in_cycle old.main new.main graph command text result
   pub noted : new.collected
       ≡ (line_fully names old.rest.in_cycle old.main new.main graph command text result carries || old.collected)
+
+-- The line of a script behind the first so many came to this, on a heap that shows the graph after those. It led to
+-- another heap, which notes whether it was fully collected for the line, beside what the first one noted.
+pub record NotesNext (script : ScriptText) (executed : ℕ) (old new : HeapState) (result : Result (Unit {0}) Stop)
+    : Type 0 where
+  pub before : RanTo script (heap_of old.main) executed
+  pub line : Executed
+  pub next : slice_get (executed_lines script.lines) executed ≡ Some line
+  pub text : List ℕ
+  pub notes : NotesLine script.fields old new before.so_far.graph line.command text result
+  pub rest : new.rest ≡ with_cycle old.rest (cycle_after_line old.rest.in_cycle line.command)
+
+-- The lines of a script after the first so many led from a heap to another, up to the count that stands last, and no
+-- full collection is noted after any. That the first ones led to the heap is not said.
+pub data Passes (script : ScriptText) (start : HeapState) (from : ℕ) : HeapState → ℕ → Type 0 where
+  none : Passes script start from start from
+  one_more : (old new : HeapState) (executed : ℕ) → Passes script start from old executed
+      → NotesNext script executed old new (Ok tt) → new.collected ≡ false
+      → Passes script start from new (executed + 1)

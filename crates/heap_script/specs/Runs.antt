@@ -1,8 +1,8 @@
 -- How the run of a script on a heap ends, and what its sink takes.
-use Rattle.std.specs.Prelude.{◌≡◌, ◌≢◌, ◌⊎◌, ℕ, ◌+◌, ◌<◌, ◌≤◌, List, ◌∷◌}
-use Rattle.std.specs.Prelude.{[], ◌++◌, length, take, Option, Some, None, Bool, true, false, nat_lt}
+use Rattle.std.specs.Prelude.{◌≡◌, ◌≢◌, ◌⊎◌, ℕ, ◌+◌, ◌<◌, ◌≤◌, List}
+use Rattle.std.specs.Prelude.{[], ◌++◌, length, take, slice_get, Option, Some, None, Bool, true, false, nat_lt}
 use Rattle.std.specs.Prelude.{if◌then◌else◌}
-use Rattle.heap_model.specs.Types.{Command, FaultWord, Run}
+use Rattle.heap_model.specs.Types.{FaultWord, Run}
 use Rattle.heap_command.specs.Executed.{Executed}
 use Rattle.heap_command.specs.declared.command.FaultWord.TheVariants.{WeakFull}
 use Rattle.object_graph.specs.Graphs.{Graph}
@@ -13,7 +13,6 @@ use Rattle.script_text.specs.Scripts.{ScriptText}
 use Rattle.script_text.specs.Unrolled.{executed_lines}
 use Rattle.heap_model.specs.Heaps.{Heap}
 use Rattle.heap_model.specs.Collectable.{AreFreeRuns}
-use Rattle.heap_model.specs.Rooms.{Room, HasRooms, need_of}
 use Rattle.live_cells.specs.Exact.{Exact, Fits}
 use Rattle.live_cells.specs.Fitting.{DeadIsFree}
 use Rattle.scavenger.specs.Laws.{IsStuck}
@@ -27,7 +26,7 @@ use Rattle.heap_script.specs.declared.finished.How.TheVariants as how
 use Rattle.heap_script.specs.declared.finished.Finished.{Finished}
 use Rattle.heap_script.specs.Stages.{Stage, Collections, uncollected, fully_collected, finally_collected}
 use Rattle.heap_script.specs.Reached.{left_after, RanTo, EndsAs}
-use Rattle.heap_script.specs.Spending.{Spends}
+use Rattle.heap_script.specs.Spending.{HoldsOfNeed, Spends}
 
 -- The heap, which shows a graph and whose pages have these free runs, is full for so many words: it keeps exactly what
 -- can be reached, and they fit nowhere beside that. Eden is empty, each word of a page that is not kept is in a free run,
@@ -39,25 +38,17 @@ pub record IsFull (heap : Heap) (rows : List (List Run)) (graph : Graph) (need :
   pub dead : DeadIsFree heap rows
   pub stuck : IsStuck heap rows
 
--- the line runs a command that needs so many words, by the rooms of objects, and the heap, which shows this graph and
--- whose pages have these free runs, is full for them
-abbrev pub LacksRoomFor : Heap → List (List Run) → Graph → ℕ → Option Command → Type 0
-LacksRoomFor heap rows graph need None = ⊥
-LacksRoomFor heap rows graph need (Some command) =
-    ((rooms : ℕ → Room) → HasRooms heap graph rooms → need ≡ need_of graph rooms command) × IsFull heap rows graph need
-
--- of these lines the next one has this number, and the heap is full for its command
-abbrev pub IsFullAt : Heap → List (List Run) → Graph → ℕ → ℕ → List Executed → Type 0
-IsFullAt heap rows graph line need (next ∷ more) =
-    (next.number ≡ line) × LacksRoomFor heap rows graph need next.command
-IsFullAt heap rows graph line need _ = ⊥
-
--- The run does not end after so many lines: one is next, and it neither faults nor stands at the limit. But the heap is
--- full for its command, though it was fully collected since the last line.
+-- The run does not end after so many lines: one is next, and it neither faults nor stands at the limit. It has this
+-- number, and its command needs so many words, for which the heap is full, though it was fully collected since the last
+-- line.
 pub record FullAt (script : ScriptText) (heap : Heap) (rows : List (List Run)) (collections : Collections)
     (executed : ℕ) (so_far : Told) (line need : ℕ) : Type 0 where
   pub goes_on : ending ideal_limits script.fields so_far.graph executed (left_after script executed) ≡ None
-  pub full : IsFullAt heap rows so_far.graph line need (left_after script executed)
+  pub at : Executed
+  pub next : slice_get (executed_lines script.lines) executed ≡ Some at
+  pub number : at.number ≡ line
+  pub needs : HoldsOfNeed heap so_far.graph at.command (λ words. need ≡ words)
+  pub full : IsFull heap rows so_far.graph need
   pub collected : collections ≡ fully_collected
 
 -- `weakfull` comes after a full collection, which came since the map was full of pairs; any other fault comes before the
@@ -95,12 +86,8 @@ need_at (how.HeapFull need) = need
 need_at (how.SinkFault need) = need
 need_at _ = 0
 
--- these bytes fill the output: with them it may lack room for what one more command writes
-abbrev pub FillsOutput : List ℕ → Type 0
-FillsOutput bytes = OUTPUT_BYTES < length bytes + ROOM
-
--- of the bytes that the output holds before a line, those that wait on while it is executed: none where they fill the
--- output, since they are handed on, and else all
+-- Of the bytes that the output holds before a line, those that wait on while it is executed: none where they fill the
+-- output, since they are handed on, and else all. They fill it where it may lack room for what one more command writes.
 abbrev pub waiting_of : List ℕ → List ℕ
 waiting_of held = if nat_lt OUTPUT_BYTES (length held + ROOM) then [] else held
 
@@ -123,7 +110,7 @@ pub data OutputHolds (script : ScriptText) : ℕ → List ℕ → Type 0 where
 pub record IsDue (script : ScriptText) (executed : ℕ) : Type 0 where
   pub held : List ℕ
   pub holds : OutputHolds script executed held
-  pub fills : FillsOutput held
+  pub fills : OUTPUT_BYTES < length held + ROOM
   pub next : executed < length (executed_lines script.lines)
   pub few : executed < lines_most
 

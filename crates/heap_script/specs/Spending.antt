@@ -78,17 +78,12 @@ pub record IsCollected (old new : Stage) (all : Bool) (graph : Graph) : Type 0 w
   pub free : AreFreeRuns new.heap new.rows
   pub apart : AreFree new.rows
 
--- What is told of a full collection: the heap that is left keeps exactly what can be reached, each live cell of a page
--- in its place, and what is kept needs no more room than before.
-abbrev pub IsFullyCollected : Stage → Stage → Graph → Type 0
-IsFullyCollected old new graph = LeavesExact old.heap new.heap new.rows graph
-
 -- What is told of a `mark` that opens a cycle: a scavenge promotes all that lives, and no survivor stays young; or one
 -- stays, and then the heap is fully collected.
 pub data HasBegun (old new : Stage) (graph : Graph) : Type 0 where
   promotes_all : IsCollected old new true graph → new.heap.survivors ≡ 0 → HasBegun old new graph
   collects_all : (mid : Stage) → IsCollected old mid true graph → 0 < mid.heap.survivors
-      → IsFullyCollected mid new graph → HasBegun old new graph
+      → LeavesExact mid.heap new.heap new.rows graph → HasBegun old new graph
 
 -- What a line does with the heap, by what the cycle that is open before it began with, if one is, and where these
 -- collections came since the last line. One that runs no command leaves it as it is. `scavenge` collects, and promotes
@@ -102,7 +97,7 @@ pub data LineAllocates (opened : Option Opening) (old new : Stage) (graph after 
   begins : opened ≡ None → HasBegun old new graph → LineAllocates opened old new graph after collections (Some Mark)
   finishes : (opening : Opening) → opened ≡ Some opening → LeavesBorn opening old.heap new.heap new.rows graph
       → LineAllocates opened old new graph after collections (Some Finish)
-  collects_all : (command : Command) → AsksForAll command → IsFullyCollected old new graph
+  collects_all : (command : Command) → AsksForAll command → LeavesExact old.heap new.heap new.rows graph
       → LineAllocates opened old new graph after collections (Some command)
   collects_nothing : (command : Command) → CollectsNothing (is_some opened) command → new ≡ old
       → LineAllocates opened old new graph after collections (Some command)
@@ -110,11 +105,11 @@ pub data LineAllocates (opened : Option Opening) (old new : Stage) (graph after 
       → Allocates old new graph after collections command
       → LineAllocates opened old new graph after collections (Some command)
 
--- the heap lacks room for the words that the command of a line needs, whatever rooms objects have in it
-abbrev pub LacksWordsFor : Heap → Graph → Option Command → Type 0
-LacksWordsFor heap graph None = ⊥
-LacksWordsFor heap graph (Some command) =
-    (rooms : ℕ → Room) → HasRooms heap graph rooms → IsTrue (lacks_room heap (need_of graph rooms command))
+-- the line runs a command, and this holds of the number of words that it needs, whatever rooms objects have in the heap
+abbrev pub HoldsOfNeed : Heap → Graph → Option Command → (ℕ → Type 0) → Type 0
+HoldsOfNeed heap graph None Holds = ⊥
+HoldsOfNeed heap graph (Some command) Holds =
+    (rooms : ℕ → Room) → HasRooms heap graph rooms → Holds (need_of graph rooms command)
 
 -- The run does not end after so many lines, and the next line does not find its weak map full of pairs, but eden lacks
 -- room for the words that it needs.
@@ -122,19 +117,13 @@ pub record WantsRoom (script : ScriptText) (heap : Heap) (executed : ℕ) (so_fa
   pub goes_on : ending ideal_limits script.fields so_far.graph executed (left_after script executed) ≡ None
   pub line : Executed
   pub next : slice_get (executed_lines script.lines) executed ≡ Some line
-  pub lacks : LacksWordsFor heap so_far.graph line.command
+  pub lacks : HoldsOfNeed heap so_far.graph line.command (λ need. IsTrue (lacks_room heap need))
   pub unfull : FindsMapFullFor heap so_far.graph line.command → ⊥
-
--- no free run has the words that the command of a line needs, whatever rooms objects have in the heap
-abbrev pub FitsNowhereFor : Stage → Graph → Option Command → Type 0
-FitsNowhereFor stage graph None = ⊥
-FitsNowhereFor stage graph (Some command) =
-    (rooms : ℕ → Room) → HasRooms stage.heap graph rooms → FitsNowhere stage.rows (need_of graph rooms command)
 
 -- There is no room at all for the words that the next line needs: eden lacks it, and no free run has so many.
 pub record LacksAllRoom (script : ScriptText) (stage : Stage) (executed : ℕ) (so_far : Told) : Type 0 where
   pub wants : WantsRoom script stage.heap executed so_far
-  pub runs : FitsNowhereFor stage so_far.graph wants.line.command
+  pub runs : HoldsOfNeed stage.heap so_far.graph wants.line.command (FitsNowhere stage.rows)
 
 -- The next line finds its weak map full of pairs, and is no line too many.
 pub record WantsClearing (script : ScriptText) (heap : Heap) (executed : ℕ) (so_far : Told) : Type 0 where
@@ -168,13 +157,13 @@ pub data Spends (script : ScriptText) : Stage → ℕ → Collections → Option
       → Spends script new executed scavenged opened
   twice : (old new : Stage) (executed : ℕ) (opened : Option Opening) → Spends script old executed scavenged opened
       → (before : RanTo script old.heap executed) → LacksAllRoom script old executed before.so_far
-      → RanTo script new.heap executed → IsFullyCollected old new before.so_far.graph
+      → RanTo script new.heap executed → LeavesExact old.heap new.heap new.rows before.so_far.graph
       → Spends script new executed fully_collected opened
   cleared : (old new : Stage) (executed : ℕ) (opened : Option Opening) → Spends script old executed uncollected opened
       → (before : RanTo script old.heap executed) → WantsClearing script old.heap executed before.so_far
-      → RanTo script new.heap executed → IsFullyCollected old new before.so_far.graph
+      → RanTo script new.heap executed → LeavesExact old.heap new.heap new.rows before.so_far.graph
       → Spends script new executed fully_collected opened
   finally : (old new : Stage) (executed : ℕ) (opened : Option Opening) → Spends script old executed uncollected opened
       → (before : RanTo script old.heap executed) → EndsAs script executed before.so_far end
-      → RanTo script new.heap executed → IsFullyCollected old new before.so_far.graph
+      → RanTo script new.heap executed → LeavesExact old.heap new.heap new.rows before.so_far.graph
       → Spends script new executed finally_collected opened

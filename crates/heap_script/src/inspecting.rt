@@ -5,7 +5,7 @@ ghost use Rattle.std.specs.Prelude.{◌≡◌, IfOk, false};
 ghost use Rattle.object_graph.specs.Graphs.{Graph};
 ghost use Rattle.write_barrier.specs.MutatorState.{heap_of};
 ghost use Rattle.live_cells.specs.Exact.{Exact};
-ghost use Rattle.collector.specs.States.{HeapShows};
+ghost use Rattle.collector.specs.States.{HeapShows, with_collected};
 ghost use Rattle.heap_script.specs.Runs.{HasCounts};
 ghost use Rattle.heap_script.specs.Inspecting.{counts_at_end, plan_of, IsFor, JudgesAfter};
 ghost use Rattle.heap_script.specs.Inspecting.{EndsCounted, EndsJudged, InspectsEnd};
@@ -141,9 +141,7 @@ pub(crate) fn flaw_behind<J: Judge>(heap: &mut Heap, inspection: &mut Inspection
     requires shown { (graph : Graph) × HeapShows heap.old graph }
     requires for_heap { IsFor heap.old (plan_of J.regions inspection.old) }
     ensures judged { JudgesAfter J.Judged heap.old.collected heap.old.main inspection.old inspection.new result }
-    ensures main { heap.new.main ≡ heap.old.main }
-    ensures cycle { heap.new.rest.in_cycle ≡ heap.old.rest.in_cycle }
-    ensures taken { heap.new.collected ≡ false }
+    ensures taken { heap.new ≡ with_collected heap.old false }
     ensures shows { (graph : Graph) → HeapShows heap.old graph → HeapShows heap.new graph }
     ensures same { plan_of J.regions inspection.new ≡ plan_of J.regions inspection.old }
 {

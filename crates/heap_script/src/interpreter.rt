@@ -1,14 +1,14 @@
 //! A script on the heap, line by line in the order of execution.
-ghost use Rattle.std.specs.Prelude.{◌≡◌, ◌+◌, ◌≤◌, false, Option, [], length, OnOk, OnErr};
+ghost use Rattle.std.specs.Prelude.{◌≡◌, ◌+◌, ◌<◌, ◌≤◌, Bool, false, Option, [], length, OnOk, OnErr};
 ghost use Rattle.object_graph.specs.Graphs.{Graph, start};
 ghost use Rattle.mutator.specs.CarriesOut.{field_numbers};
 ghost use Rattle.write_barrier.specs.MutatorState.{IsOpened};
-ghost use Rattle.collector.specs.States.{HeapShows};
+ghost use Rattle.collector.specs.States.{HeapShows, with_collected};
 ghost use Rattle.byte_ends.specs.Faults.{Rose};
 ghost use Rattle.script_text.specs.Limits.{field_names_most};
 ghost use Rattle.script_text.specs.Sound.{AreShort};
 ghost use Rattle.heap_check.specs.declared.flaw.Flaw.{Flaw as Found};
-ghost use Rattle.heap_script.specs.Runs.{CutsOff, FillsOutput, waiting_of, IsCut};
+ghost use Rattle.heap_script.specs.Runs.{CutsOff, waiting_of, IsCut};
 ghost use Rattle.heap_script.specs.Inspecting.{counts_at_end, plan_of, IsFor, HasInspected, JudgesAfter, how_found};
 ghost use Rattle.heap_script.specs.Stages.{stage_of};
 ghost use Rattle.heap_script.specs.Progress.{Handed, how_of};
@@ -36,8 +36,8 @@ pub(crate) const LINES_MOST: u64 = 20_000_000;
 pub(crate) const FULL_FROM: usize = (OUTPUT_BYTES - ROOM) as usize;
 
 /// Runs a script on a heap that was just opened, with an output that is empty, and writes to the sink what it tells.
-/// Threads and gates are not used. The inspection says what is done about the heap at the end of the script, and behind
-/// full collections; a checker in it is one for the heap's regions.
+/// Threads and gates are not used. The inspection says what is done about the heap at the end of the script, and after
+/// lines for which it was fully collected; a checker in it is one for the heap's regions.
 pub fn run_script<K: Sink, J: Judge, G: Gate, R: Threads + Sync>(
     _rt: &R,
     heap: &mut Heap,
@@ -53,11 +53,12 @@ pub fn run_script<K: Sink, J: Judge, G: Gate, R: Threads + Sync>(
     requires variables { heap.old.main.seat.space.variables ≡ length script.now.variables }
     requires empty { out.old ≡ [] }
     requires for_heap { IsFor heap.old (plan_of J.regions inspection.old) }
-    ensures finishes { (found : Option Found) × HasInspected J.Judged inspection.old inspection.new found
+    ensures finishes { (found : Option Found) × (ended : Bool)
+        × HasInspected J.Judged script.now heap.old inspection.old ended result.executed heap.new inspection.new found
         × (finishes : FinishesFound (counts_at_end (plan_of J.regions inspection.old)) script.now
         (stage_of heap.new.main) result (K.HasTaken sink.old) (K.HasTaken sink.new) (K.faults sink.old)
         (K.faults sink.new) found)
-        × EndIsJudged J.Judged inspection.old inspection.new heap.new.main finishes }
+        × EndIsJudged J.Judged heap.old inspection.old inspection.new heap.new.main finishes }
     ensures emptied { ¬ IsCut result.how → out.new ≡ [] }
     ensures shows { (graph : Graph) × HeapShows heap.new graph }
     ensures space { heap.new.main.seat.space ≡ heap.old.main.seat.space }
@@ -106,7 +107,8 @@ fn interpret<K: Sink, J: Judge>(
     requires fields { length script.now.fields ≤ field_numbers }
     requires short { AreShort script.now.fields }
     requires empty { out.old ≡ [] }
-    ensures pauses { (found : Option Found) × HasInspected J.Judged inspection.old inspection.new found
+    ensures pauses { (found : Option Found) × (ended : Bool) × (result.how ≡ How.End → ended ≡ false)
+        × HasInspected J.Judged script.now heap.old inspection.old ended result.executed heap.new inspection.new found
         × PausesFound false script.now heap.new out.new result
         (K.HasTaken sink.old) (K.HasTaken sink.new) (K.faults sink.old) (K.faults sink.new) found }
     ensures space { heap.new.main.seat.space ≡ heap.old.main.seat.space }
@@ -151,8 +153,7 @@ fn stopped<J: Judge>(stop: Stop, heap: &mut Heap, inspection: &mut Inspection<J>
     ensures judged { (found : Option Found)
         × JudgesAfter J.Judged heap.old.collected heap.old.main inspection.old inspection.new found
         × (result ≡ how_found found (how_of stop)) }
-    ensures main { heap.new.main ≡ heap.old.main }
-    ensures taken { heap.new.collected ≡ false }
+    ensures taken { heap.new ≡ with_collected heap.old false }
     ensures shows { (graph : Graph) → HeapShows heap.old graph → HeapShows heap.new graph }
     ensures same { plan_of J.regions inspection.new ≡ plan_of J.regions inspection.old }
 {
@@ -172,7 +173,7 @@ fn flush_if_full<K: Sink>(sink: &mut K, out: &mut Output) -> Result<(), Failed>
     ensures room { OnOk result (length out.new + ROOM ≤ OUTPUT_BYTES) }
     ensures handed { OnOk result (Handed (K.HasTaken sink.old) (K.HasTaken sink.new) out.new out.old) }
     ensures waits { OnOk result (out.new ≡ waiting_of out.old) }
-    ensures due { OnErr result (FillsOutput out.old) }
+    ensures due { OnErr result (OUTPUT_BYTES < length out.old + ROOM) }
     ensures stopped { OnErr result (CutsOff (K.HasTaken sink.old) (K.HasTaken sink.new) out.old) }
     ensures failed { OnErr result (Rose (K.faults sink.old) (K.faults sink.new)) }
     ensures steady { OnOk result (K.faults sink.new ≡ K.faults sink.old) }

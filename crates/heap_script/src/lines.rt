@@ -5,8 +5,10 @@ ghost use Rattle.std.specs.Prelude.{IsTrue, IfSome};
 ghost use Rattle.object_graph.specs.Run.{lines_most};
 ghost use Rattle.script_text.specs.Scripts.{ScriptText};
 ghost use Rattle.mutator.specs.CarriesOut.{field_numbers};
+ghost use Rattle.collector.specs.States.{HeapState};
 ghost use Rattle.heap_script.specs.Runs.{OutputHolds};
 ghost use Rattle.heap_script.specs.Between.{Running, only, RunsLines, Begins};
+ghost use Rattle.heap_script.specs.Noting.{Passes};
 ghost use Rattle.heap_script.specs.Stages.{uncollected};
 
 use crate::commands::execute;
@@ -47,6 +49,10 @@ pub(crate) fn run_lines<P: Pace>(
         uncollected
         → Running script.now heap.new objects.new out.now (only []) (only taken) result.at turns.new
         result.executed uncollected }
+    ensures passes { (taken : List ℕ)
+        → Running script.now heap.old objects.old out.now (only []) (only taken) from.at turns.old from.executed
+        uncollected → heap.old.collected ≡ false
+        → Passes script.now heap.old from.executed heap.new result.executed }
     ensures holds { OutputHolds script.now from.executed out.now → OutputHolds script.now result.executed out.now }
     ensures space { heap.new.main.seat.space ≡ heap.old.main.seat.space }
     ensures noted { heap.new.collected ≡ heap.old.collected }
@@ -95,6 +101,10 @@ fn run_commands<'l, P: Pace>(
     ensures runs { (script : ScriptText) (out taken ts : List ℕ) (spare last : ℕ)
         → RunsLines script heap.old objects.old out taken ts lines.now spare last
         → RunsLines script heap.new objects.new out taken ts result.0.now spare last }
+    ensures passes { (script : ScriptText) (out taken ts : List ℕ) (spare last : ℕ) (start : HeapState) (from : ℕ)
+        → RunsLines script heap.old objects.old out taken ts lines.now spare last → heap.old.collected ≡ false
+        → Passes script start from heap.old (last - (spare + length lines.now))
+        → Passes script start from heap.new (last - (spare + length result.0.now)) }
     ensures holds { (script : ScriptText) (out taken ts : List ℕ) (spare last : ℕ)
         → RunsLines script heap.old objects.old out taken ts lines.now spare last → length out + ROOM ≤ OUTPUT_BYTES
         → OutputHolds script (last - (spare + length lines.now)) out

@@ -2,6 +2,7 @@ pub mod HeapWords
 pub mod SharedWords
 pub mod Agreeing
 mod PutSeats
+mod OwnedSteps
 mod PutCases
 mod SharedStretches
 mod ChangedStretches

@@ -1,11 +1,12 @@
--- What a seat knows of the shared table: the words of the pages and the layout words are its own, in each phase.
+-- What a seat knows of the shared table: the words of the pages are its own, in each phase.
 use Rattle.std.specs.Prelude.{ℕ, List, [], take, slice_set, Option, Some, None}
 use Rattle.atomic_table.specs.Seated.{TableId}
 use Rattle.page_space.specs.Extents.{eden_start}
 use Rattle.mark_laws.specs.Types.{Event}
+use Rattle.mark_world.specs.Cycles.{Cycle, cycle_of}
 use Rattle.shared_table.specs.declared.overview.Overview.{Overview}
 use Rattle.shared_table.specs.Changes.{MayDo, told}
-use Rattle.shared_table.specs.Worlds.{beginning, no_counts}
+use Rattle.shared_table.specs.Worlds.{beginning, no_counts, no_cycle}
 use Rattle.heap_table.specs.Seats.{Beside, Seat, beside_in}
 
 -- the name of no table
@@ -33,6 +34,14 @@ overview seat = record {
   out = (known seat.shared).out;
   lent = (known seat.shared).lent;
 }
+
+-- What commands know of the cycle that the seat is in. Where there is no shared table no cycle is ever open.
+abbrev pub cycle_in : Seat → Cycle
+cycle_in seat = cycle_of (overview seat).view (overview seat).reached (overview seat).made
+
+-- what they know before any cycle is opened
+abbrev pub unopened : Cycle
+unopened = cycle_of no_cycle [] 0
 
 -- the seat with these words of its own, and with this knowledge of the shared table
 abbrev pub knowing : Seat → List ℕ → Overview → Seat

@@ -22,7 +22,7 @@ impl MainSeat {
         ensures rest { RestStays self.old self.new }
     {
         // The sum fits, since there is a word for each address.
-        let _count = self.own.count();
+        self.own.words_fit();
         self.own.copy(from, to, count);
         if let Some(side) = &mut self.shared {
             share_stretch(side, &self.own, to, to + count);
@@ -41,7 +41,7 @@ impl MainSeat {
             heap_words self.new ≡ take at words ++ replicate count word ++ drop (at + count) words }
         ensures rest { RestStays self.old self.new }
     {
-        let _count = self.own.count();
+        self.own.words_fit();
         self.own.fill(at, count, word);
         if let Some(side) = &mut self.shared {
             share_stretch(side, &self.own, at, at + count);
@@ -60,7 +60,7 @@ impl MainSeat {
         ensures rest { RestStays self.old self.new }
     {
         // There is a word for each address before the marks.
-        let _count = self.own.count();
+        self.own.words_fit();
         self.own.copy(from, to, count);
     }
 
@@ -76,7 +76,7 @@ impl MainSeat {
             heap_words self.new ≡ take at words ++ replicate count word ++ drop (at + count) words }
         ensures rest { RestStays self.old self.new }
     {
-        let _count = self.own.count();
+        self.own.words_fit();
         self.own.fill(at, count, word);
     }
 }

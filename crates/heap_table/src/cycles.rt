@@ -109,10 +109,11 @@ impl MainSeat {
         requires paused { self.old.phase ≡ Paused }
         requires home { (overview self.old).home ≡ true }
         requires chosen { (cycle : Cycle) × M.fits (own_in self.old) made (overview self.old) cycle
-            × IsContinued (overview self.old).view cycle
+            × IsContinued (overview self.old) cycle
             × IsSoundAndBorn (world_at_home (resumed (overview self.old) cycle)) }
         ensures resumed { (cycle : Cycle) × M.fits (own_in self.old) made (overview self.old) cycle
-            × IsContinued (overview self.old).view cycle
+            × IsContinued (overview self.old) cycle
+            × IsSoundAndBorn (world_at_home (resumed (overview self.old) cycle))
             × (self.new ≡ knowing self.old self.old.table (resumed (overview self.old) cycle)) }
     {
         let Some(side) = &mut self.shared else {

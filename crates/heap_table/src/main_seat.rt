@@ -162,7 +162,7 @@ impl MainSeat {
         self.own.put_slot(cell, offset, word);
         if let Some(side) = &mut self.shared {
             // The sum fits, since there is a word for each address.
-            let _count = self.own.count();
+            self.own.words_fit();
             share(side, cell + offset, word);
         }
     }
@@ -234,7 +234,7 @@ impl Reads for MainSeat {
 
     #[inline(always)]
     fn load(&mut self, a: u32) -> u64 {
-        let _regions = self.regions();
+        self.own.words_fit();
         self.word(a)
     }
 }

@@ -1,6 +1,6 @@
 //! The steps of the main seat in an open cycle, each one event of marking on the shared table. A word that is stored
 //! goes to the own words too.
-ghost use Rattle.std.specs.Prelude.{◌≡◌, ◌+◌, ◌<◌, true, Contains, IfSome, IsTrue, is_some, slice_index};
+ghost use Rattle.std.specs.Prelude.{◌≡◌, ◌+◌, ◌<◌, true, Contains, IfSome, IsTrue, is_some, length, slice_index, slice_set};
 ghost use Rattle.tagged_word.specs.Readings.{reference_in};
 ghost use Rattle.tagged_word.specs.Shapes.{shapes_most};
 ghost use Rattle.page_space.specs.Extents.{eden_start, layouts_start};
@@ -14,6 +14,7 @@ ghost use Rattle.shared_table.specs.Colours.{number_of};
 ghost use Rattle.shared_table.specs.Spots.{FindsInMark};
 ghost use Rattle.shared_table.specs.Worlds.{world_at_home};
 ghost use Rattle.heap_table.specs.Overviews.{MayStep, overview, stepped, stored};
+ghost use Rattle.heap_table.specs.Seats.{with_layout};
 
 use crate::main_seat::MainSeat;
 use shared_table::Colour;
@@ -41,6 +42,7 @@ impl MainSeat {
         requires within { a < eden_start self.old.space }
         requires may { MayStep self.old (event.StoreOwned a word) }
         ensures stored { self.new ≡ stored self.old (event.StoreOwned a word) a word }
+        ensures put { self.new ≡ record self.old { table = slice_set self.old.table a word } }
     {
         self.own.put_in_page(a, word);
         let Some(side) = &mut self.shared else {
@@ -56,6 +58,7 @@ impl MainSeat {
         requires within { a < eden_start self.old.space }
         requires may { MayStep self.old (event.StoreHeader a word) }
         ensures stored { self.new ≡ stored self.old (event.StoreHeader a word) a word }
+        ensures put { self.new ≡ record self.old { table = slice_set self.old.table a word } }
     {
         self.own.put_in_page(a, word);
         let Some(side) = &mut self.shared else {
@@ -71,6 +74,7 @@ impl MainSeat {
         requires may { MayStep self.old (event.AddLayout shape word) }
         ensures added { let at = layouts_start self.old.space + shape in
             self.new ≡ stored self.old (event.AddLayout shape word) at word }
+        ensures put { self.new ≡ with_layout self.old shape word }
     {
         self.own.put_layout(shape, word);
         let Some(side) = &mut self.shared else {
@@ -154,6 +158,31 @@ impl MainSeat {
             unreachable!()
         };
         side.colour(a)
+    }
+
+    /// While a cycle is open there is a shared table. It has a layout word for each shape that there may be. The call
+    /// says so, and does nothing else.
+    #[inline(always)]
+    pub fn layouts_fit(&self)
+        ensures shared { self.now.phase ≡ Mark → IsTrue (is_some self.now.shared) }
+        ensures counted { IfSome self.now.shared (λ beside. length beside.layouts ≡ shapes_most) }
+    {
+        if let Some(side) = &self.shared {
+            let _counts = side.counts();
+        }
+    }
+
+    /// In a cycle there is a shared table, with a colour for each word of a page. It reads nothing.
+    #[inline(always)]
+    pub fn colours_fit(&self)
+        requires mark { self.now.phase ≡ Mark }
+        ensures shared { IsTrue (is_some self.now.shared) }
+        ensures counted { length (overview self.now).colours ≡ eden_start self.now.space }
+    {
+        let Some(side) = &self.shared else {
+            unreachable!()
+        };
+        let _counts = side.counts();
     }
 
     /// The mutator's view is as it is in a sound world. The call says so, by one load, and does nothing else.

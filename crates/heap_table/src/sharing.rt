@@ -28,7 +28,7 @@ pub(crate) fn share_stretch(side: &mut MainSide, own: &OwnWords, from: u32, to: 
     ensures rest { side.new ≡ with_pages side.old side.new.main }
 {
     // There is a word for each address before the marks.
-    let _count = own.count();
+    own.words_fit();
     for a in from..to.min(side.counts().old) {
         side.put(a, own.word(a));
     }

@@ -22,7 +22,8 @@ pub(crate) const SIZES: [Group; 4] = [
             (&[Words(14_669)], "20878 14669 14670"),
             (&[Words(14_671)], "20878 14671 14670"),
             (&[Words(0)], "20878 0 14670"),
-            // The shapes 0, 1, 7, 8 and 23: one unused, the first and the last fixed one, the first path, the next unused one.
+            // The shapes 0, 1, 7, 8 and 23: one unused, the first and the last fixed one, the first path, the next
+            // unused one.
             (&[Word(6_470, 1)], "6470 1 0"),
             (&[Word(6_471, 3)], "6471 3 2"),
             (&[Word(6_477, 9)], "6477 9 8"),

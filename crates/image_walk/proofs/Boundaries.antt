@@ -105,7 +105,8 @@ boundary_start heap start end rows stands some =
     let extent = stands.extent in
     let here : ContainsAddress extent start =
     record { from = omega (arith, stands.starts); below = omega (arith, stands.ends, some) } in
-    let one = λ (other : Extent) (among : Contains (cell_extents heap.space) other) (holds : ContainsAddress other start).
+    let one =
+    λ (other : Extent) (among : Contains (cell_extents heap.space) other) (holds : ContainsAddress other start).
     disjoint heap.space other extent start (cell_extent_stands heap.space other among)
     (cell_extent_stands heap.space extent stands.among) holds here in
     record {
@@ -138,7 +139,8 @@ boundary_behind heap cell words rows has =
         | inr within ↦ within
       ];
       reached = λ row among used holds. reached_from heap row at used holds (λ within.
-          let inside : ContainsAddress row.extent last = record { from = omega arith; below = omega (arith, holds.below) } in
+          let inside : ContainsAddress row.extent last =
+          record { from = omega arith; below = omega (arith, holds.below) } in
           cell_in_row row last rows has among used inside (omega arith) (omega arith));
     }
 
@@ -161,7 +163,8 @@ boundary_end heap at end rows cells =
         | inr within ↦ within
       ];
       reached = λ row among used holds. reached_from heap row end used holds (λ within.
-          let inside_too : ContainsAddress row.extent last = record { from = omega arith; below = omega (arith, holds.below) } in
+          let inside_too : ContainsAddress row.extent last =
+          record { from = omega arith; below = omega (arith, holds.below) } in
           let same : row.extent ≡ extent =
           disjoint heap.space row.extent extent last (cell_extent_stands heap.space row.extent among)
           (cell_extent_stands heap.space extent there.among) inside_too inside in

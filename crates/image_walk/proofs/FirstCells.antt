@@ -17,8 +17,9 @@ pub none_from_more : (heap : Heap) (least at : ℕ) (next : Cell) → HasRows he
 none_from_more heap least at next rows is none before cell words has from =
     elim (cases_lt cell.at (next.at + next.size)) [
       | inr behind ↦ behind
-      | inl within ↦ elim (passed_or_next heap at next cell rows is (subst (HasCell heap cell) (sym has.words_are) has) within) [
-        | inl early ↦ absurd (omega (arith, early, none cell words has from))
-        | inr same ↦ absurd (omega (arith, ap (λ (one : Cell). one.at) same, before, from))
-      ]
+      | inl within ↦
+          elim (passed_or_next heap at next cell rows is (subst (HasCell heap cell) (sym has.words_are) has) within) [
+            | inl early ↦ absurd (omega (arith, early, none cell words has from))
+            | inr same ↦ absurd (omega (arith, ap (λ (one : Cell). one.at) same, before, from))
+          ]
     ]

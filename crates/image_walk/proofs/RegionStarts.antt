@@ -17,7 +17,8 @@ begins_at space a start end region inside starts cells =
     (ap (λ (e : Extent). e.region) (sym same) ∙ inside.of_region)
 
 -- it stands from there to where the cells end
-pub stands_from : (space : Space) (a start end : ℕ) (region : Region) → IsIn space a region → StartsAt space region start
+pub stands_from : (space : Space) (a start end : ℕ) (region : Region) → IsIn space a region
+    → StartsAt space region start
     → CellsEndAt space a end → StandsBetween space start end
 stands_from space a start end region inside starts cells = record {
   extent = cells.extent;

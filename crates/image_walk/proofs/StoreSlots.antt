@@ -88,7 +88,8 @@ wrong_beside heap of word cell other wrong slots beside = elim (beside_is beside
 pub no_beside : (heap : Heap) (of : Kind) (word : ℕ) (one : Referent) → IsStoreKind of → IsSort heap word one
     → (one ≡ sort.Undefined → ⊥) → ((cell : Cell) → one ≡ sort.Other cell → ⊥) → HoldsNoStore heap of word
 no_beside heap of word one stores has not_undefined not_other slots beside = elim (beside_is beside) [
-  | HasStoreSlots.none undefined are ↦ not_undefined (undefined_sort heap one (subst (λ w. IsSort heap w one) undefined has))
+  | HasStoreSlots.none undefined are ↦
+      not_undefined (undefined_sort heap one (subst (λ w. IsSort heap w one) undefined has))
   | HasStoreSlots.store cell refers is are ↦
       not_other cell
       (other_sort heap word cell one (store_is_other heap word cell refers (subst IsStoreKind (sym is) stores)) has)

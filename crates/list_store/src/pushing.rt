@@ -68,11 +68,10 @@ fn push_to_new_store(
     let capacity = grown(count);
     let words = STORE_HEAD + capacity;
     let at = room_for(main, words + need_of(content))?;
-    // Marking looks at the new store once it has the element, and the list refers to it after that.
+    // The list refers to the new store once it has the element.
     begin_store(main, store, capacity, at);
     let word = boxed_word(main, content, at + words);
     main.store(at, STORE_HEAD + count, word);
-    main.made(at);
     main.store(list, STORE_SLOT, Word::reference(at));
     main.write_slot(list, COUNT, (count + 1) as u64);
     Ok(())

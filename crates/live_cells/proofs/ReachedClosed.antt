@@ -42,7 +42,8 @@ module _ {heap : Heap} {graph : Graph} (shows : Shows heap graph) where
         carries = refl;
       }) reached in
       let same : one.0 ≡ owner = one_at one.2.has names.has one.3 in
-      let is : IsReachedCell heap graph owner one.1 = subst (λ (cell : Cell). IsReachedCell heap graph cell one.1) same one.2 in
+      let is : IsReachedCell heap graph owner one.1 =
+      subst (λ (cell : Cell). IsReachedCell heap graph cell one.1) same one.2 in
       elim (owned_is names.cell.layout.kind names.owned) [
         | OwnedIs.a_store store ↦
             Belongs.its_store owner one.1 names.word names.cell names.others is

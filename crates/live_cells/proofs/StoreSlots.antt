@@ -36,7 +36,8 @@ no_field = record { name = 0; rep = rep.Small }
 -- no slot word refers to a store or a table
 pub slot_word_to_none : {heap : Heap} {word : ℕ} {cell : Cell} {words : List ℕ} → IsSlotWord heap word
     → RefersTo heap word cell words → IsStoreKind cell.layout.kind → ⊥
-slot_word_to_none {cell = cell} (IsSlotWord.small_integer v is) refers of_kind = small_refers_not v cell.at refers.refers
+slot_word_to_none {cell = cell} (IsSlotWord.small_integer v is) refers of_kind =
+    small_refers_not v cell.at refers.refers
 slot_word_to_none {cell = cell} IsSlotWord.undefined refers of_kind = undefined_refers_not cell.at refers.refers
 slot_word_to_none {cell = cell} IsSlotWord.hole refers of_kind = hole_refers_not cell.at refers.refers
 slot_word_to_none {cell = cell} (IsSlotWord.object word to) refers of_kind =
@@ -95,7 +96,8 @@ in_object_to_none {heap} {cell} offset word sized has sound there slot refers of
     let field : PathField = get_or path.fields own.at no_field in
     let is : slice_get path.fields own.at ≡ Some field = slice_get-get_or path.fields own.at no_field own.among in
     slot_word_to_none
-    (field_is_slot field.rep word (sound.hold.each own.at field word is own.stands) (λ in_it wide. own.tagged field is wide))
+    (field_is_slot field.rep word (sound.hold.each own.at field word is own.stands)
+    (λ in_it wide. own.tagged field is wide))
     refers of_kind
 
 -- where a slot of an object refers to a store or a table, the slot for its store does, kind by kind

@@ -25,7 +25,8 @@ pub record HasKey (heap : Heap) (table key : ℕ) : Type 0 where
 
 -- each key of a table that is live from these starts is
 abbrev pub HasLiveKeysFrom : Heap → (ℕ → Type 0) → Type 0
-HasLiveKeysFrom heap starts = (table key : ℕ) → IsLive heap starts table → HasKey heap table key → IsLive heap starts key
+HasLiveKeysFrom heap starts =
+    (table key : ℕ) → IsLive heap starts table → HasKey heap table key → IsLive heap starts key
 
 -- each key of a live table is live
 abbrev pub HasLiveKeys : Heap → Type 0

@@ -21,6 +21,7 @@ word_pairs_most = 341
 -- A count has come to an address: these are the objects and the pairs of the cells that begin before it, and there are
 -- no more than the words before it may have.
 pub record CountsTo (heap : Heap) (to objects entries : ℕ) : Type 0 where
-  pub counted : (rows : List Row) → AreRows heap rows → CountsCellsAndPairs heap (objects_before rows to) objects entries
+  pub counted : (rows : List Row) → AreRows heap rows
+      → CountsCellsAndPairs heap (objects_before rows to) objects entries
   pub few_objects : objects ≤ to
   pub few_entries : entries ≤ word_pairs_most * to

@@ -25,8 +25,8 @@ LiveIsReached =
     (heap : Heap) (graph : Graph) (at : ℕ) → Shows heap graph → IsLive heap (IsRootTarget heap) at
     → BelongsToReached heap graph at
 
--- Where a heap shows a graph, what a slot refers to that marking visits belongs to an object that can be reached, if the
--- slot's cell does.
+-- Where a heap shows a graph, what a slot refers to that marking visits belongs to an object that can be reached, if
+-- the slot's cell does.
 abbrev pub ReachedSlotsLeadOn : Type 0
 ReachedSlotsLeadOn =
     (heap : Heap) (graph : Graph) (from at : ℕ) → Shows heap graph → BelongsToReached heap graph from

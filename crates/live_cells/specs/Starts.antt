@@ -1,5 +1,5 @@
--- What is live where a marking was given cells to start at, besides those that root words refer to. None of them is a weak
--- table: a table that its map has outgrown is cleared with no map, so its pairs would keep dead keys.
+-- What is live where a marking was given cells to start at, besides those that root words refer to. None of them is a
+-- weak table: a table that its map has outgrown is cleared with no map, so its pairs would keep dead keys.
 use Rattle.std.specs.Prelude.{◌≡◌, ℕ, List, Contains}
 use Rattle.tagged_word.specs.Cells.{scavenge_offsets}
 use Rattle.heap_model.specs.Types.{Cell}

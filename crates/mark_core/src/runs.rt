@@ -20,7 +20,8 @@ pub fn replay(alloc: Global, start: &World, events: &[Event]) -> Result<World, S
     ensures carried { IfOk result (λ world. world ≡ after_all start.now events.now) }
     ensures possible { IfOk result (λ _. WerePossible start.now events.now (length events.now)) }
     ensures whole { IfOk result (λ world. IsSoundAndBorn start.now → IsSoundAndBorn world) }
-    ensures marked { IfOk result (λ world. IsSoundAndBorn start.now → IsDrained world → Settled world → MarksAll world) }
+    ensures marked { IfOk result (λ world.
+        IsSoundAndBorn start.now → IsDrained world → Settled world → MarksAll world) }
     ensures one_layout { IfOk result (λ _. IsSoundAndBorn start.now → HasNoneOut start.now →
         OneLayout start.now events.now) }
     ensures stopped { IfErr result (StopsThere start.now events.now) }

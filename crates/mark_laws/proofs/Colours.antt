@@ -35,7 +35,7 @@ raised_there list at word more a e = elim (cases_lt at (length list)) [
 ]
 
 -- a list with one number raised has no number lowered
-raised : (list : List ℕ) (at word : ℕ) → slice_index list at ≤ word → (a : ℕ)
+pub raised : (list : List ℕ) (at word : ℕ) → slice_index list at ≤ word → (a : ℕ)
     → slice_index list a ≤ slice_index (slice_set list at word) a
 raised list at word more a = elim (cases_lt at a) [
   | inl other ↦ let same = get_or-set_other list at a word 0 (λ e. absurd (omega (arith, e))) in omega (arith, same)
@@ -46,7 +46,7 @@ raised list at word more a = elim (cases_lt at a) [
 ]
 
 -- shading makes no colour lighter
-shaded_rises : (colour : ℕ) → colour ≤ shaded colour
+pub shaded_rises : (colour : ℕ) → colour ≤ shaded colour
 shaded_rises colour = grind (arith, nat_tests)
 
 -- nor does settling

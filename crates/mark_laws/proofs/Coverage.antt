@@ -29,7 +29,7 @@ use Rattle.mark_laws.proofs.Starts.{start_old}
 use Rattle.mark_laws.proofs.Joins.{all_keep, all_there, any_through, joined_by_keeps, of_get, targets_keep, some_and}
 
 -- shading leaves no cell white
-shaded_not_white : (colour : ℕ) → shaded colour ≡ 0 → ⊥
+pub shaded_not_white : (colour : ℕ) → shaded colour ≡ 0 → ⊥
 shaded_not_white colour e = grind (arith, nat_tests)
 
 -- a cell that was shaded is not white

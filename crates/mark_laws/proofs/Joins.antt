@@ -1,7 +1,8 @@
 -- Lists that others join keep what they have.
 use Rattle.std.proofs.Common.{ℕ, ◌+◌, ◌<◌, ◌≡◌, ◌≢◌, ◌==◌, ◌⊎◌, inl, inr, List, [], ◌∷◌}
 use Rattle.std.proofs.Common.{length, get_or, set, slice_get, Option, Some, None}
-use Rattle.std.proofs.Common.{All, Any, Contains, IfSome, IsSomeAnd, true, false, slice_index, eqb-true, eq-eqb, refl}
+use Rattle.std.proofs.Common.{All, Any, Bool, Contains, IfSome, IsSomeAnd, true, false, if◌then◌else◌}
+use Rattle.std.proofs.Common.{slice_index, eqb-true, eq-eqb, refl}
 use Rattle.std.proofs.Common.{sym, ap, subst, ◌∙◌, arith}
 use Rattle.std.proofs.lemmas.Bool.{cases_lt}
 use Rattle.std.proofs.lemmas.List.{get_or-set_same, get_or-set_other, length-set}
@@ -13,9 +14,10 @@ use Rattle.tagged_word.proofs.Members.{first_in, in_cases, rest_in}
 use Rattle.core_parts.specs.Lists.{joined}
 use Rattle.core_parts.specs.Boards.{joined_by}
 use Rattle.core_parts.proofs.Joining.{decided, joined_from, joined_in, joined_keeps}
+use Rattle.core_parts.proofs.Tested.{not_equal}
 use Rattle.mark_world.specs.Coverage.{EachSlot, cell_of}
 use Rattle.mark_world.specs.Pages.{OfTarget, slots_of, target, targets_joined}
-use Rattle.mark_world.specs.Steps.{all_joined}
+use Rattle.mark_world.specs.Steps.{all_joined, joined_if_white, white}
 
 -- a list that something may join keeps what it has
 pub joined_by_keeps : (list : List ℕ) (new : Option ℕ) (at : ℕ) → Contains list at → Contains (joined_by list new) at
@@ -33,6 +35,14 @@ targets_keep old list (word ∷ rest) at c =
 pub all_keep : (list others : List ℕ) (at : ℕ) → Contains list at → Contains (all_joined list others) at
 all_keep list [] at c = c
 all_keep list (a ∷ rest) at c = all_keep (joined list a) rest at (joined_keeps list a at c)
+
+-- a cell that was found white joins the list
+pub joined_white : (grey : List ℕ) (at found : ℕ) → found ≡ white → joined_if_white grey found at ≡ joined grey at
+joined_white grey at found is = ap (λ (b : Bool). if b then joined grey at else grey) (eq-eqb found 0 is)
+
+-- one that was found grey or black joins none
+pub joined_other : (grey : List ℕ) (at found : ℕ) → found ≢ white → joined_if_white grey found at ≡ grey
+joined_other grey at found other = ap (λ (b : Bool). if b then joined grey at else grey) (not_equal found 0 other)
 
 -- each address that joins is there
 pub all_there : (list others : List ℕ) (at : ℕ) → Contains others at → Contains (all_joined list others) at

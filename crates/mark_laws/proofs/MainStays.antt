@@ -51,7 +51,7 @@ stand_in old words layouts main = record {
 }
 
 -- a born cell is old
-born_old : (world : World) → HasMainSound world → (at : ℕ) → Contains world.main.born at → at < world.old
+pub born_old : (world : World) → HasMainSound world → (at : ℕ) → Contains world.main.born at → at < world.old
 born_old world sound at is_born =
     elim (free_or_mine world at (All-contains (Contains world.main.starts) world.main.born at sound.born is_born)) [
       | inl free ↦ let read = value_of (cell_of world at) (sound.read at free) in read_old world at read.0 read.1

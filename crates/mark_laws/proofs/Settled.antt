@@ -102,7 +102,8 @@ none_made_back world both = record {
   sure = all_from (λ at. Contains [] at ⊎ ReadsSlots world (HasSureTarget world) at) world.main.mine (λ at c.
       inr record {
         reads = All-contains (λ (a : ℕ). IsSome (cell_of world a)) world.main.mine at both.1 c;
-        slots = All-contains (λ (a : ℕ). EachSlot world a (λ offset. HasSureTarget world)) world.main.mine at both.0.sure c;
+        slots = All-contains (λ (a : ℕ). EachSlot world a (λ offset. HasSureTarget world)) world.main.mine at
+            both.0.sure c;
       });
 }
 

@@ -37,7 +37,7 @@ read_old world at cell e =
     omega (arith, size.0, ends)
 
 -- a black cell has a colour
-black_within : (colours : List ℕ) (at : ℕ) → slice_index colours at ≡ black → at < length colours
+pub black_within : (colours : List ℕ) (at : ℕ) → slice_index colours at ≡ black → at < length colours
 black_within colours at is_black = elim (cases_lt at (length colours)) [
   | inl within ↦ within
   | inr past ↦

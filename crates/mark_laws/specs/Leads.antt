@@ -33,8 +33,8 @@ SureIsBlack =
     → All (λ at. colour_of world at ≡ black) world.main.sure
 
 -- In a sound world with no seat out, where the mutator's part is done, what a tagged slot of a published black cell
--- refers to is not white. Grey cells may wait anywhere: so a pause may end a cycle with a marking of its own, which looks
--- at no slot of a black cell.
+-- refers to is not white. Grey cells may wait anywhere: so a pause may end a cycle with a marking of its own, which
+-- looks at no slot of a black cell.
 abbrev pub BlackLeadsOn : Type 0
 BlackLeadsOn =
     (world : World) (from at offset : ℕ) (cell : Reading) → Sound world → Settled world → HasNoneOut world

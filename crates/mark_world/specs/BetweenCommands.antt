@@ -43,7 +43,8 @@ value_word world at pair = slice_index world.words (at + store_head + 2 * pair +
 -- each pair of a weak table whose key is kept has a value with no target or a born one
 abbrev pub HasBornValues : World → List ℕ → ℕ → Reading → Type 0
 HasBornValues world young at table =
-    (pair key : ℕ) → pair < table.length → reference_in (key_word world at pair) ≡ Some key → IsYoungOrBorn world young key
+    (pair key : ℕ) → pair < table.length → reference_in (key_word world at pair) ≡ Some key
+    → IsYoungOrBorn world young key
     → HasBorn world (value_word world at pair)
 
 -- a born object has a number that was reached when the cycle began, or one that was not given then
@@ -51,9 +52,9 @@ abbrev pub IsBornObject : List ℕ → ℕ → ℕ → Type 0
 IsBornObject reached made object = Contains reached object ⊎ (made ≤ object)
 
 -- Known, by the first root word of each variable, the young cells, the numbers of the objects that were reached when
--- the cycle began, and the number of objects then. Each target of a root word is born, and so is each target of a tagged
--- slot of a young cell: the pause at the end of the cycle visits young cells as it visits roots. A kept table with a kept
--- key has a born value. Each kept object cell has a born object's number.
+-- the cycle began, and the number of objects then. Each target of a root word is born, and so is each target of a
+-- tagged slot of a young cell: the pause at the end of the cycle visits young cells as it visits roots. A kept table
+-- with a kept key has a born value. Each kept object cell has a born object's number.
 pub record Known (world : World) (roots young reached : List ℕ) (made : ℕ) : Type 0 where
   pub from_roots : All (HasBorn world) roots
   pub from_young : All (λ at. IfSome (any_cell world at) (λ cell.

@@ -3,10 +3,10 @@ use Rattle.std.specs.Prelude.{ℕ, List}
 use Rattle.mark_world.specs.declared.views.MainView.{MainView}
 
 -- What commands know of an open cycle. Four lists of addresses of cells of pages, as in the mutator's view: those that
--- are published; those that count as reached, or as made, since the cycle began; those that the mutator made black itself;
--- and those that it is sure of. Then what no step changes: the numbers of the objects that could be reached when the
--- cycle began, and how many objects there were. What the mutator owes, the grey cells that wait with it and its log are
--- left out, since they hang on what its steps found.
+-- are published; those that count as reached, or as made, since the cycle began; those that the mutator made black
+-- itself; and those that it is sure of. Then what no step changes: the numbers of the objects that could be reached
+-- when the cycle began, and how many objects there were. What the mutator owes, the grey cells that wait with it and
+-- its log are left out, since they hang on what its steps found.
 pub record Cycle : Type 0 where
   pub starts : List ℕ
   pub born : List ℕ

@@ -81,7 +81,8 @@ SparesPairs world new at =
 
 -- so does each pair of a kept table but those that the mutator is making or changing
 abbrev pub SparesTables : World → List ℕ → List ℕ → ℕ → Type 0
-SparesTables world made young new = (at : ℕ) → IsYoungOrBorn world young at → Contains made at ⊎ SparesPairs world new at
+SparesTables world made young new =
+    (at : ℕ) → IsYoungOrBorn world young at → Contains made at ⊎ SparesPairs world new at
 
 -- an event spares what is known but of these cells
 abbrev pub SparesKnown : World → List ℕ → List ℕ → Event → Type 0

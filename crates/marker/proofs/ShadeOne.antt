@@ -12,6 +12,7 @@ use Rattle.core_parts.proofs.Joining.{decided, in_found, joined_from, joined_in,
 use Rattle.core_parts.proofs.Leaving.{left_from, left_keeps, left_out}
 use Rattle.core_parts.proofs.Tested.{not_equal}
 use Rattle.mark_laws.specs.Types.{HelperView}
+use Rattle.mark_laws.proofs.Joins.{joined_other, joined_white}
 use Rattle.mark_world.specs.declared.event.Event.TheVariants as event
 use Rattle.mark_world.specs.Steps.{helper_learns, joined_if_white, white}
 use Rattle.shared_table.specs.declared.colour.Colour.{Colour}
@@ -48,14 +49,6 @@ coloured log at found = record {
   is = refl;
   none_made = refl;
 }
-
--- what a seat knows of a colour that it found
-joined_white : (grey : List ℕ) (at found : ℕ) → found ≡ white → joined_if_white grey found at ≡ joined grey at
-joined_white grey at found is = ap (λ (b : Bool). if b then joined grey at else grey) (eq-eqb found 0 is)
-
--- a cell that was found grey or black joins no list
-joined_other : (grey : List ℕ) (at found : ℕ) → found ≢ white → joined_if_white grey found at ≡ grey
-joined_other grey at found other = ap (λ (b : Bool). if b then joined grey at else grey) (not_equal found 0 other)
 
 module _ (before : Helping) (at found : ℕ) where
   abbrev old : ℕ
@@ -127,42 +120,3 @@ module _ (before : Helping) (at found : ℕ) where
         (sym (joined_other view.grey at found other)) (has.members one))
         (λ e. has.members one);
   }
-
--- a cell that is not new to a list is on it
-there : (list : List ℕ) (at : ℕ) → IsTrue false ↔ (Contains list at → ⊥) → Contains list at
-there list at was = elim (decided (is_in list at)) [
-  | inl on ↦ in_found list at on
-  | inr out ↦ absurd (let no_test : IsTrue false = was.1 (out_not_found list at out) in cc)
-]
-
--- the members of a list to which a cell was pushed
-pub pushed_members : (listing now : Listing) (at : ℕ) (fresh : Bool) → IsTrue fresh ↔ (Contains listing.addresses at →
-    ⊥)
-    → now ≡ (if fresh then pushed listing at else listing) → (one : ℕ)
-    → Contains now.addresses one ↔ (Contains listing.addresses one ⊎ (one ≡ at))
-pushed_members listing now at true was is one =
-    subst (λ (l : Listing). Contains l.addresses one ↔ (Contains listing.addresses one ⊎ (one ≡ at))) (sym is) (
-      (λ on. elim (Contains-append_cases listing.addresses (at ∷ []) one on) [
-        | inl before ↦ inl before
-        | inr last ↦ inr (sym (one_in at one last))
-      ]),
-      (λ either. elim either [
-        | inl before ↦ Contains-append_left listing.addresses (at ∷ []) one before
-        | inr new ↦ Contains-append_right listing.addresses (at ∷ []) one
-            (subst (Contains (at ∷ [])) (sym new) (first_in at []))
-      ]),
-    )
-pushed_members listing now at false was is one =
-    subst (λ (l : Listing). Contains l.addresses one ↔ (Contains listing.addresses one ⊎ (one ≡ at))) (sym is) (
-      (λ on. inl on),
-      (λ either. elim either [
-        | inl before ↦ before
-        | inr new ↦ subst (Contains listing.addresses) (sym new) (there listing.addresses at was)
-      ]),
-    )
-
--- a colour that is not white has another number
-pub not_white_number : (colour : Colour) → (colour ≡ White → ⊥) → number_of colour ≢ white
-not_white_number White other is = other refl
-not_white_number Grey other is = absurd (omega (arith, is))
-not_white_number Black other is = absurd (omega (arith, is))

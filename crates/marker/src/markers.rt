@@ -5,7 +5,6 @@ ghost use Rattle.mark_world.specs.Steps.{lent};
 ghost use Rattle.marker.specs.Markers.{HasJoined, HasMarked};
 
 use crate::marking::{Outcome, mark};
-use crate::shading::list_cell;
 use crate::turn::Room;
 use cell_list::CellList;
 use crew::{Gate, Task};
@@ -119,7 +118,7 @@ fn join_lists(from: &CellList, to: &mut CellList)
     ensures bound { to.new.bound ≡ to.old.bound }
 {
     for place in 0..from.len() {
-        list_cell(to, from.get(place));
+        to.add(from.get(place));
     }
 }
 

@@ -6,7 +6,6 @@ ghost use Rattle.marker.specs.Shading.{HasListedOthers, IsAtRest};
 ghost use Rattle.marker.specs.Turns.{AddsNoTurn};
 
 use crate::marking::next_cell;
-use crate::shading::list_cell;
 use crate::turn::Room;
 use shared_table::{HelperSeat, SharedTable};
 use work_board::give;
@@ -62,6 +61,6 @@ fn give_cell(seat: &mut HelperSeat, table: &SharedTable, room: &mut Room, at: u3
 {
     match give(seat, table, room.place, at) {
         Ok(()) => {}
-        Err(_) => list_cell(&mut room.list, at),
+        Err(_) => room.list.add(at),
     }
 }

@@ -1,5 +1,5 @@
 //! The targets of a cell that a visit has kept are shaded.
-ghost use Rattle.std.specs.Prelude.{◌≡◌, ℕ, ◌<◌, ◌⊎◌, ◌↔◌, [], Contains, Some, length};
+ghost use Rattle.std.specs.Prelude.{◌≡◌, ℕ, ◌<◌, [], Contains, Some, length};
 ghost use Rattle.mark_laws.specs.Types.{SnapSlot};
 ghost use Rattle.mark_world.specs.Pages.{OfTarget, target};
 ghost use Rattle.marker.specs.Shading.{HasListed, IsShaded, MayShade, Shades, word_of};
@@ -59,19 +59,9 @@ fn shade_cell(seat: &mut HelperSeat, table: &SharedTable, list: &mut CellList, a
     ensures shaded { Contains seat.new.lent.view.visit at → ⊥ }
 {
     match seat.shade(table, at) {
-        Colour::White => list_cell(list, at),
+        Colour::White => list.add(at),
         _ => {}
     }
-}
-
-/// Lists a cell.
-#[inline(always)]
-pub(crate) fn list_cell(list: &mut CellList, at: u32)
-    requires { at < list.old.bound }
-    ensures bound { list.new.bound ≡ list.old.bound }
-    ensures members { (one : ℕ) → Contains list.new.addresses one ↔ (Contains list.old.addresses one ⊎ (one ≡ at)) }
-{
-    list.push(at);
 }
 
 /// The cell of a page that a word refers to.

@@ -5,7 +5,7 @@ ghost use Rattle.marker.specs.Resting.{Looks, Rests, StaysAt, next_place};
 ghost use Rattle.marker.specs.Shading.{HasListed, HasListedOthers, IsAtRest};
 ghost use Rattle.marker.specs.Turns.{AddsVisit};
 
-use crate::shading::{list_cell, shade_targets};
+use crate::shading::shade_targets;
 use cell_list::CellList;
 use crew::Gate;
 use page_space::BOARD_WORDS;
@@ -62,7 +62,7 @@ pub(crate) fn look(seat: &mut HelperSeat, table: &SharedTable, room: &mut Room) 
     room.place = (place + 1) % BOARD_WORDS;
     match take(seat, table, place) {
         Some(at) => {
-            list_cell(&mut room.list, at);
+            room.list.add(at);
             false
         }
         None => true,

@@ -64,7 +64,8 @@ module _ {graph : Graph} {x : ℕ} {target value : Value} {plain : PlainObject} 
 
   -- where there is room for the field, it is written
   pub set_room : (LacksFields plain f → ⊥)
-      → meaning ideal_limits names graph (Set x f v) ≡ reshape ideal_limits graph plain (with_field plain.fields f value)
+      → meaning ideal_limits names graph (Set x f v)
+      ≡ reshape ideal_limits graph plain (with_field plain.fields f value)
   set_room few =
       set_known
       ∙ ap (λ test. unless FieldsFull test (reshape ideal_limits graph plain (with_field plain.fields f value)))
@@ -97,6 +98,7 @@ del_known names f known = rw (known.bound, known.refers)
 -- a field that is read
 pub get_done : {graph : Graph} {x : ℕ} {target : Value} {plain : PlainObject} (names : List (List ℕ)) (y f : ℕ)
     → IsKnown as_plain graph x target plain
-    → meaning ideal_limits names graph (Get y x f) ≡ done (bind graph y (unwrap_or (field_value plain.fields f) Undefined))
+    → meaning ideal_limits names graph (Get y x f)
+    ≡ done (bind graph y (unwrap_or (field_value plain.fields f) Undefined))
     []
 get_done names y f known = rw (known.bound, known.refers)

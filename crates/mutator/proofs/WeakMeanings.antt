@@ -45,7 +45,8 @@ module _ {graph : Graph} {m number : ℕ} {target : Value} {weak : WeakObject} (
     wput_known = rw (known.bound, key, is, known.refers)
 
     -- where the map takes an entry for the key, that has the value
-    pub wput_done : no_entry_for (reach graph) weak.entries number ≡ false → meaning ideal_limits names graph (WPut m k v)
+    pub wput_done : no_entry_for (reach graph) weak.entries number ≡ false
+        → meaning ideal_limits names graph (WPut m k v)
         ≡ done (reweave graph weak (with_entry weak.entries number value)) []
     wput_done takes =
         wput_known

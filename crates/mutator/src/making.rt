@@ -103,7 +103,6 @@ fn fill_plain(main: &mut Main, at: u32, header: Header, cap: u32)
     main.set_header(at, header);
     main.store(at, STORE_SLOT, Word::odd(odd::UNDEFINED));
     main.fill_holes(at + PLAIN_HEAD, cap);
-    main.made(at);
 }
 
 /// Binds `x` to a new list without elements, or to a new weak map without entries. `object` is the number of objects
@@ -148,5 +147,4 @@ fn fill_counted(main: &mut Main, at: u32, header: Header)
     main.set_header(at, header);
     main.store(at, STORE_SLOT, Word::odd(odd::UNDEFINED));
     main.write_slot(at, COUNT, 0);
-    main.made(at);
 }

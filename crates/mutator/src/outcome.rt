@@ -1,4 +1,5 @@
-//! What a caller learns of a command that was to be carried out: whether it was, or also why not. Why not is in `stop.rt`.
+//! What a caller learns of a command that was to be carried out: whether it was, or also why not. Why not is in
+//! `stop.rt`.
 ghost use Rattle.std.specs.Prelude.{◌≡◌, Result, Ok, Err, is_ok};
 ghost use Rattle.shape_change.specs.declared.stop.FieldStop.{FieldStop as WhyNoField};
 ghost use Rattle.mutator.specs.declared.stop.Stop.{Stop as Why};

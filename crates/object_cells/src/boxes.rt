@@ -44,7 +44,6 @@ pub fn boxed_word(main: &mut Main, content: SlotContent, at: u32) -> Word
         SlotContent::Raw(word) => Word(word),
         SlotContent::Boxed(v) => {
             make_box(main, at, v);
-            main.made(at);
             Word::reference(at)
         }
     }
@@ -132,7 +131,6 @@ pub fn fill(main: &mut Main, cell: u32, offset: u32, filling: SlotWrite)
         SlotWrite::Raw(word) => main.write_slot(cell, offset, word),
         SlotWrite::NewBox { at, v } => {
             make_box(main, at, v);
-            main.made(at);
             main.store(cell, offset, Word::reference(at));
         }
         SlotWrite::OldBox { at, v } => main.write_slot(at, 1, v.cast_unsigned()),

@@ -99,7 +99,6 @@ pub fn make_store(main: &mut Main, object: u32, store: Store, capacity: u32, at:
         Touches main.old main.new (touched_then (store_touch capacity at) named) }
 {
     begin_store(main, store, capacity, at);
-    main.made(at);
     // There are as many words as addresses before the marks.
     main.addresses_fit();
     main.store(object, STORE_SLOT, Word::reference(at));

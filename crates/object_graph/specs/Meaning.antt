@@ -214,4 +214,5 @@ meaning limits names graph command.Scavenge = done graph []
 meaning limits names graph command.Mark = done graph []
 meaning limits names graph command.Finish = done graph []
 meaning limits names graph command.Gc = done graph []
-meaning limits names graph command.Census = done graph (line (census_text (reached_objects graph) (reached_entries graph)))
+meaning limits names graph command.Census =
+    done graph (line (census_text (reached_objects graph) (reached_entries graph)))

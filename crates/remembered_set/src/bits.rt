@@ -1,6 +1,7 @@
 //! Flags, one for each word of the pages, as bits of words of 64: the first that is set, and
 //! setting and clearing them. The flag of a place is bit `place % 64` of word `place / 64`.
-ghost use Rattle.std.specs.Prelude.{◌≡◌, ◌*◌, ◌<◌, ◌≤◌, ◌↔◌, false, true, length, set, IsTrue, MatchOption, slice_index_or};
+ghost use Rattle.std.specs.Prelude.{◌≡◌, ◌*◌, ◌<◌, ◌≤◌, ◌↔◌, false, true, length, set, IsTrue, MatchOption};
+ghost use Rattle.std.specs.Prelude.{slice_index_or};
 ghost use Rattle.remembered_set.specs.Bits.{flags_of, HasNoBitFrom, IsFirstBitFrom};
 ghost use Rattle.remembered_set.specs.Flags.{AreClear, IsFirstSet, ClearsBetween, CountsCleared};
 

@@ -9,8 +9,8 @@ use std::test::Fail;
 /// twice the entries are more. A box has 2. A scavenge comes where the words that are wanted are not there, and leaves
 /// those of what lives, but for what was there at the scavenge before: that goes to pages. Where it leaves no room the
 /// words are granted of a page, and neither used words nor survivors come of it. All goes to pages where no run of one
-/// has the words, and where `mark` begins a cycle or `finish` ends one. Rows that begin with 512 objects of 4 words fill
-/// the only page with them. A soak collects fully at its end.
+/// has the words, and where `mark` begins a cycle or `finish` ends one. Rows that begin with 512 objects of 4 words
+/// fill the only page with them. A soak collects fully at its end.
 const COUNTS: &str = "\
 run |  | 0 0 0 | 0 0
 run | new x 2; set x a 5; get y x a; print y | 4 0 0 | 4 0

@@ -58,7 +58,8 @@ LiveSlotsStayLive =
 abbrev pub EndIsRenaming : Type 0
 EndIsRenaming =
     (fixed : Fixed) (words : List ℕ) (homes : List Home) → IsLaidOut fixed → Copying fixed words homes
-    → ((slot place cell : ℕ) → StoodAt fixed homes slot place → RefersToAddress words slot cell → Contains fixed.cells cell
+    → ((slot place cell : ℕ) → StoodAt fixed homes slot place → RefersToAddress words slot cell
+    → Contains fixed.cells cell
     → ⊥)
     → Renaming fixed words homes × Outside fixed words × AreHoused fixed homes × HomesDisjoint fixed homes
 

@@ -27,7 +27,8 @@ pub data GoesOn (fixed : Fixed) (words : List ℕ) (homes : List Home) : List �
 pub record HasGoneOn (fixed : Fixed) (homes : List Home) (now : List ℕ) (all : List Home) : Type 0 where
   pub copying : Copying fixed now all
   pub kept : (home : Home) → Contains homes home → Contains all home
-  pub end : ((slot place cell : ℕ) → StoodAt fixed all slot place → RefersToAddress now slot cell → Contains fixed.cells cell
+  pub end : ((slot place cell : ℕ) → StoodAt fixed all slot place → RefersToAddress now slot cell
+      → Contains fixed.cells cell
       → ⊥) → Renaming fixed now all × Outside fixed now × AreHoused fixed all × HomesDisjoint fixed all
 
 -- a scavenge may go on from any words and homes that are copying

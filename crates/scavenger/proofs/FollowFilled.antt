@@ -144,10 +144,13 @@ filled_in_page {start} {fixed} {words} {rows} {left} {homes} {fill} {cell} {free
       same = same_with_home homes (filled.stayed ++ filled.promoted) (filled.stayed ++ home ∷ filled.promoted) home
           filled.same (one_between filled.stayed filled.promoted home);
       long = omega (arith, one_home_more (size_of fixed) homes home, filled.long);
-      pages = pages_take_copies start fixed words rows left homes fill cell free run begun filled (unmoved new) takes is_free;
+      pages = pages_take_copies start fixed words rows left homes fill cell free run begun filled (unmoved new) takes
+          is_free;
       left = λ at.
-          words_are_left start fixed words rows left homes fill cell free run at begun filled (unmoved new) takes is_free;
+          words_are_left start fixed words rows left homes fill cell free run at begun filled (unmoved new) takes
+          is_free;
       free = free_is_left start.heap.space words rows left cell run new.is_cell filled.free takes;
       backs = backs_again start.rows rows left filled.backs (front_leaves_backs takes some filled.free);
-      apart = λ at. free_is_left_apart start fixed words rows left homes fill cell run at begun filled (unmoved new) takes;
+      apart = λ at. free_is_left_apart start fixed words rows left homes fill cell run at begun filled (unmoved new)
+          takes;
     }

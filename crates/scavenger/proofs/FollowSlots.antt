@@ -57,7 +57,8 @@ renaming_goes_on start left fixed words rows homes todo front home fill slot pla
         in_pages = filled.in_pages;
         same = filled.same;
         long = filled.long;
-        pages = pages_stay_for_slots start fixed words rows homes fill slot place (bits_of (Ref home.to)) begun filled stood;
+        pages = pages_stay_for_slots start fixed words rows homes fill slot place (bits_of (Ref home.to)) begun filled
+            stood;
         left = filled.left;
         free = filled.free;
         backs = filled.backs;

@@ -137,10 +137,8 @@ fill_fits are state =
 
 -- what is recorded stands before eden, and so before where the segment is filled
 pub bound_below : {start now : Mutator} {all : Bool} {progress : Progress} {todo : List ℕ} {front : Front}
-    → Scavenging start now all progress todo front
-    → (now.recorded.bound ≤ eden_start now.seat.space) × (now.recorded.bound ≤ progress.fill)
+    → Scavenging start now all progress todo front → now.recorded.bound ≤ progress.fill
 bound_below {start} {now} state =
     let above = fill_above state.filled in
-    let same = ap (λ (space : Space). eden_start space) state.changes.seat.space in
     let bound : now.recorded.bound ≡ eden_start start.seat.space = state.changes.bound ∙ state.bounded in
-    (omega (arith, bound, same), omega (arith, bound, above))
+    omega (arith, bound, above)

@@ -147,7 +147,8 @@ home_moves {start} {now} {all} {progress} {todo} {front} state slot place at to 
 -- a slot that refers to nothing that is left is done
 pub done_already : {start now : Mutator} {all : Bool} {progress : Progress} {todo : List ℕ} {front : Front} (slot : ℕ)
     (state : Scavenging start now all progress todo front)
-    → ((cell : ℕ) → RefersToAddress (heap_words now.seat) slot cell → IsFromSpace now.seat.space now.young.half cell → ⊥)
+    → ((cell : ℕ) → RefersToAddress (heap_words now.seat) slot cell
+    → IsFromSpace now.seat.space now.young.half cell → ⊥)
     → HasFollowed start now now all progress progress todo todo front slot state
 done_already slot state none = record {
   on = goes_nowhere state;

@@ -119,7 +119,8 @@ module _ {start now : Mutator} {all : Bool} {progress : Progress} {todo : List �
       (omega (arith, scanned.is.stands, is)) refl
 
 module _ {start now : Mutator} {all : Bool} {progress : Progress} {todo : List ℕ} {cell : Cell} {end eden : ℕ}
-    (from : ℕ) (scanned : IsScanned start now all progress todo cell (at_copy end eden (cell.at + from) (cell.at + cell.size)))
+    (from : ℕ)
+    (scanned : IsScanned start now all progress todo cell (at_copy end eden (cell.at + from) (cell.at + cell.size)))
   where
     -- before the next slot none is to do
     reaches_slot : (offset slot : ℕ) → IsLeastFrom (scavenge_offsets cell.layout cell.length) from offset

@@ -143,7 +143,8 @@ module _ {start now : Mutator} {all : Bool} {progress : Progress} {todo : List �
       )
 
   module _ (slot place at : ℕ) (stood : StoodAt state.fixed state.homes slot place)
-      (refers : RefersToAddress (heap_words now.seat) slot at) (left : IsFromSpace now.seat.space now.young.half at) where
+      (refers : RefersToAddress (heap_words now.seat) slot at)
+      (left : IsFromSpace now.seat.space now.young.half at) where
     -- what a live slot refers to has a target, and is one of the cells
     pub has_target : Contains state.fixed.cells at
         × IsTarget start.seat.space state.fixed (heap_words now.seat) state.homes

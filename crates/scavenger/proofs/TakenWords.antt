@@ -78,7 +78,7 @@ module _ {start : Start} {fixed : Fixed} (sized : HasSizes start.heap)
       (there.1 ∙ ap (λ n. Some n) refers_to)
 
 -- a word of a home copy in a page is one of a cell that was promoted
-of_promoted : (old new : Mutator) (graph : Graph) (all : Bool) (at : ℕ) → MainShows old graph
+pub of_promoted : (old new : Mutator) (graph : Graph) (all : Bool) (at : ℕ) → MainShows old graph
     → (scavenged : Scavenges old new all) → IsInPromoted (start_of old) scavenged.fixed scavenged.homes at
     → IsOfPromoted (heap_of old) (heap_of new) all (place_after (start_of old) scavenged.homes) at
 of_promoted old new graph all at shows scavenged (home, among, in_page, in_copy) =
@@ -103,7 +103,7 @@ of_promoted old new graph all at shows scavenged (home, among, in_page, in_copy)
     }
 
 -- each cell of a page stays where it stands, unless a free run begins there
-keeps_places : {old new : Mutator} {all : Bool} (scavenged : Scavenges old new all)
+pub keeps_places : {old new : Mutator} {all : Bool} (scavenged : Scavenges old new all)
     → KeepsPlaces (heap_of old) old.free (place_after (start_of old) scavenged.homes)
 keeps_places {old} scavenged cell words has below none =
     elim (cases_Bool (begins_free old.free cell.at)) [

@@ -1,5 +1,6 @@
 -- How far a scavenge has come: the copies that fill the rooms, what stands in pages, and which slots are to do.
-use Rattle.std.specs.Prelude.{◌≡◌, ℕ, ◌+◌, ◌*◌, ◌<◌, ◌≤◌, ◌↔◌, ◌⊎◌, List, [], ◌∷◌, ◌++◌, Contains, sum_by, slice_get, Some}
+use Rattle.std.specs.Prelude.{◌≡◌, ℕ, ◌+◌, ◌*◌, ◌<◌, ◌≤◌, ◌↔◌, ◌⊎◌, List, [], ◌∷◌, ◌++◌, Contains, sum_by, slice_get}
+use Rattle.std.specs.Prelude.{Some}
 use Rattle.std.specs.Prelude.{length, IsTrue}
 use Rattle.tagged_word.specs.Cells.{is_free_kind}
 use Rattle.page_space.specs.declared.region.Region.TheVariants.{Segment}

@@ -1,6 +1,7 @@
 -- Following one slot: what is found where it refers to, what a copy makes of words and free runs, and what is done
 -- then.
-use Rattle.std.specs.Prelude.{◌≡◌, ◌≢◌, ℕ, ◌+◌, ◌-◌, ◌*◌, ◌<◌, ◌≤◌, ◌⊎◌, List, ◌∷◌, Contains, slice_index, slice_set, None}
+use Rattle.std.specs.Prelude.{◌≡◌, ◌≢◌, ℕ, ◌+◌, ◌-◌, ◌*◌, ◌<◌, ◌≤◌, ◌⊎◌, List, ◌∷◌, Contains, slice_index, slice_set}
+use Rattle.std.specs.Prelude.{None}
 use Rattle.std.specs.Prelude.{IsTrue}
 use Rattle.tagged_word.specs.Cells.{is_free_kind}
 use Rattle.tagged_word.specs.declared.word.Class.TheVariants.{Ref}
@@ -29,7 +30,8 @@ half_end space half = half_start space half + space.sizes.young * half_segments 
 -- the address is in from-space: in eden, or in the half that is left
 abbrev pub IsFromSpace : Space → ℕ → ℕ → Type 0
 IsFromSpace space left at =
-    ((eden_start space ≤ at) × (at < segments_start space)) ⊎ ((half_start space left ≤ at) × (at < half_end space left))
+    ((eden_start space ≤ at) × (at < segments_start space))
+    ⊎ ((half_start space left ≤ at) × (at < half_end space left))
 
 -- What stands where a live slot refers to, among the words that are left: a header that is the reference to a home; or
 -- the cell as it was, for which the segment has words behind the copies.
@@ -48,7 +50,8 @@ SlotsHaveTargets =
     → IsBegun start fixed → start.half + left ≡ 1 → CopiesFillRooms start fixed words rows homes fill
     → StoodAt fixed homes slot place → RefersToAddress words slot at → IsFromSpace start.heap.space left at
     → Contains fixed.cells at
-    × IsTarget start.heap.space fixed words homes (room_start start.heap.space start.half + start.heap.space.sizes.young)
+    × IsTarget start.heap.space fixed words homes
+    (room_start start.heap.space start.half + start.heap.space.sizes.young)
     fill at
 
 -- the words of the cell copied to an address, and its header made the reference to the copy
@@ -102,6 +105,7 @@ RenamingGoesOn =
     (start : Start) (left : ℕ) (fixed : Fixed) (words : List ℕ) (rows : List (List Run)) (homes : List Home)
     (todo : List ℕ) (front : Front) (home : Home) (fill slot place : ℕ)
     → IsBegun start fixed → start.half + left ≡ 1 → CopiesFillRooms start fixed words rows homes fill
-    → StoodAt fixed homes slot place → RefersToAddress words slot home.from → IsFromSpace start.heap.space left home.from
+    → StoodAt fixed homes slot place → RefersToAddress words slot home.from
+    → IsFromSpace start.heap.space left home.from
     → Contains homes home
     → HasRenamed start fixed words (slice_set words slot (bits_of (Ref home.to))) rows homes todo front fill slot

@@ -36,7 +36,8 @@ ShownHeapsMayBegin =
     → AreFree main.free → (fixed : Fixed) × IsBegun (start_of main) fixed
 
 -- A scavenge has come to its end: all is done, the words that are left were emptied, and the nursery was turned.
-pub record IsEnded (old new : Mutator) (all : Bool) (fixed : Fixed) (homes : List Home) (words : List ℕ) (fill refused : ℕ)
+pub record IsEnded (old new : Mutator) (all : Bool) (fixed : Fixed) (homes : List Home) (words : List ℕ)
+    (fill refused : ℕ)
     : Type 0 where
   pub limits : IsSpace old.seat.space
   pub begun : IsBegun (start_of old) fixed
@@ -120,8 +121,8 @@ KeepsPlaces old rows to =
     → ((row : List Run) (run : Run) → Contains rows row → Contains row run → run.at ≡ cell.at → ⊥)
     → to cell.at ≡ Some cell.at
 
--- So a scavenge of a heap that shows a graph throws no word of a free run away, promotes just what fits, and leaves each
--- cell of a page in its place, also one that nothing leads to.
+-- So a scavenge of a heap that shows a graph throws no word of a free run away, promotes just what fits, and leaves
+-- each cell of a page in its place, also one that nothing leads to.
 abbrev pub ScavengesTakeWords : Type 0
 ScavengesTakeWords =
     (old new : Mutator) (graph : Graph) (all : Bool) → MainShows old graph → Scavenges old new all

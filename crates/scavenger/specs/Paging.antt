@@ -44,7 +44,8 @@ pub record IsUnmoved (start : Start) (fixed : Fixed) (words : List ℕ) (homes :
 -- a cell may be copied behind the copies of the segment
 abbrev pub PagesStayForCopies : Type 0
 PagesStayForCopies =
-    (start : Start) (fixed : Fixed) (words : List ℕ) (rows : List (List Run)) (homes : List Home) (fill : ℕ) (cell : Cell)
+    (start : Start) (fixed : Fixed) (words : List ℕ) (rows : List (List Run)) (homes : List Home) (fill : ℕ)
+    (cell : Cell)
     → IsBegun start fixed → CopiesFillRooms start fixed words rows homes fill → IsUnmoved start fixed words homes cell
     → fill + cell.size ≤ room_start start.heap.space start.half + start.heap.space.sizes.young
     → PagesStand start (moved_words words cell fill) rows (with_home homes (record { from = cell.at; to = fill }))

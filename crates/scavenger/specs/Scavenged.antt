@@ -1,5 +1,6 @@
 -- What a scavenge comes to.
-use Rattle.std.specs.Prelude.{◌≡◌, ℕ, ◌+◌, ◌<◌, ◌≤◌, ◌↔◌, ◌⊎◌, Bool, false, ◌||◌, List, [], ◌∷◌, Option, Some, None, Contains}
+use Rattle.std.specs.Prelude.{◌≡◌, ℕ, ◌+◌, ◌<◌, ◌≤◌, ◌↔◌, ◌⊎◌, Bool, false, ◌||◌, List, [], ◌∷◌, Option, Some, None}
+use Rattle.std.specs.Prelude.{Contains}
 use Rattle.std.specs.Prelude.{length, map, sum_by, slice_get, nat_lt, ◌==◌, if◌then◌else◌}
 use Rattle.page_space.specs.Extents.{Space, eden_start, roots_start}
 use Rattle.nursery.specs.Young.{turned}
@@ -72,9 +73,9 @@ words_of_segments fixed segments = sum_by (λ segment. words_of_homes fixed segm
 -- that. Those that stay young fill segments of the half that was empty, one for each worker that copies, each from its
 -- start on; they are the survivors, and eden is empty. A survivor, or any where all are promoted, has its home in a
 -- page, unless it is longer than each free run that is left; no other has. Each word that was in a free run is in one,
--- or in such a copy: copies take the fronts of free runs, and what is left are the backs of them. The runs that are left
--- neither overlap nor touch; as many pages have a row of them. Else nothing changed in pages, in second root words and
--- in layout words.
+-- or in such a copy: copies take the fronts of free runs, and what is left are the backs of them. The runs that are
+-- left neither overlap nor touch; as many pages have a row of them. Else nothing changed in pages, in second root words
+-- and in layout words.
 pub record Scavenges (old new : Mutator) (all : Bool) : Type 0 where
   pub fixed : Fixed
   pub homes : List Home

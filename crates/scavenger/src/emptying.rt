@@ -1,6 +1,6 @@
 //! Emptying what a scavenge leaves: where no cell is to stand, the first word is 0.
 ghost use Rattle.std.specs.Prelude.{◌≡◌, ◌≤◌};
-ghost use Rattle.page_space.specs.Extents.{eden_start, marks_start};
+ghost use Rattle.page_space.specs.Extents.{marks_start};
 ghost use Rattle.heap_table.specs.Phases.{Quiet};
 ghost use Rattle.write_barrier.specs.Seats.{heap_words};
 ghost use Rattle.scavenger.specs.Filling.{ChangesWords, IsEmptied};
@@ -33,9 +33,10 @@ fn empty_segments(main: &mut Main, half: u32)
         EmptiesSegments space half (heap_words main.old.seat) (heap_words main.new.seat) }
     ensures changes { ChangesWords main.old main.new }
     ensures free { main.new.free ≡ main.old.free }
-    ensures recorded { main.old.recorded.bound ≤ eden_start main.old.seat.space →
-        main.new.recorded ≡ main.old.recorded }
+    ensures recorded { main.new.recorded ≡ main.old.recorded }
 {
+    // Segments stand behind the pages, and what is recorded is of pages.
+    main.addresses_fit();
     let regions = main.regions();
     for worker in 0..regions.sizes().helpers + 1 {
         main.write(regions.start(Region::Segment { half, worker }), 0);
@@ -51,8 +52,7 @@ pub(crate) fn empty_left(main: &mut Main, half: u32, fill: u32, end: u32)
         IsEmptied space half fill end (heap_words main.old.seat) (heap_words main.new.seat) }
     ensures changes { ChangesWords main.old main.new }
     ensures free { main.new.free ≡ main.old.free }
-    ensures recorded { main.old.recorded.bound ≤ eden_start main.old.seat.space →
-        main.old.recorded.bound ≤ fill → main.new.recorded ≡ main.old.recorded }
+    ensures recorded { main.old.recorded.bound ≤ fill → main.new.recorded ≡ main.old.recorded }
 {
     end_copies(main, fill, end);
     empty_segments(main, half);

@@ -23,7 +23,7 @@ pub fn grant_run(main: &mut Main, n: u32) -> bool
     ensures keeps { KeepsGraphs main.old main.new }
 {
     // Free runs are apart.
-    let _longest = main.longest_free();
+    main.free_runs_fit();
     match take_run(main, n) {
         Some(at) => {
             main.grant(Run { at, words: n });

@@ -31,7 +31,7 @@ pub fn scavenge(main: &mut Main, mut list: Vec<u32>, promote_all: bool) -> Vec<u
     // There are two halves.
     main.used_fits();
     // Free runs are apart.
-    let _longest = main.longest_free();
+    main.free_runs_fit();
     let half = main.nursery_mut().half();
     let spaces = Spaces::new(&main.regions(), half, promote_all);
     let mut worker = Worker {
@@ -46,7 +46,7 @@ pub fn scavenge(main: &mut Main, mut list: Vec<u32>, promote_all: bool) -> Vec<u
     scavenge_recorded(main, &spaces, &mut worker);
     scavenge_copies(main, &spaces, &mut worker);
     let Worker { progress, list } = worker;
-    let _left = main.longest_free();
+    main.free_runs_fit();
     empty_left(main, half, progress.fill, spaces.room_end);
     main.nursery_mut().turn(progress.fill - spaces.room);
     list

@@ -65,8 +65,8 @@ abbrev pub print_form : Kept → Form
 print_form kept = form (codes "print") (Seen ∷ []) kept
 
 -- The form of a first draw 27 to 48, for the list of this number and length. Its rows are 27 to 34, 35 to 38, 39 to 42,
--- 43 to 45, and 46 to 48. A list without elements is pushed to in place of a `put`, and in place of an `at` of it `v` is
--- printed.
+-- 43 to 45, and 46 to 48. A list without elements is pushed to in place of a `put`, and in place of an `at` of it `v`
+-- is printed.
 abbrev pub list_form : ℕ → ℕ → ℕ → Kept → Form
 list_form first list length kept =
     if nat_lt first 35 then push_form list length kept
@@ -92,20 +92,15 @@ plain_form first kept =
     else (if nat_lt first 63 then print_form kept
     else form (codes "census") [] kept))))))))))
 
--- the form of a list that is drawn
-abbrev pub form_of_list : ℕ → Kept → Form
-form_of_list first kept =
-    let drawn_list = with_draw kept in
-    let list = drawn 4 drawn_list.state in
-    list_form first list (slice_index drawn_list.lengths list) drawn_list
-
--- the form of a first draw: 27 to 48 are of lists
-abbrev pub form_by : ℕ → Kept → Form
-form_by first kept = if not (nat_lt first 27) && nat_lt first 49 then form_of_list first kept else plain_form first kept
-
--- the form after what is kept
+-- The form after what is kept. A first draw of 27 to 48 is of a list, which a second one draws.
 abbrev pub form_of : Kept → Form
-form_of kept = form_by (drawn 64 (next kept.state)) (with_draw kept)
+form_of kept =
+    let first = drawn 64 (next kept.state) in
+    let after_first = with_draw kept in
+    let list = drawn 4 (next after_first.state) in
+    if not (nat_lt first 27) && nat_lt first 49
+    then list_form first list (slice_index after_first.lengths list) (with_draw after_first)
+    else plain_form first after_first
 
 -- the line of a form is written behind these bytes, and this is kept after it
 pub record WritesForm (old new : List ℕ) (kept : Kept) (form : Form) : Type 0 where

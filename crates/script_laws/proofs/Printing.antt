@@ -75,7 +75,8 @@ what_texts-statement_lines :
     (depth : ℕ) (variables fields : List (List ℕ)) (at : ℕ) (open' : List ℕ) (all : List NumberedStatement)
     → AreStated depth all → AreIn variables (flat_map (λ s. variables_of s.statement) all)
     → AreIn fields (flat_map (λ s. fields_of s.statement) all)
-    → map (λ line. what_text variables fields line.what) (lines_from variables fields at open' all) ≡ statement_lines all
+    → map (λ line. what_text variables fields line.what) (lines_from variables fields at open' all)
+    ≡ statement_lines all
 what_texts-statement_lines depth variables fields at open' [] h vs fs = refl
 what_texts-statement_lines depth variables fields at open' (stated ∷ more) h vs fs =
     let statement = stated.statement in

@@ -123,7 +123,8 @@ written_all-tokens (place ∷ places) (token ∷ tokens) operands even e =
     (λ rest h. written_all-tokens places tokens rest (omega arith) h) e
 
 -- the words of a statement are its command's and its operands' tokens
-statement_with-words : (k : Keyword) (tokens : List (List ℕ)) (read : Result (List RawOperand) Why) (statement : Statement)
+statement_with-words : (k : Keyword) (tokens : List (List ℕ)) (read : Result (List RawOperand) Why)
+    (statement : Statement)
     → ((operands : List RawOperand) → read ≡ Ok operands → map written_token operands ≡ tokens)
     → statement_with k read ≡ Ok (Some statement) → statement_words statement ≡ keyword_text k ∷ tokens
 statement_with-words k tokens (Err reason) statement h e = cc

@@ -92,7 +92,8 @@ names-next :
     ≡ fold with_name names (flat_map (λ s. names_of s.statement) (map stated_shown (drop i stated)))
 names-next names_of stated i x names names' here e =
     let rest = flat_map (λ (s : NumberedStatement). names_of s.statement) (map stated_shown (drop (i + 1) stated)) in
-    ap (λ some. fold with_name some rest) e ∙ sym (fold-append with_name names (names_of (statement_shown x.statement)) rest)
+    ap (λ some. fold with_name some rest) e
+    ∙ sym (fold-append with_name names (names_of (statement_shown x.statement)) rest)
     ∙ ap (λ all. fold with_name names (flat_map (λ s. names_of s.statement) (map stated_shown all))) (sym here)
 
 -- what the statement is, in the end as now
@@ -111,16 +112,19 @@ what_in-stays stated i x variables fields variables' fields' open' lines ends re
     subst (λ names. AreIn names (variables_of statement)) (sym next.variables_are)
     (AreIn-fold variables (variables_of statement)) in
     let known_fields =
-    subst (λ names. AreIn names (fields_of statement)) (sym next.fields_are) (AreIn-fold fields (fields_of statement)) in
+    subst (λ names. AreIn names (fields_of statement)) (sym next.fields_are)
+    (AreIn-fold fields (fields_of statement)) in
     ap (what_at_places ends repeats statement.keyword)
-    (arguments-fold variables' fields' (variables_in rest) (fields_in rest) statement.operands known_variables known_fields
+    (arguments-fold variables' fields' (variables_in rest) (fields_in rest) statement.operands known_variables
+    known_fields
     ∙ ap (λ names. map (argument_of names (fold with_name fields' (fields_in rest))) statement.operands) vs
     ∙ ap (λ names. map (argument_of (first_uses (variables_in (map stated_shown stated))) names) statement.operands) fs)
 
 -- the step to the next statement, where there are as many lines as statements were read
 step-here : (stated : List StatedSlices) (i : ℕ) (x : StatedSlices) (vs fs : List (List ℕ)) (open' : List ℕ)
     (lines : List Line) → length lines ≡ i → AreBelow i open' → MayStand (length open') x.statement.keyword
-    → all_ended (λ n. end_after n (i + 1) (map stated_shown (drop (i + 1) stated))) (open_after i open' x.statement.keyword)
+    → all_ended (λ n. end_after n (i + 1) (map stated_shown (drop (i + 1) stated)))
+    (open_after i open' x.statement.keyword)
     (closed_lines x.statement.keyword i open' lines ++ line x.number (what_in vs fs 0 (innermost_of open')
     (statement_shown x.statement)) ∷ [])
     ++ lines_from vs fs (i + 1) (open_after i open' x.statement.keyword) (map stated_shown (drop (i + 1) stated))
@@ -133,7 +137,8 @@ step-here stated i x vs fs open' lines count below may =
     let here : suc i ≡ i + 1 = omega arith in
     let Step = λ (at next : ℕ).
     all_ended (λ n. end_after n next more) (open_after at open' k)
-    (closed_lines k at open' lines ++ line x.number (what_in vs fs 0 (innermost_of open') (statement_shown x.statement)) ∷ [])
+    (closed_lines k at open' lines
+    ++ line x.number (what_in vs fs 0 (innermost_of open') (statement_shown x.statement)) ∷ [])
     ++ lines_from vs fs next (open_after at open' k) more
     ≡ all_ended (λ n. end_after n at (stated_shown x ∷ more)) open' lines
     ++ lines_from vs fs at open' (stated_shown x ∷ more) in
@@ -159,7 +164,8 @@ AreLines-more stated i x variables fields variables' fields' open' inner lines p
     let fs = first_uses (fields_in (map stated_shown stated)) in
     let k = x.statement.keyword in
     let more = map stated_shown (drop (i + 1) stated) in
-    let both = neither (nat_lt variable_names_most (length variables')) (nat_lt field_names_most (length fields')) few in
+    let both =
+    neither (nat_lt variable_names_most (length variables')) (nat_lt field_names_most (length fields')) few in
     let is = next-AreStated stated i x (length open') next.here h.blocks in
     let same = what_in-stays stated i x variables fields variables' fields' open' lines 0 (innermost_of open') h next in
     let last = λ (what : What). closed_lines k i open' lines ++ line x.number what ∷ [] in
@@ -181,7 +187,8 @@ AreLines-more stated i x variables fields variables' fields' open' inner lines p
       below = subst (AreBelow (i + 1)) (sym inner_is) (below_after i open' k h.below);
       blocks = subst (λ deep. AreStated (length deep) more) (sym inner_is) (later i open' k more is.2);
       all =
-          ap (λ deep. all_ended (λ n. end_after n (i + 1) more) deep pushed ++ lines_from vs fs (i + 1) deep more) inner_is
+          ap (λ deep. all_ended (λ n. end_after n (i + 1) more) deep pushed ++ lines_from vs fs (i + 1) deep more)
+          inner_is
           ∙ ap (λ all. all_ended (λ n. end_after n (i + 1) more) (open_after i open' k) all
           ++ lines_from vs fs (i + 1) (open_after i open' k) more) written
           ∙ step-here stated i x vs fs open' lines h.count h.below is.1

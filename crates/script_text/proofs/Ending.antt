@@ -14,7 +14,8 @@ use Rattle.script_text.specs.Fitting.{MayStand}
 
 -- a statement of this command
 abbrev pub speaks : ℕ → Keyword → List RawOperand → NumberedStatement
-speaks number keyword operands = record { number = number; statement = record { keyword = keyword; operands = operands } }
+speaks number keyword operands =
+    record { number = number; statement = record { keyword = keyword; operands = operands } }
 
 -- what stands for the statement past the last
 abbrev pub no_stated : StatedSlices
@@ -94,7 +95,8 @@ below_next at [] below = tt
 below_next at (place ∷ places) below = (omega (arith, below.0), below_next at places below.1)
 
 -- the `repeat`s that are open after a command stand before the next place
-pub below_after : (at : ℕ) (open' : List ℕ) (k : Keyword) → AreBelow at open' → AreBelow (at + 1) (open_after at open' k)
+pub below_after : (at : ℕ) (open' : List ℕ) (k : Keyword) → AreBelow at open'
+    → AreBelow (at + 1) (open_after at open' k)
 below_after at open' keyword.Repeat below = (omega arith, below_next at open' below)
 below_after at [] keyword.End below = tt
 below_after at (innermost ∷ outer) keyword.End below = below_next at outer below.1

@@ -55,7 +55,13 @@ pub found : (names : List (List ℕ)) (name : List ℕ) → Contains names name 
 found [] name h = absurd (omega (arith, h.1))
 found (first ∷ names) name h =
     elim (bytes_tell first name) [
-      | inl e ↦ record { at = 0; place = position_of_name-here first names name e.0; within = omega arith; back = ap Some e.1 }
+      | inl e ↦
+          record {
+            at = 0;
+            place = position_of_name-here first names name e.0;
+            within = omega arith;
+            back = ap Some e.1;
+          }
       | inr e ↦
           let later = found names name (Contains-later first names name e.1 h) in
           record {
@@ -97,7 +103,8 @@ Contains-from_place (first ∷ names) name h =
     elim (bytes_tell first name) [
       | inl e ↦ Contains-head first names name e.1
       | inr e ↦
-          Contains-tail first names name (Contains-from_place names name (sym (is_some-suc (position_of_name names name))
+          Contains-tail first names name (Contains-from_place names name
+          (sym (is_some-suc (position_of_name names name))
           ∙ sym (ap is_some (position_of_name-later first names name e.0)) ∙ h))
     ]
 

@@ -68,7 +68,8 @@ read-cons done places tokens i place token lt below =
     (written_all (get_or places i place ∷ drop n places) ((get_or tokens i token).now ∷ bytes_of (drop n tokens)))) next
 
 -- one more operand was written
-pub Reads-more : (operands : List Slice) (places : List OperandKind) (tokens : List (Bor (List ℕ))) (i : ℕ) (place : OperandKind)
+pub Reads-more : (operands : List Slice) (places : List OperandKind) (tokens : List (Bor (List ℕ))) (i : ℕ)
+    (place : OperandKind)
     (token : Bor (List ℕ)) (written : Slice)
     → i < length places → i < length tokens → i < length operands
     → written_at (get_or places i place) (get_or tokens i token).now ≡ Ok (shown written)

@@ -22,12 +22,14 @@ one_more false at place = refl
 
 -- a name that goes to the end has the next number, and the others keep theirs
 pub position_of_name-push : (names : List (List ℕ)) (new name : List ℕ) → position_of_name names new ≡ None
-    → position_of_name (names ++ new ∷ []) name ≡ cond (bytes_eq new name) (Some (length names)) (position_of_name names name)
+    → position_of_name (names ++ new ∷ []) name ≡ cond (bytes_eq new name) (Some (length names))
+    (position_of_name names name)
 position_of_name-push [] new name h = refl
 position_of_name-push (first ∷ names) new name h =
     elim (bytes_tell first name) [
       | inl e ↦ elim (bytes_tell new name) [
-        | inl same ↦ absurd (some_none (sym (position_of_name-here first names new (ap (bytes_eq first) same.1 ∙ e.0)) ∙ h))
+        | inl same ↦
+            absurd (some_none (sym (position_of_name-here first names new (ap (bytes_eq first) same.1 ∙ e.0)) ∙ h))
         | inr other ↦
             position_of_name-here first (names ++ new ∷ []) name e.0
             ∙ sym (ap (λ b. cond b (Some (length (first ∷ names))) (position_of_name (first ∷ names) name)) other.0
@@ -41,7 +43,8 @@ position_of_name-push (first ∷ names) new name h =
             position_of_name-later first (names ++ new ∷ []) name e.0
             ∙ ap (option_map suc) (position_of_name-push names new name absent)
             ∙ one_more (bytes_eq new name) (length names) (position_of_name names name)
-            ∙ ap (cond (bytes_eq new name) (Some (length (first ∷ names)))) (sym (position_of_name-later first names name e.0))
+            ∙ ap (cond (bytes_eq new name) (Some (length (first ∷ names))))
+            (sym (position_of_name-later first names name e.0))
       ]
     ]
 

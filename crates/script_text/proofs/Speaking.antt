@@ -48,7 +48,8 @@ record AreRead (stated : NumberedStatement) (more : Result (List NumberedStateme
   same : stated ∷ rest ≡ all
 
 -- statements that were read have a first and the others
-followed-parts : (stated : NumberedStatement) (more : Result (List NumberedStatement) BadScript) (all : List NumberedStatement)
+followed-parts : (stated : NumberedStatement) (more : Result (List NumberedStatement) BadScript)
+    (all : List NumberedStatement)
     → followed stated more ≡ Ok all → AreRead stated more all
 followed-parts stated (Err stop) all e = cc
 followed-parts stated (Ok rest) all e = record { rest = rest; more_is = refl; same = cc }
@@ -107,14 +108,16 @@ followed-few n stated more all h e =
 
 -- so it is where it may stand where it does
 nested-few : (n : ℕ) (stated : NumberedStatement) (inner : Result (List ℕ) Why) (more : List ℕ
-    → Result (List NumberedStatement) BadScript) (all : List NumberedStatement) → ((deep : List ℕ) (rest : List NumberedStatement)
+    → Result (List NumberedStatement) BadScript) (all : List NumberedStatement)
+    → ((deep : List ℕ) (rest : List NumberedStatement)
     → more deep ≡ Ok rest → length rest ≤ n) → nested stated inner more ≡ Ok all → length all ≤ suc n
 nested-few n stated (Err reason) more all h e = cc
 nested-few n stated (Ok inner) more all h e = followed-few n stated (more inner) all (h inner) e
 
 -- and where it was read from a line
 then-few : (n number : ℕ) (open' : List ℕ) (first : Result (Option Statement) Why) (more : List ℕ
-    → Result (List NumberedStatement) BadScript) (all : List NumberedStatement) → ((deep : List ℕ) (rest : List NumberedStatement)
+    → Result (List NumberedStatement) BadScript) (all : List NumberedStatement)
+    → ((deep : List ℕ) (rest : List NumberedStatement)
     → more deep ≡ Ok rest → length rest ≤ n) → stated_then number open' first more ≡ Ok all → length all ≤ suc n
 then-few n number open' (Err reason) more all h e = cc
 then-few n number open' (Ok None) more all h e = omega (arith, h open' all e)

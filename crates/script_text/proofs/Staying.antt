@@ -196,7 +196,8 @@ arguments_of_kinds vs fs (place ∷ places) [] fit = absurd fit
 arguments_of_kinds vs fs (first ∷ places) (written ∷ operands) fit =
     (of_kind first written fit.0, arguments_of_kinds vs fs places operands fit.1)
   where
-    of_kind : (kind : OperandKind) (written : RawOperand) → Fits kind written → IsOfKind kind (argument_of vs fs written)
+    of_kind : (kind : OperandKind) (written : RawOperand) → Fits kind written
+        → IsOfKind kind (argument_of vs fs written)
     of_kind place.Variable (variable token) fit = tt
     of_kind place.Field (field token) fit = tt
     of_kind (place.Literal most) (literal n) fit = tt

@@ -72,7 +72,8 @@ past_limit variables fields [] = None
 past_limit variables fields (stated ∷ more) =
     let variables' = fold with_name variables (variables_of stated.statement) in
     let fields' = fold with_name fields (fields_of stated.statement) in
-    if nat_lt variable_names_most (length variables') || nat_lt field_names_most (length fields') then Some stated.number
+    if nat_lt variable_names_most (length variables') || nat_lt field_names_most (length fields')
+    then Some stated.number
     else past_limit variables' fields' more
 
 -- the `repeat`s that are open after a command at this place

@@ -6,7 +6,8 @@ use Rattle.script_text.specs.Statements.{Statement, RawOperand, variable, field,
 -- where the name stands in the list
 abbrev pub position_of_name : List (List ℕ) → List ℕ → Option ℕ
 position_of_name [] wanted = None
-position_of_name (first ∷ names) wanted = if bytes_eq first wanted then Some 0 else option_map suc (position_of_name names wanted)
+position_of_name (first ∷ names) wanted =
+    if bytes_eq first wanted then Some 0 else option_map suc (position_of_name names wanted)
 
 -- the number of a name that is in the list
 abbrev pub number_of_name : List (List ℕ) → List ℕ → ℕ

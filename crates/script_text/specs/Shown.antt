@@ -23,7 +23,10 @@ shown (slice.Bound token) = bound token.now
 -- a statement, with as many operands as its command has
 abbrev pub statement_shown : Slices → Statement
 statement_shown statement =
-    record { keyword = statement.keyword; operands = map shown (take (length (places_of statement.keyword)) statement.operands) }
+    record {
+      keyword = statement.keyword;
+      operands = map shown (take (length (places_of statement.keyword)) statement.operands);
+    }
 
 -- a statement and the number of its line
 abbrev pub stated_shown : StatedSlices → NumberedStatement

@@ -21,8 +21,8 @@ pub enum Argument {
     Value(Operand),
 }
 
-/// What a command is with these arguments, of which each is what its place wants. A `repeat` ends at the first place, and
-/// an `end` ends the `repeat` at the second.
+/// What a command is with these arguments, of which each is what its place wants. A `repeat` ends at the first place,
+/// and an `end` ends the `repeat` at the second.
 pub(crate) fn what_of(end_at: u32, repeat_at: u32, keyword: Keyword, arguments: &[Argument]) -> What
     requires { AreOfKinds (places_of keyword) arguments.now }
     ensures { let argument = argument_at arguments.now in

@@ -113,14 +113,17 @@ pub located_named : (paths : List Path) (found : Located) (shape name : ℕ) →
     → found.name ≡ name
     → option_map (λ (field : PathField). field.name) (slice_get (shape_path paths shape).fields found.at) ≡ Some name
 located_named paths found shape name located of_shape named =
-    ap (λ s. option_map (λ (field : PathField). field.name) (slice_get (shape_path paths s).fields found.at)) (sym of_shape)
+    ap (λ s. option_map (λ (field : PathField). field.name) (slice_get (shape_path paths s).fields found.at))
+    (sym of_shape)
     ∙ ap (option_map (λ (field : PathField). field.name)) located.field ∙ ap Some named
 
 -- so it is with its representation
 pub located_rep : (paths : List Path) (found : Located) (shape : ℕ) → IsLocated paths found → found.shape ≡ shape
-    → option_map (λ (field : PathField). field.rep) (slice_get (shape_path paths shape).fields found.at) ≡ Some found.rep
+    → option_map (λ (field : PathField). field.rep) (slice_get (shape_path paths shape).fields found.at)
+    ≡ Some found.rep
 located_rep paths found shape located of_shape =
-    ap (λ s. option_map (λ (field : PathField). field.rep) (slice_get (shape_path paths s).fields found.at)) (sym of_shape)
+    ap (λ s. option_map (λ (field : PathField). field.rep) (slice_get (shape_path paths s).fields found.at))
+    (sym of_shape)
     ∙ ap (option_map (λ (field : PathField). field.rep)) located.field
 
 -- and its cap is the path's

@@ -3,6 +3,8 @@ use Rattle.std.specs.Prelude.{◌≡◌, ℕ, ◌+◌, ◌-◌, ◌<◌, ◌≤�
 use Rattle.std.specs.Prelude.{length, slice_get, slice_set}
 use Rattle.heap_model.specs.Types.{Header, Path, Cell, Held}
 use Rattle.tagged_word.specs.declared.layout.Kind.TheVariants as kind
+use Rattle.handle_roots.specs.declared.given.Given.{Given}
+use Rattle.handle_roots.specs.Givens.{IsGivenFor}
 use Rattle.tagged_word.specs.Cells.{plain_head, store_head, store_slot}
 use Rattle.object_graph.specs.Paths.{missing}
 use Rattle.object_graph.specs.Invariants.{fields_most}
@@ -82,6 +84,13 @@ pub record IsNewField (paths : List Path) (shape name : ℕ) (value : Held) (new
   pub cap : new.cap ≡ (shape_path paths shape).cap
   pub step : IsStep paths (stepped (shape_path paths shape) new.field.name new.field.rep) new.step
   pub may : MayAdd paths (added_path paths shape name value)
+
+-- This is how a field of the name comes to an object of the shape, a path's, whatever the given value is: its slot is
+-- one of the object.
+pub record HasOwnSlot (paths : List Path) (shape name : ℕ) (value : Given) (new : NewField) : Type 0 where
+  pub is_shape : IsPathShape paths shape
+  pub own : count_of paths shape < (shape_path paths shape).cap
+  pub of_held : (held : Held) → IsGivenFor value held → IsNewField paths shape name held new
 
 -- A field of the name and the value does not come to an object of the shape: it has as many fields as it may have, or
 -- there may not be as many paths.

@@ -1,9 +1,7 @@
-//! A field of a name that is new to its object. One that is there is in `set_field.rt`.
-ghost use Rattle.heap_model.specs.Needs as needs;
-ghost use Rattle.heap_model.specs.Rooms.{new_field_need};
-ghost use Rattle.std.specs.Prelude.{◌≡◌, ℤ, ◌+◌, ◌-◌, ◌<◌, ◌≤◌, false, OnOk, IfOk, IfErr, None, Result};
-ghost use Rattle.std.specs.Prelude.{slice_set, length};
-ghost use Rattle.tagged_word.specs.Cells.{store_head, cell_words_most};
+//! A field of a name that is new to its object, and how it comes to an in-object slot. How it comes to the property
+//! store is in `add_in_store.rt`; a field that is there is in `set_field.rt`.
+ghost use Rattle.std.specs.Prelude.{◌≡◌, ℤ, ◌+◌, ◌<◌, ◌≤◌, false, IfOk, IfErr, IfSome, None, Result, Ok};
+ghost use Rattle.std.specs.Prelude.{slice_set};
 ghost use Rattle.page_space.specs.Extents.{marks_start};
 ghost use Rattle.object_graph.specs.Graphs.{Graph, PlainObject};
 ghost use Rattle.object_graph.specs.declared.value.Value.{Value as GraphValue};
@@ -18,30 +16,25 @@ ghost use Rattle.object_cells.specs.HeldValues.{IsValueHeld};
 ghost use Rattle.tagged_word.specs.Shapes.{first_path_shape};
 ghost use Rattle.shape_change.specs.FieldChanges.{IsShownSetting, MaySet, Sets, SetsField};
 ghost use Rattle.shape_change.specs.declared.stop.FieldStop.{FieldStop as Why};
-ghost use Rattle.shape_change.specs.Additions.{IsNewField, RefusesField, CanAdd, AddsOwn, AddsToStore};
-ghost use Rattle.shape_change.specs.Additions.{AddsToNewStore, AddsField, count_of, behind_cap};
+ghost use Rattle.shape_change.specs.Additions.{IsNewField, RefusesField, HasOwnSlot, CanAdd, AddsOwn, count_of};
 ghost use Rattle.shape_change.specs.Additions as additions;
-ghost use Rattle.shape_change.specs.Additions.{ComesBehind};
-ghost use Rattle.object_cells.specs.Made.{PutsWords, IsStoreAt, RefusesRoom, is_wide_held};
+ghost use Rattle.object_cells.specs.Made.{PutsWords, content_word, slot_touch};
 ghost use Rattle.handle_roots.specs.declared.held.Held.{Held as What};
 ghost use Rattle.handle_roots.specs.Givens.{IsGivenFor};
 ghost use Rattle.object_cells.specs.Contents.{held_rep};
-ghost use Rattle.object_cells.specs.Made.{content_need, content_word, slot_touch, store_content};
 
+use crate::add_in_store::add_in_store;
 use crate::outcome::{FieldOutcome, told};
 use crate::stop::FieldStop;
 use crate::transitions::{set_shape, step_to};
 use handle_roots::{Given, Held};
-use heap_model::cells::FIRST_CAPACITY;
-use object_cells::{
-    SlotContent, Store, boxed_word, content_of, make_store, need_of, rep_of, room_for, store_of,
-};
+use object_cells::{SlotContent, content_of, rep_of};
 use object_graph::limits::FIELDS_MOST;
 use object_graph::{PathField, Rep};
 use shape_tree::Step;
-use tagged_word::cell::{PLAIN_HEAD, STORE_HEAD};
+use tagged_word::cell::PLAIN_HEAD;
 use tagged_word::{Header, shape};
-use write_barrier::{Main, NoRoom};
+use write_barrier::Main;
 
 /// A field of a new name, as it comes to an object.
 #[derive(Clone, Copy)]
@@ -62,7 +55,7 @@ pub(crate) struct NewField {
 /// # Errors
 /// The object has 64 fields, or there may not be as many field paths.
 #[inline(always)]
-fn new_field(
+pub(crate) fn new_field(
     main: &Main,
     shape: u32,
     name: u32,
@@ -91,13 +84,67 @@ fn new_field(
     })
 }
 
+/// How a field of a new name comes to an in-object slot, if the step to the path with it is cached. The shape may be
+/// any: only the shape of a path has steps.
+#[inline(always)]
+fn cached_field(main: &Main, shape: u32, name: u32, value: Given) -> Option<NewField>
+    requires { (held : What) × IsGivenFor value held }
+    ensures { IfSome result (HasOwnSlot main.now.paths shape name value) }
+{
+    main.paths_fit();
+    let field = PathField {
+        name,
+        rep: rep_for(value),
+    };
+    let shapes = main.shapes();
+    let next = shapes.cached_step(shape, field)?;
+    let slot = shapes.fields(shape);
+    let cap = shapes.cap(shape);
+    if slot >= cap {
+        return None;
+    }
+    Some(NewField {
+        field,
+        value: value.held(),
+        slot,
+        cap,
+        step: Step::Found(next),
+    })
+}
+
 /// Adds a field of a new name to the plain object at an address, which has this header, after its other fields.
 ///
 /// # Errors
-/// The object is no plain one; it has 64 fields; there may not be as many field paths; there is no room for a store or a
-/// box that the field needs. In this order; nothing has changed.
+/// The object is no plain one; it has 64 fields; there may not be as many field paths; there is no room for a store or
+/// a box that the field needs. In this order; nothing has changed.
 #[inline(never)]
 pub(crate) fn add<O: FieldOutcome>(
+    main: &mut Main,
+    object: u32,
+    header: Header,
+    name: u32,
+    value: Given,
+) -> O
+    requires may { MaySet main.old object header value }
+    requires is_new { first_path_shape ≤ header.shape
+        → has_name (shape_path main.old.paths header.shape) name ≡ false }
+    ensures { (came : Result Unit Why) × O.Tells result came
+        × Sets main.old main.new object header name value came }
+{
+    // Where a step is cached the object is a plain one, and its path is there. Neither is asked, and nothing is called.
+    match cached_field(main, header.shape, name, value) {
+        Some(new) => {
+            add_new(main, object, header, name, value, new);
+            O::done()
+        }
+        None => add_sought(main, object, header, name, value),
+    }
+}
+
+/// The same where no step to an in-object slot is cached.
+#[cold]
+#[inline(never)]
+fn add_sought<O: FieldOutcome>(
     main: &mut Main,
     object: u32,
     header: Header,
@@ -163,58 +210,26 @@ fn add_in_object(
         → field_value plain.fields name ≡ None
         → SetsField main.old main.new graph object plain name what result }
 {
-    main.addresses_fit();
     let new = new_field(main, header.shape, name, rep_for(value), value.held())?;
-    add_own(main, object, header, new, own_content(value));
+    add_new(main, object, header, name, value, new);
     Ok(())
 }
 
-/// Adds a field to an object the in-object slots of which are used.
-#[inline(never)]
-fn add_in_store(
-    main: &mut Main,
-    object: u32,
-    header: Header,
-    name: u32,
-    value: Held,
-) -> Result<(), FieldStop>
-    requires shown { IsShownSetting main.old object value }
+/// The same where it is known how the field comes to the object.
+#[inline(always)]
+fn add_new(main: &mut Main, object: u32, header: Header, name: u32, value: Given, new: NewField)
+    requires shown { (held : What) × IsGivenFor value held × IsShownSetting main.old object held }
     requires headed { IsHeaderAt (heap_of main.old) object header }
     requires is_new { has_name (shape_path main.old.paths header.shape) name ≡ false }
-    requires behind { ComesBehind main.old.paths header.shape }
-    ensures { (graph : Graph) (plain : PlainObject) (what : GraphValue) → MainShows main.old graph
-        → IsPlainAt main.old graph object plain → IsValueHeld main.old graph value what
+    requires new { HasOwnSlot main.old.paths header.shape name value new }
+    ensures { (held : What) → IsGivenFor value held
+        → (graph : Graph) (plain : PlainObject) (what : GraphValue) → MainShows main.old graph
+        → IsPlainAt main.old graph object plain → IsValueHeld main.old graph held what
         → field_value plain.fields name ≡ None
-        → SetsField main.old main.new graph object plain name what result }
+        → SetsField main.old main.new graph object plain name what (Ok tt) }
 {
     main.addresses_fit();
-    // A refusal changes nothing: paths are counted before words are reserved, and these before the
-    // path is added.
-    let new = new_field(main, header.shape, name, rep_of(value), value)?;
-    store_field(main, object, header, new)?;
-    Ok(())
-}
-
-/// The field comes to the next slot of the property store, in place of which a larger one is made where it is full.
-#[inline(always)]
-fn store_field(main: &mut Main, object: u32, header: Header, new: NewField) -> Result<(), NoRoom>
-    requires can { CanAdd main.old object header new.field.name new.value }
-    requires new { let paths = main.old.paths in
-        IsNewField paths header.shape new.field.name new.value new }
-    requires behind { ComesBehind main.old.paths header.shape }
-    ensures ok { let name = new.field.name in
-        OnOk result (AddsField main.old main.new object header name new.value) }
-    ensures refused { let path = shape_path main.old.paths header.shape in
-        let capacity = needs.capacity_at (heap_of main.old) object in
-        let need = new_field_need capacity path.cap (length path.fields) (is_wide_held new.value) in
-        IfErr result (RefusesRoom main.old main.new need) }
-{
-    let store = store_of(main, object);
-    if new.slot - new.cap < store.capacity {
-        add_to_store(main, object, header, new, store)
-    } else {
-        add_to_new_store(main, object, header, new, store)
-    }
+    add_own(main, object, header, new, own_content(value));
 }
 
 /// The field comes to the next in-object slot, which comes to hold this.
@@ -252,76 +267,4 @@ fn put_own(main: &mut Main, object: u32, offset: u32, content: SlotContent)
         SlotContent::Raw(word) => main.write_slot(object, offset, word),
         SlotContent::Boxed(_) => unreachable!(),
     }
-}
-
-/// The field comes to the next slot of the property store.
-#[inline(always)]
-fn add_to_store(
-    main: &mut Main,
-    object: u32,
-    header: Header,
-    new: NewField,
-    store: Store,
-) -> Result<(), NoRoom>
-    requires can { CanAdd main.old object header new.field.name new.value }
-    requires new { let paths = main.old.paths in
-        IsNewField paths header.shape new.field.name new.value new }
-    requires is { IsStoreAt (heap_of main.old) object store }
-    requires behind { ComesBehind main.old.paths header.shape }
-    requires room { behind_cap main.old.paths header.shape < store.capacity }
-    ensures ok { let name = new.field.name in
-        OnOk result (AddsToStore main.old main.new object header name new.value store) }
-    ensures refused { let need = content_need (store_content new.value) in
-        IfErr result (RefusesRoom main.old main.new need) }
-{
-    let content = content_of(false, new.field.rep, new.value);
-    let at = room_for(main, need_of(content))?;
-    let next = step_to(main, header.shape, new.field, new.step);
-    let word = boxed_word(main, content, at);
-    main.store(store.at, STORE_HEAD + (new.slot - new.cap), word);
-    set_shape(main, object, header, next);
-    Ok(())
-}
-
-/// The field comes to the next slot of a store that takes the place of one that is full.
-#[inline(always)]
-fn add_to_new_store(
-    main: &mut Main,
-    object: u32,
-    header: Header,
-    new: NewField,
-    store: Store,
-) -> Result<(), NoRoom>
-    requires can { CanAdd main.old object header new.field.name new.value }
-    requires new { let paths = main.old.paths in
-        IsNewField paths header.shape new.field.name new.value new }
-    requires is { IsStoreAt (heap_of main.old) object store }
-    requires behind { ComesBehind main.old.paths header.shape }
-    requires full { behind_cap main.old.paths header.shape ≡ store.capacity }
-    ensures ok { let name = new.field.name in
-        OnOk result (AddsToNewStore main.old main.new object header name new.value store) }
-    ensures refused { let words = store_head + needs.grown store.capacity in
-        let need = words + content_need (store_content new.value) in
-        IfErr result (RefusesRoom main.old main.new need) }
-{
-    // The box stands behind the store.
-    main.addresses_fit();
-    let content = content_of(false, new.field.rep, new.value);
-    let capacity = grown(store.capacity);
-    let words = STORE_HEAD + capacity;
-    let at = room_for(main, words + need_of(content))?;
-    let next = step_to(main, header.shape, new.field, new.step);
-    make_store(main, object, store, capacity, at);
-    let word = boxed_word(main, content, at + words);
-    main.store(at, STORE_HEAD + store.capacity, word);
-    set_shape(main, object, header, next);
-    Ok(())
-}
-
-/// How many slots the store has that takes the place of one that is full: twice as many.
-fn grown(capacity: u32) -> u32
-    requires { store_head + capacity ≤ cell_words_most }
-    ensures { result ≡ needs.grown capacity }
-{
-    FIRST_CAPACITY.max(2 * capacity)
 }

@@ -43,8 +43,8 @@ fn hold_slot(main: &mut Main, variable: u32, object: u32, found: Located)
 /// Only shapes of plain objects are cached, so where a slot is cached the object is one, and its shape is not asked.
 ///
 /// It is compiled for each `O` of its callers: with one call in each copy it is inlined, and with two in all it is not,
-/// which costs the loop over lines a third of a `get`. Only a cached slot is read here, and the rest stands in calls: if
-/// the test of the shape were inlined too, each `get` would keep a copy of the header's word for it.
+/// which costs the loop over lines a third of a `get`. Only a cached slot is read here, and the rest stands in calls:
+/// if the test of the shape were inlined too, each `get` would keep a copy of the header's word for it.
 #[inline(always)]
 pub fn get<O: FieldOutcome>(
     main: &mut Main,

@@ -8,6 +8,7 @@
 #![tactic(auto)]
 
 mod add_field;
+mod add_in_store;
 mod delete_field;
 mod field_value;
 mod get_field;

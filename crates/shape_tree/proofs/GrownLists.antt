@@ -66,7 +66,8 @@ grows_more old path paths new shape next field rest is grows added comes =
       are = are_with_next paths here field grows.are there grows.fresh may;
       at = last.is_shape;
       same = ap (λ p. extended p rest) last.of_path ∙ extended-extended here (field ∷ []) rest ∙ grows.same;
-      fresh = subst (λ p. FirstIsMissing after p rest) (sym last.of_path) (fresh_behind paths more rest grows.are grows.fresh);
+      fresh = subst (λ p. FirstIsMissing after p rest) (sym last.of_path)
+          (fresh_behind paths more rest grows.are grows.fresh);
       added = append_assoc paths (more ∷ []) (missing after path)
           ∙ ap (λ ps. paths ++ ps) (sym lacking) ∙ grows.added;
       room = omega (arith, grows.room, length-append paths (more ∷ []));

@@ -1,5 +1,5 @@
-//! Alterations of paths: a field gets another representation, or is taken out. What was asked for before is cached: to find
-//! it without the cache is a way up and down the tree.
+//! Alterations of paths: a field gets another representation, or is taken out. What was asked for before is cached: to
+//! find it without the cache is a way up and down the tree.
 ghost use Rattle.std.specs.Prelude.{◌≡◌, ◌<◌, ◌↔◌, length, IsTrue, IfOk, IfErr};
 ghost use Rattle.shape_tree.specs.Shapes.{IsPathShape, shape_path, changed, without, Leads};
 ghost use Rattle.shape_tree.specs.Shapes.{LacksPathsFor};

@@ -1,8 +1,8 @@
 //! The ways through a tree of shapes: up to a prefix, and down along fields.
-ghost use Rattle.std.specs.Prelude.{◌≤◌, [], ◌∷◌, length, MatchOption};
+ghost use Rattle.std.specs.Prelude.{◌≤◌, [], ◌∷◌, length, IfSome, MatchOption};
 ghost use Rattle.object_graph.specs.Paths.{prefix_of};
 ghost use Rattle.shape_tree.specs.Shapes.{IsPathShape, IsShapeOf, shape_path};
-ghost use Rattle.shape_tree.specs.Growth.{extended, IsMissing};
+ghost use Rattle.shape_tree.specs.Growth.{extended, IsMissing, StepsTo};
 
 use crate::cached::cache_index;
 use crate::transition::Transition;
@@ -21,12 +21,10 @@ pub(crate) struct Walk<'t> {
 impl ShapeTree {
     ghost use Rattle.shape_tree.specs.Walks.{WalksTo};
 
-    /// The shape of the path with this field more, if it is there.
+    /// Where the step from a shape by this field leads, if it is cached. The shape may be any.
     #[inline(always)]
-    pub(crate) fn child(&self, shape: u32, field: PathField) -> Option<u32>
-        requires { IsPathShape self.now shape }
-        ensures { let path = extended (shape_path self.now shape) (field ∷ []) in
-            MatchOption result (IsMissing self.now path) (IsShapeOf self.now path) }
+    pub fn cached_step(&self, shape: u32, field: PathField) -> Option<u32>
+        ensures { IfSome result (StepsTo self.now shape field) }
     {
         let step = Transition {
             parent: shape,
@@ -34,9 +32,23 @@ impl ShapeTree {
         };
         let cached = self.cache[cache_index(step)];
         if cached.is_for(step) {
-            return Some(cached.shape);
+            Some(cached.shape)
+        } else {
+            None
         }
-        self.child_in_table(shape, field)
+    }
+
+    /// The shape of the path with this field more, if it is there.
+    #[inline(always)]
+    pub(crate) fn child(&self, shape: u32, field: PathField) -> Option<u32>
+        requires { IsPathShape self.now shape }
+        ensures { let path = extended (shape_path self.now shape) (field ∷ []) in
+            MatchOption result (IsMissing self.now path) (IsShapeOf self.now path) }
+    {
+        match self.cached_step(shape, field) {
+            Some(next) => Some(next),
+            None => self.child_in_table(shape, field),
+        }
     }
 
     /// The same by the table of transitions. It hashes, so it is kept out of line.

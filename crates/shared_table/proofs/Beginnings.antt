@@ -142,7 +142,7 @@ module _ (key counts : Counts) (id slots number : ℕ) (me : Me Own View) (main 
       (λ n. (chosen.0, chosen.1, chosen.2, refl)))
 
   -- a cycle goes on
-  pub resume_may : (cycle : Cycle) × fits own number main cycle × IsContinued main.view cycle
+  pub resume_may : (cycle : Cycle) × fits own number main cycle × IsContinued main cycle
       × IsSoundAndBorn (world_at_home (resumed main cycle))
       → Allows (KeepsRule key) slots id me 0 (λ m. either (m == number) number m)
       (tells_resumed fits (step slots 0 number number (some own)) me)
@@ -150,4 +150,4 @@ module _ (key counts : Counts) (id slots number : ℕ) (me : Me Own View) (main 
       rw (is_key, is_id, is_me)
       (enter_allowed counts slots number main (resumed main chosen.0).view main.reached main.made
       (tells_resumed fits (step slots 0 number number (some own)) (Main main, [])) home chosen.3
-      (λ n. (chosen.0, chosen.1, chosen.2, refl)))
+      (λ n. (chosen.0, chosen.1, chosen.2, chosen.3, refl)))

@@ -26,12 +26,6 @@ use Rattle.shared_table.specs.Told.{shade_event, blacken_event, new_event, give_
 use Rattle.shared_table.proofs.KeptRule.{either_if}
 use Rattle.shared_table.proofs.EventSteps.{store_may, found_may, left_may}
 
--- the colour whose number is that of black
-pub black_is : (colour : Colour) → number_of colour ≡ black → colour ≡ Black
-black_is White same = absurd (omega (arith, same))
-black_is Grey same = absurd (omega (arith, same))
-black_is Black same = refl
-
 module _ {S : Type 0} (key counts : Counts) (id slots a place : ℕ) (me : Me S View) (main : Overview)
     (is_key : key ≡ counts) (is_id : id ≡ 0) (is_me : me ≡ (Main main, [])) (marks : main.phase ≡ Mark)
     (old : main.old ≡ counts.old) (layouts : length main.layouts ≡ counts.shapes) where

@@ -18,3 +18,4 @@ mod HelperEvents
 mod HelperSpots
 mod HelperSteps
 mod Helping
+pub mod ColourNumbers

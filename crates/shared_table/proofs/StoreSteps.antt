@@ -25,7 +25,8 @@ module _ {S : Type 0} (key counts : Counts) (id slots x : ℕ) (me : Me S View) 
 
   -- a word goes where no helper visits
   pub owned_may : (a : ℕ) → a < counts.old → MayDo main (event.StoreOwned a x)
-      → Allows (KeepsRule {S = S} key) slots id me a (λ _. x) (λ _. tells_event owned_event (step slots a x 0 none) me x)
+      → Allows (KeepsRule {S = S} key) slots id me a (λ _. x)
+      (λ _. tells_event owned_event (step slots a x 0 none) me x)
   owned_may a inside may =
       store_may {S = S} key counts id slots a me main (Spot.Heap a) (event.StoreOwned a x) is_key is_id is_me refl
       inside
@@ -33,7 +34,8 @@ module _ {S : Type 0} (key counts : Counts) (id slots x : ℕ) (me : Me S View) 
 
   -- a header changes
   pub header_may : (a : ℕ) → a < counts.old → MayDo main (event.StoreHeader a x)
-      → Allows (KeepsRule {S = S} key) slots id me a (λ _. x) (λ _. tells_event header_event (step slots a x 0 none) me x)
+      → Allows (KeepsRule {S = S} key) slots id me a (λ _. x)
+      (λ _. tells_event header_event (step slots a x 0 none) me x)
   header_may a inside may =
       store_may {S = S} key counts id slots a me main (Spot.Heap a) (event.StoreHeader a x) is_key is_id is_me refl
       inside marks (λ others colours board. may) (λ others colours board. refl) header_event x (λ m. refl) (λ n. refl)

@@ -1,7 +1,7 @@
 -- What seats know after their steps.
-use Rattle.std.specs.Prelude.{ℕ, ◌+◌, ◌-◌, true, false, List, [], Contains, length, replicate, Option, Some, None}
+use Rattle.std.specs.Prelude.{◌≡◌, ℕ, ◌+◌, ◌-◌, true, false, List, [], Contains, length, replicate, Option, Some, None}
 use Rattle.mark_laws.specs.Restarts.{HasJoined}
-use Rattle.mark_laws.specs.Types.{Event, HelperView, MainView, Spot}
+use Rattle.mark_laws.specs.Types.{Event, HelperView, Spot}
 use Rattle.mark_world.specs.Conditions.{MayMain}
 use Rattle.mark_world.specs.Cycles.{Cycle, with_cycle}
 use Rattle.mark_world.specs.Steps.{becomes, main_learns, main_spot, lent, taken_back}
@@ -41,14 +41,17 @@ opened main cycle = record main {
   made = cycle.made;
 }
 
--- The lists of a cycle are those of the mutator's view, with promoted cells joined, which were not published.
-pub record IsContinued (view : MainView) (cycle : Cycle) : Type 0 where
+-- The lists of a cycle are those of the mutator's view, with promoted cells joined, which were not published. What was
+-- found at the opening is as it was.
+pub record IsContinued (main : Overview) (cycle : Cycle) : Type 0 where
   pub promoted : List ℕ
-  pub unpublished : (at : ℕ) → Contains promoted at → Contains view.starts at → ⊥
-  pub starts : HasJoined view.starts promoted cycle.starts
-  pub born : HasJoined view.born promoted cycle.born
-  pub mine : HasJoined view.mine promoted cycle.mine
-  pub sure : HasJoined view.sure promoted cycle.sure
+  pub unpublished : (at : ℕ) → Contains promoted at → Contains main.view.starts at → ⊥
+  pub starts : HasJoined main.view.starts promoted cycle.starts
+  pub born : HasJoined main.view.born promoted cycle.born
+  pub mine : HasJoined main.view.mine promoted cycle.mine
+  pub sure : HasJoined main.view.sure promoted cycle.sure
+  pub reached : cycle.reached ≡ main.reached
+  pub made : cycle.made ≡ main.made
 
 -- a cycle goes on with the lists of this one; what was found at its opening stays
 abbrev pub resumed : Overview → Cycle → Overview

@@ -145,8 +145,8 @@ tells_opened fits st me found now = (cycle : Cycle) × fits (said_own st.said) s
     × (now ≡ (Main (opened (overview_of me.0) cycle), me.1))
 
 -- A cycle goes on, as one that the caller's predicate allows. Its lists are those of the cycle that waited, with
--- promoted cells joined.
+-- promoted cells joined. The world with no seat out is sound.
 abbrev pub tells_resumed : (Own → ℕ → Overview → Cycle → Type 0) → Step Own → Me Own View → ℕ → Me Own View → Type 0
 tells_resumed fits st me found now = (cycle : Cycle) × fits (said_own st.said) st.first (overview_of me.0) cycle
-    × IsContinued (overview_of me.0).view cycle
+    × IsContinued (overview_of me.0) cycle × IsSoundAndBorn (world_at_home (resumed (overview_of me.0) cycle))
     × (now ≡ (Main (resumed (overview_of me.0) cycle), me.1))

@@ -89,10 +89,11 @@ impl MainSide {
         requires paused { self.old.main.phase ≡ Paused }
         requires home { self.old.main.home ≡ true }
         requires chosen { (cycle : Cycle) × M.fits own.now made self.old.main cycle
-            × IsContinued self.old.main.view cycle
+            × IsContinued self.old.main cycle
             × IsSoundAndBorn (world_at_home (resumed self.old.main cycle)) }
         ensures resumed { (cycle : Cycle) × M.fits own.now made self.old.main cycle
-            × IsContinued self.old.main.view cycle
+            × IsContinued self.old.main cycle
+            × IsSoundAndBorn (world_at_home (resumed self.old.main cycle))
             × (self.new ≡ record self.old { main = resumed self.old.main cycle }) }
     {
         self.shared

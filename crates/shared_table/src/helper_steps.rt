@@ -25,7 +25,9 @@ impl HelperSeat {
         requires own { self.old.table ≡ table.now.table.shared.table_id }
         requires may { MayBegin self.old.lent.view }
         requires waits { Contains self.old.lent.view.grey cell }
-        ensures { self.new ≡ record self.old { lent = learned self.old.lent (event.LoadHeader own_number cell) result } }
+        ensures { self.new ≡ record self.old {
+          lent = learned self.old.lent (event.LoadHeader own_number cell) result;
+        } }
     {
         table
             .table
@@ -68,7 +70,9 @@ impl HelperSeat {
         requires own { self.old.table ≡ table.now.table.shared.table_id }
         requires may { MayHelper self.old.lent.view (event.LoadSlot own_number offset) }
         requires cell { IsReading self.old.lent.view cell }
-        ensures { self.new ≡ record self.old { lent = learned self.old.lent (event.LoadSlot own_number offset) result } }
+        ensures { self.new ≡ record self.old {
+          lent = learned self.old.lent (event.LoadSlot own_number offset) result;
+        } }
     {
         table
             .table
@@ -176,7 +180,9 @@ impl HelperSeat {
     pub fn take_board(&mut self, table: &SharedTable, place: u32) -> u64
         requires own { self.old.table ≡ table.now.table.shared.table_id }
         requires on_board { place < board_words }
-        ensures taken { self.new ≡ record self.old { lent = learned self.old.lent (event.Take own_number place) result } }
+        ensures taken { self.new ≡ record self.old {
+          lent = learned self.old.lent (event.Take own_number place) result;
+        } }
         ensures old { RefersToOld self.old.lent result }
     {
         if self.take_none(table, place) {
@@ -204,7 +210,9 @@ impl HelperSeat {
     fn take_one(&mut self, table: &SharedTable, place: u32) -> u64
         requires own { self.old.table ≡ table.now.table.shared.table_id }
         requires on_board { place < board_words }
-        ensures taken { self.new ≡ record self.old { lent = learned self.old.lent (event.Take own_number place) result } }
+        ensures taken { self.new ≡ record self.old {
+          lent = learned self.old.lent (event.Take own_number place) result;
+        } }
         ensures old { RefersToOld self.old.lent result }
     {
         let place = self.counts.board_place(place);

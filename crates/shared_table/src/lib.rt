@@ -3,8 +3,9 @@
 //!
 //! Model: a `Side` of `specs/Seats.antt`: the table, and what the main seat knows of it (`Overview`).
 //! Invariant: `KeepsRule` of `specs/Keeping.antt` is the rule of the table. While a cycle is open, its words and the
-//! views of its seats are a world of `mark_world` that is sound and in which marking reaches born cells alone. Each step
-//! of a seat is one event of that world. `OwnWords` are the words that the main seat's caller has besides, plain ones.
+//! views of its seats are a world of `mark_world` that is sound and in which marking reaches born cells alone. Each
+//! step of a seat is one event of that world. `OwnWords` are the words that the main seat's caller has besides, plain
+//! ones.
 #![tactic(auto)]
 
 mod board;

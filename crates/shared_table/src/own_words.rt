@@ -1,5 +1,5 @@
 //! The words of a heap that the seat reads and writes plainly.
-ghost use Rattle.std.specs.Prelude.{◌≡◌, ◌+◌, ◌<◌, ◌≤◌, ◌++◌, length, take, drop, replicate};
+ghost use Rattle.std.specs.Prelude.{◌≡◌, ◌+◌, ◌<◌, ◌≤◌, ◌^◌, ◌++◌, length, take, drop, replicate};
 ghost use Rattle.std.specs.Prelude.{slice_get, slice_set, IfOk, Some};
 ghost use Rattle.tagged_word.specs.Shapes.{shapes_most};
 ghost use Rattle.page_space.specs.Extents.{eden_start, layouts_start, marks_start};
@@ -69,6 +69,24 @@ impl OwnWords {
         self.heap_count
     }
 
+    /// There is a word for each address before the marks, and no address is past 32 bits. The call says so, and does
+    /// nothing else.
+    #[inline(always)]
+    pub fn words_fit(&self)
+        ensures counted { length self.now.words ≡ marks_start self.now.space }
+        ensures fit { marks_start self.now.space < 2 ^ 32 }
+    {
+        let _count = self.count();
+    }
+
+    /// The words before the marks, in order.
+    #[inline(always)]
+    pub fn as_slice(&self) -> &[u64]
+        ensures { result.now ≡ self.now.words }
+    {
+        self.items.as_slice()
+    }
+
     /// The word at an address before the marks.
     #[inline(always)]
     pub fn word(&self, a: u32) -> u64
@@ -113,7 +131,7 @@ impl OwnWords {
         ensures { self.new ≡ record self.old { words = slice_set self.old.words a word } }
     {
         // Pages stand before the marks.
-        let _count = self.count();
+        self.words_fit();
         self.put(a, word);
     }
 

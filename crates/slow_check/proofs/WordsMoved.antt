@@ -1,4 +1,5 @@
--- Whether a word is another one moved, by what stands over its two lowest bits; and the words at a place, and of a root.
+-- Whether a word is another one moved, by what stands over its two lowest bits; and the words at a place, and of a
+-- root.
 use Rattle.std.proofs.Common.{◌≡◌, ℕ, ◌+◌, ◌/◌, ◌%◌, ◌↔◌, Bool, false, not, List, Option, Some, None, slice_get, nat_eq}
 use Rattle.std.proofs.Common.{IsTrue, refl, sym, ◌∙◌, ap, subst, arith}
 use Rattle.std.specs.Option.{option_eq}

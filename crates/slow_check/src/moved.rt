@@ -18,8 +18,8 @@ use std::alloc::Global;
 use tagged_word::NoMemory;
 
 /// Whether an image is another one moved, where these moves tell where what stood at an address
-/// stands; what they don't name went. For each cell it walks through the cells of the old image. What no cell of the new
-/// image uses must be 0 there.
+/// stands; what they don't name went. For each cell it walks through the cells of the old image. What no cell of the
+/// new image uses must be 0 there.
 ///
 /// # Errors
 /// There was no memory for a flag for each word of the new image.

@@ -48,10 +48,10 @@ pub record IsCellWord (heap : Heap) (at : ℕ) : Type 0 where
   pub below : at < cell.at + cell.size
 
 -- A sweep that keeps the marked cells. Each of them stands where it stood, and each other cell is free and has no
--- number, and has words of cells alone. No word of a marked cell has changed, no root word and no layout word. Each page
--- has a row of free runs. They are single cells, and neither overlap nor touch; together they have the words of pages that
--- no marked cell has. Recorded are again the slots of pages that refer to young cells, if they were, and a half that was
--- empty is.
+-- number, and has words of cells alone. No word of a marked cell has changed, no root word and no layout word. Each
+-- page has a row of free runs. They are single cells, and neither overlap nor touch; together they have the words of
+-- pages that no marked cell has. Recorded are again the slots of pages that refer to young cells, if they were, and a
+-- half that was empty is.
 pub record Sweeps (old new : Mutator) (marked : List ℕ) : Type 0 where
   pub moved : IsMoved (heap_of old) (heap_of new) (place_if_marked marked)
   pub cells : (at : ℕ) → IsCellWord (heap_of new) at → IsCellWord (heap_of old) at

@@ -44,5 +44,5 @@ pub fn sweep(main: &mut Main, marked: &CellList)
     clear_pages(main);
     sweep_regions(main, marked);
     // Free runs are apart.
-    let _longest = main.longest_free();
+    main.free_runs_fit();
 }

@@ -58,12 +58,12 @@ fits_from old words starts at (Some cell) e =
     record { cell = cell; reads = refl; apart = parts.0; slots = parts.1 }
 
 -- what is checked of each of a list holds of each of its elements
-passes : (test : ℕ → Bool) (list : List ℕ) (x : ℕ) → list_all test list ≡ true → Contains list x → test x ≡ true
+pub passes : (test : ℕ → Bool) (list : List ℕ) (x : ℕ) → list_all test list ≡ true → Contains list x → test x ≡ true
 passes test list x all there =
     All-contains (λ (one : ℕ). test one ≡ true) list x (AllPass-from_list_all test list all) there
 
 -- a number below another is in the range up to it
-in_range : (n x : ℕ) → x < n → Contains (range_with_len 0 n) x
+pub in_range : (n x : ℕ) → x < n → Contains (range_with_len 0 n) x
 in_range n x less =
     subst (Contains (range_with_len 0 n)) (get_or-range_with_len 0 n x 0 less ∙ omega arith)
     (Contains-get_or (range_with_len 0 n) x 0 (omega (arith, length-range_with_len 0 n, less)))

@@ -1,5 +1,5 @@
 -- A cycle that begins with cells of pages, each of them published and born.
-use Rattle.std.specs.Prelude.{◌≡◌, ℕ, ◌+◌, ◌==◌, ◌&&◌, ◌||◌, Bool, true, false, not, List, [], Option, Some, None}
+use Rattle.std.specs.Prelude.{◌≡◌, ◌≤◌, ℕ, ◌+◌, ◌==◌, ◌&&◌, ◌||◌, Bool, true, false, not, List, [], Option, Some, None}
 use Rattle.std.specs.Prelude.{◌∷◌, nat_lt, replicate, slice_index}
 use Rattle.std.specs.List.{list_all, range_with_len}
 use Rattle.tagged_word.specs.declared.reading.Reading.{Reading}
@@ -57,7 +57,15 @@ are_cells old words layouts starts = list_all (λ at. stands old words layouts s
 pub record HasThese (main : Overview) (starts : List ℕ) : Type 0 where
   pub phase : main.phase ≡ Mark
   pub home : main.home ≡ true
+  pub published : main.view.starts ≡ starts
   pub born : main.view.born ≡ starts
   pub grey : main.view.grey ≡ []
   pub white : main.colours ≡ replicate main.old 0
   pub out : main.out ≡ 0
+
+-- a cycle is open in which the three cells of a page are published and born
+pub record IsOpenWithThree (main : Overview) : Type 0 where
+  pub phase : main.phase ≡ Mark
+  pub page : 2048 ≤ main.old
+  pub starts : main.view.starts ≡ three_starts
+  pub born : main.view.born ≡ three_starts

@@ -3,3 +3,6 @@ pub mod Steps
 pub mod BareSeats
 pub mod CellPages
 pub mod TwoCells
+pub mod BegunSeats
+pub mod EdenList
+pub mod Grids

@@ -14,7 +14,7 @@ use shared_table::{Choice, MainSide, OwnWords};
 use tagged_word::{Reading, Word};
 
 /// The cycle that begins with the three cells of a page.
-struct Three;
+pub(crate) struct Three;
 
 impl Choice for Three {
     ghost use Rattle.table_tests.specs.CellPages.{IsOfThree};
@@ -142,7 +142,7 @@ pub(crate) fn are_cells(old: u32, words: &[u64], layouts: &[u64], starts: &[u64]
 }
 
 /// Puts words in the pages.
-fn fill_words(side: &mut MainSide, words: &[u64])
+pub(crate) fn fill_words(side: &mut MainSide, words: &[u64])
     requires bare { IsBare side.old.main }
     requires count { length words.now ≡ side.old.main.old }
     ensures { side.new ≡ record side.old { main = record side.old.main { words = words.now } } }
@@ -154,7 +154,7 @@ fn fill_words(side: &mut MainSide, words: &[u64])
 }
 
 /// Puts layout words.
-fn fill_layouts(side: &mut MainSide, layouts: &[u64])
+pub(crate) fn fill_layouts(side: &mut MainSide, layouts: &[u64])
     requires bare { IsBare side.old.main }
     requires count { length layouts.now ≡ shapes_most }
     ensures { side.new ≡ record side.old { main = record side.old.main { layouts = layouts.now } } }

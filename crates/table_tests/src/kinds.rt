@@ -1,41 +1,41 @@
 //! A marker visits a cell of each kind (`marker`). What is expected is worked out by hand.
-ghost use Rattle.std.specs.Prelude.{◌≡◌, ◌<◌, [], None, true};
+ghost use Rattle.std.specs.Prelude.{◌≡◌, ◌<◌, [], None, true, IfOk, IfSome};
 ghost use Rattle.core_parts.specs.Lists.{is_in};
 ghost use Rattle.shared_table.specs.declared.phase.Phase.TheVariants.{Mark};
-ghost use Rattle.table_tests.specs.CellPages.{HasThese};
+ghost use Rattle.table_tests.specs.CellPages.{HasThese, IsOpenWithThree};
 
 use crate::cells::{begin, is_in};
 use crate::cycles::{bare, own_words};
 use cell_list::CellList;
 use crew::OpenGate;
 use marker::{Marker, Outcome};
-use shared_table::{Colour, Counts, MainSide};
+use shared_table::{Colour, Counts, MainSide, OwnWords};
 use std::alloc::Global;
 use std::test::Fail;
 use tagged_word::NoMemory;
 
 /// Refers to the box at 1,024.
-const TO_FIRST: u64 = 4_097;
+pub(crate) const TO_FIRST: u64 = 4_097;
 
 /// Refers to the box at 1,026.
-const TO_SECOND: u64 = 4_105;
+pub(crate) const TO_SECOND: u64 = 4_105;
 
 /// Refers to a young cell.
-const TO_YOUNG: u64 = 8_401;
+pub(crate) const TO_YOUNG: u64 = 8_401;
 
 /// The layout words of the shapes from 0 on: of no cell, a list, a weak map, a store, a table, a box, and free words;
 /// then of two plain objects: one with a raw slot between two others, and one with two slots.
-const LAYOUTS: [u64; 10] = [0, 2, 3, 4, 5, 6, 7, 8, 9_009, 545];
+pub(crate) const LAYOUTS: [u64; 10] = [0, 2, 3, 4, 5, 6, 7, 8, 9_009, 545];
 
 /// Puts a word in a list, if it has the place.
-fn put(words: &mut Vec<u64>, at: usize, word: u64) {
+pub(crate) fn put(words: &mut Vec<u64>, at: usize, word: u64) {
     if let Some(place) = words.get_mut(at) {
         *place = word;
     }
 }
 
 /// So many words, which begin with these and are 0 then.
-fn padded(alloc: Global, first: &[u64], count: usize) -> Result<Vec<u64>, NoMemory> {
+pub(crate) fn padded(alloc: Global, first: &[u64], count: usize) -> Result<Vec<u64>, NoMemory> {
     let mut words = vec![in alloc; 0u64; count]?;
     for (at, word) in first.iter().enumerate() {
         put(&mut words, at, *word);
@@ -44,7 +44,7 @@ fn padded(alloc: Global, first: &[u64], count: usize) -> Result<Vec<u64>, NoMemo
 }
 
 /// A store of 1,000 slots, of which the last refers to the second box.
-fn long_store(alloc: Global) -> Result<Vec<u64>, NoMemory> {
+pub(crate) fn long_store(alloc: Global) -> Result<Vec<u64>, NoMemory> {
     let mut words = vec![in alloc; 10u64; 1_002]?;
     put(&mut words, 0, 14);
     put(&mut words, 1, 1_000);
@@ -53,7 +53,7 @@ fn long_store(alloc: Global) -> Result<Vec<u64>, NoMemory> {
 }
 
 /// The words of a page with a cell at its start, and the two boxes.
-fn page(alloc: Global, cell: &[u64]) -> Result<Vec<u64>, NoMemory> {
+pub(crate) fn page(alloc: Global, cell: &[u64]) -> Result<Vec<u64>, NoMemory> {
     let mut words = padded(alloc, cell, 2_048)?;
     put(&mut words, 1_024, 22);
     put(&mut words, 1_026, 22);
@@ -61,16 +61,49 @@ fn page(alloc: Global, cell: &[u64]) -> Result<Vec<u64>, NoMemory> {
 }
 
 /// Shades a cell that the cycle began with, and gives it to the board. Returns whether nothing was at its place.
-pub(crate) fn give(side: &mut MainSide, starts: &[u64], at: u32) -> bool
+fn give(side: &mut MainSide, starts: &[u64], at: u32) -> bool
     requires these { HasThese side.old.main starts.now }
     requires among { is_in starts.now at ≡ true }
     requires within { at < side.old.main.old }
     ensures phase { side.new.main.phase ≡ Mark }
+    ensures starts { side.new.main.view.starts ≡ starts.now }
+    ensures born { side.new.main.view.born ≡ starts.now }
     ensures out { side.new.main.out ≡ 0 }
     ensures old { side.new.main.old ≡ side.old.main.old }
 {
     side.shade(at);
     side.give_board(0, at) == 0
+}
+
+/// A page in an open cycle with the three cells, of which the first is grey and on the board. Nothing where the words
+/// are not those of such cells.
+pub(crate) fn opened(
+    alloc: Global,
+    own: &OwnWords,
+    words: &[u64],
+    layouts: &[u64],
+) -> Result<Option<MainSide>, NoMemory>
+    ensures { IfOk result (λ found. IfSome found (λ side. IsOpenWithThree side.main × (side.main.out ≡ 0))) }
+{
+    let counts = Counts {
+        old: 2_048,
+        shapes: 8_200,
+    };
+    let starts: [u64; 3] = [0, 1_024, 1_026];
+    let mut side = bare(alloc, counts)?;
+    if side.counts().old != 2_048 {
+        return Ok(None);
+    }
+    if !is_in(&starts, 0) {
+        return Ok(None);
+    }
+    if !begin(&mut side, own, words, layouts, &starts) {
+        return Ok(None);
+    }
+    if !give(&mut side, &starts, 0) {
+        return Ok(None);
+    }
+    Ok(Some(side))
 }
 
 /// Makes so many turns with a seat that was lent for them.
@@ -103,11 +136,14 @@ fn colour_at(side: &mut MainSide, at: u32) -> Option<Colour> {
 }
 
 /// What the marker has left: the cells that wait with it.
-fn left_with(alloc: Global, marker: Marker, bound: u32) -> Result<Vec<u32>, NoMemory>
-    requires free { marker.seat ≡ None }
-    requires room { marker.listing.bound ≡ bound }
+pub(crate) fn left_with(
+    alloc: Global,
+    marker: &mut Marker,
+    bound: u32,
+) -> Result<Vec<u32>, NoMemory>
+    requires free { marker.old.seat ≡ None }
+    requires room { marker.old.listing.bound ≡ bound }
 {
-    let mut marker = marker;
     let mut list = CellList::new(alloc, bound)?;
     marker.hand_over(&mut list);
     let mut found = Vec::new(alloc);
@@ -121,10 +157,6 @@ fn left_with(alloc: Global, marker: Marker, bound: u32) -> Result<Vec<u32>, NoMe
 fn a_marker_visits_each_kind_of_cell(rt: HostRuntime) -> Result<(), Fail> {
     let alloc = rt.alloc();
     let long = long_store(alloc)?;
-    let counts = Counts {
-        old: 2_048,
-        shapes: 8_200,
-    };
     let cases: [(&str, &[u64], &[u32]); 8] = [
         ("plain", &[34, 0, TO_FIRST, TO_SECOND, TO_YOUNG], &[1_024]),
         (
@@ -141,23 +173,14 @@ fn a_marker_visits_each_kind_of_cell(rt: HostRuntime) -> Result<(), Fail> {
     ];
     let layouts = padded(alloc, &LAYOUTS, 8_200)?;
     let own = own_words(alloc)?;
-    let starts: [u64; 3] = [0, 1_024, 1_026];
     for (name, cell, listed) in cases {
         let words = page(alloc, cell)?;
-        let mut side = bare(alloc, counts)?;
+        let found = opened(alloc, &own, words.as_slice(), layouts.as_slice())?;
+        assert!(rt; found.is_some(), "{name}");
+        let Some(mut side) = found else {
+            return Ok(());
+        };
         let bound = side.counts().old;
-        let begun = begin(
-            &mut side,
-            &own,
-            words.as_slice(),
-            layouts.as_slice(),
-            &starts,
-        );
-        assert!(rt; begun, "{name}");
-        assert!(rt; bound == 2_048);
-        let is_there = is_in(&starts, 0);
-        assert!(rt; is_there);
-        assert!(rt; give(&mut side, &starts, 0), "{name}");
         let mut marker = Marker::new(alloc, side.table()?, bound)?;
         let outcome = run(&mut side, &mut marker, 2);
         assert_eq!(rt; outcome, Some(Outcome::Spent { turns: 2 }), "{name}");
@@ -170,7 +193,7 @@ fn a_marker_visits_each_kind_of_cell(rt: HostRuntime) -> Result<(), Fail> {
             };
             assert_eq!(rt; colour_at(&mut side, at), Some(colour), "{name}: {at}");
         }
-        let found = left_with(alloc, marker, bound)?;
+        let found = left_with(alloc, &mut marker, bound)?;
         assert_eq!(rt; found.as_slice(), listed, "{name}");
     }
     Ok(())

@@ -13,6 +13,9 @@ fn a_place_is_claimed_once_in_a_round_and_is_free_in_the_next(rt: HostRuntime) -
     assert!(rt; one.look(&claims, 4) == None);
     owner.take_back(&claims, one);
     owner.take_back(&claims, other);
+    let mut later = owner.lend(&claims);
+    assert!(rt; later.look(&claims, 3) == Some(7));
+    owner.take_back(&claims, later);
     owner.end(&claims);
     assert!(rt; owner.begin(&claims));
     let mut again = owner.lend(&claims);

@@ -14,7 +14,7 @@ use tagged_word::NoMemory;
 use word_store::Reads;
 
 /// A seat with a shared table, for a heap of one page.
-fn bare(alloc: Global) -> Result<MainSeat, NoMemory>
+pub(crate) fn bare(alloc: Global) -> Result<MainSeat, NoMemory>
     ensures bare { IfOk result (λ seat. IsBareSeat seat) }
     ensures layouts { IfOk result (λ seat. HasNoLayout seat 17) }
     ensures page { IfOk result (λ seat. eden_start seat.space ≡ 2048) }

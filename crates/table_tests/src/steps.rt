@@ -44,7 +44,7 @@ fn take_to_main(side: &mut MainSide, place: u32) -> Option<u32>
 }
 
 /// Takes the cell at a place, which waits with the lent seat then.
-fn take_cell(seat: &mut HelperSeat, table: &SharedTable, place: u32) -> Option<u32>
+pub(crate) fn take_cell(seat: &mut HelperSeat, table: &SharedTable, place: u32) -> Option<u32>
     requires own { seat.old.table ≡ table.now.table.shared.table_id }
     requires idle { IsIdle seat.old }
     requires on_board { place < board_words }

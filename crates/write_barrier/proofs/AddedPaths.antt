@@ -1,5 +1,5 @@
 -- Paths that are added with their layout words.
-use Rattle.std.proofs.Common.{◌≡◌, ℕ, ◌+◌, List, ◌++◌, length, Some, refl, sym, ◌∙◌, ap, subst}
+use Rattle.std.proofs.Common.{◌≡◌, ℕ, ◌+◌, List, ◌++◌, length, Option, Some, IfSome, refl, sym, ◌∙◌, ap, subst}
 use Rattle.std.proofs.lemmas.Option.{cond_some}
 use Rattle.tagged_word.specs.Shapes.{first_path_shape}
 use Rattle.page_space.specs.Extents.{Space, eden_start, layouts_start, marks_start}
@@ -13,7 +13,9 @@ use Rattle.write_barrier.specs.Layouts.{AreLayouts, AreLayoutsBelow, HasBoth, Ha
 use Rattle.write_barrier.specs.Model.{mutator_of, IsTold}
 use Rattle.write_barrier.specs.MutatorState.{Mutator}
 use Rattle.write_barrier.specs.Opening.{LaysPath}
+use Rattle.cell_list.specs.Listing.{Listing}
 use Rattle.write_barrier.proofs.PutLayouts.{both_by, layouts_grown}
+use Rattle.write_barrier.proofs.SeatSteps.{listed_again, paid_again}
 
 -- a path is added behind the others, with its missing prefixes
 pub added_behind : (old new : List Path) (path : Path) → with_path (Some paths_most) old path ≡ Some new
@@ -66,10 +68,17 @@ lays_path main old seat paths path shape is leads both puts counted are =
         young = refl;
         free = refl;
         recorded = refl;
+        cycle = puts.cycle;
         count = puts.rest.count;
         beside = puts.beside;
       };
     })
+
+-- the list of grey cells has the same bound
+bound_again : {old new : Space} (list : Option Listing) → new ≡ old
+    → IfSome list (λ grey. grey.bound ≡ eden_start old) → IfSome list (λ grey. grey.bound ≡ eden_start new)
+bound_again list same =
+    subst (λ (space : Space). IfSome list (λ grey. grey.bound ≡ eden_start space)) (sym same)
 
 -- what the mutator keeps is so again
 pub told_again : (main : Inside) (seat : TableSeat) (paths : List Path) → IsTold main → HasBoth seat paths
@@ -77,4 +86,7 @@ pub told_again : (main : Inside) (seat : TableSeat) (paths : List Path) → IsTo
 told_again main seat paths told both puts = record {
   bound = told.bound ∙ ap (λ (space : Space). eden_start space) (sym puts.rest.space);
   layouts = both.read;
+  listed = listed_again main.seat seat main.grey puts.rest.shared told.listed;
+  lists = bound_again main.grey puts.rest.space told.lists;
+  paid = paid_again main.seat seat main.grey puts.rest.space puts.rest.phase puts.rest.shared puts.view told.paid;
 }

@@ -1,5 +1,6 @@
 -- Words that change one after another while a heap is opened.
-use Rattle.std.proofs.Common.{◌≡◌, ◌≢◌, ℕ, ◌+◌, ◌*◌, ◌<◌, ◌≤◌, ◌⊎◌, inl, inr, Bool, List}
+use Rattle.std.proofs.Common.{◌≡◌, ◌≢◌, ℕ, ◌+◌, ◌*◌, ◌<◌, ◌≤◌, ◌⊎◌, inl, inr, List, Option}
+use Rattle.atomic_table.specs.Seated.{TableId}
 use Rattle.std.proofs.Common.{length, Some, slice_get}
 use Rattle.std.proofs.Common.{refl, sym, ◌∙◌, ap, subst, arith, length-set, below_more}
 use Rattle.std.specs.Prelude.{slice_set}
@@ -29,6 +30,7 @@ put_changes old new a word from to is heap low high before = record {
   young = ap (λ (main : Mutator). main.young) is;
   free = ap (λ (main : Mutator). main.free) is;
   recorded = ap (λ (main : Mutator). main.recorded) is;
+  cycle = ap (λ (main : Mutator). main.cycle) is;
   count = ap length heap ∙ length-set (heap_words old.seat) a word;
   beside = λ at out.
       let apart : at ≢ a = omega arith in
@@ -44,6 +46,7 @@ changes_none main from to =
       young = refl;
       free = refl;
       recorded = refl;
+      cycle = refl;
       count = refl;
       beside = λ at out. refl;
     }
@@ -63,6 +66,7 @@ changes_then first old new from to start end before then low high = record {
   young = then.young ∙ before.young;
   free = then.free ∙ before.free;
   recorded = then.recorded ∙ before.recorded;
+  cycle = then.cycle ∙ before.cycle;
   count = then.count ∙ before.count;
   beside = λ at out. then.beside at (still_out at from to start end low high out) ∙ before.beside at out;
 }
@@ -92,7 +96,7 @@ gap_put words between new page at is within first second =
     }
 
 -- the words of a blank heap are 0
-pub blank_zero : (space : Space) (shared : Bool) → AreZero (heap_words (fresh space shared)) 0 (marks_start space)
+pub blank_zero : (space : Space) (shared : Option TableId) → AreZero (heap_words (fresh space shared)) 0 (marks_start space)
 blank_zero space shared a from below =
     slice_get-get_or (heap_words (fresh space shared)) a 0
     (omega (arith, length-replicate {A = ℕ} (marks_start space) 0))

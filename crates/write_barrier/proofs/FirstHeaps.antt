@@ -192,6 +192,7 @@ started_shows main is = (
     young = is.young;
     free = is.free;
     recorded = is.recorded;
+    cycle = is.cycle;
     beside = is.beside;
     pages = is.gaps;
   },

@@ -5,6 +5,8 @@ mod FirstCells
 pub mod FirstRuns
 mod FirstHeaps
 mod Changes
+mod CycleSteps
+mod SeatSteps
 mod PutLayouts
 pub mod AddedPaths
 mod RootsPut
@@ -13,6 +15,7 @@ mod Starting
 mod ClassValues
 pub mod JudgedSlots
 pub mod TouchedRanges
+pub mod SlotCycles
 pub mod Recording
 pub mod WipedAgain
 pub mod FreeCells

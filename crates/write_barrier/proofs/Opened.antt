@@ -1,7 +1,8 @@
 -- A heap with its layout words, made of a seat that was just opened.
 use Rattle.std.proofs.Common.{◌≡◌, ℕ, ◌+◌, ◌<◌, ◌≤◌, ◌⊎◌, Bool, true, false, List, length, Some, slice_get}
-use Rattle.std.proofs.Common.{sym, ◌∙◌, ap, subst, arith}
-use Rattle.std.specs.Prelude.{replicate}
+use Rattle.std.proofs.Common.{refl, sym, ◌∙◌, ap, subst, arith}
+use Rattle.std.specs.Prelude.{replicate, Option, IfSome, is_some}
+use Rattle.atomic_table.specs.Seated.{TableId}
 use Rattle.std.proofs.lemmas.List.{length-replicate, get_or-replicate}
 use Rattle.std.proofs.lemmas.Option.{slice_get-get_or}
 use Rattle.tagged_word.specs.Shapes.{shapes_most}
@@ -12,14 +13,17 @@ use Rattle.nursery.specs.Young.{new_young}
 use Rattle.remembered_set.specs.Recorded.{Recorded}
 use Rattle.object_graph.specs.Paths.{empty_paths}
 use Rattle.heap_model.specs.Types.{Path}
+use Rattle.heap_table.specs.Overviews.{cycle_in, unopened}
 use Rattle.heap_table.specs.Seats.{Seat as TableSeat, IsFresh}
 use Rattle.write_barrier.specs.declared.main_side.Main.TheInside.{Inside}
 use Rattle.write_barrier.specs.Layouts.{AreLayoutsBelow, HasBoth, HasBothBelow, PutsLayouts}
 use Rattle.write_barrier.specs.Model.{mutator_of, IsTold}
 use Rattle.write_barrier.specs.MutatorState.{none_recorded}
 use Rattle.write_barrier.specs.Opening.{IsLaid}
-use Rattle.write_barrier.specs.Seats.{Seat, RestStays, fresh, told_of}
+use Rattle.write_barrier.specs.Seats.{Seat, RestStays, fresh, table_of, told_of}
 use Rattle.write_barrier.proofs.PutLayouts.{none_below}
+use Rattle.write_barrier.proofs.SeatSteps.{listed_again}
+use Rattle.write_barrier.proofs.SlotCycles.{quiet_idle}
 
 -- so many words of 0
 abbrev zeros : ℕ → List ℕ
@@ -53,9 +57,14 @@ fresh_below space true seat paths is =
 
 -- what is told of it
 told_fresh : (space : Space) (shared : Bool) (seat : TableSeat) → IsFresh space shared seat
-    → told_of seat ≡ fresh space shared
-told_fresh space false seat is = ap told_of is
-told_fresh space true seat is = ap told_of is.1
+    → told_of seat ≡ fresh space (table_of seat)
+told_fresh space false seat is = subst (λ (one : TableSeat). told_of one ≡ fresh space (table_of one)) (sym is) refl
+told_fresh space true seat is = subst (λ (one : TableSeat). told_of one ≡ fresh space (table_of one)) (sym is.1) refl
+
+-- it knows of no cycle
+cycle_fresh : (space : Space) (shared : Bool) (seat : TableSeat) → IsFresh space shared seat → cycle_in seat ≡ unopened
+cycle_fresh space false seat is = ap cycle_in is
+cycle_fresh space true seat is = ap cycle_in is.1
 
 -- the parts of a heap that was just opened, in which the layout words were put
 pub record AreParts (space : Space) (shared : Bool) (old : TableSeat) (main : Inside) : Type 0 where
@@ -66,6 +75,8 @@ pub record AreParts (space : Space) (shared : Bool) (old : TableSeat) (main : In
   pub young : main.nursery ≡ new_young space
   pub free : main.free ≡ whole_rows space.sizes.pages
   pub recorded : main.remembered ≡ none_recorded space
+  pub listed : is_some main.grey ≡ is_some old.shared
+  pub lists : IfSome main.grey (λ grey. grey.bound ≡ eden_start space)
 
 -- nothing is there but the layout words
 pub is_laid : (space : Space) (shared : Bool) (old : TableSeat) (main : Inside) → AreParts space shared old main
@@ -74,16 +85,17 @@ is_laid space shared old main parts =
     let told = told_fresh space shared old parts.fresh_is in
     let puts = parts.puts in
     let now : Seat = told_of main.seat in
-    let still : shared ≡ now.shared = sym (puts.rest.shared ∙ ap (λ (seat : Seat). seat.shared) told) in
+    let still : table_of old ≡ now.shared = sym puts.rest.shared in
     let same : space ≡ old.space = sym (ap (λ (seat : Seat). seat.space) told) in
     record {
       changes = record {
-        seat = subst (λ (one : Bool). RestStays (fresh space one) now) still
+        seat = subst (λ (one : Option TableId). RestStays (fresh space one) now) still
             (subst (λ (seat : Seat). RestStays seat now) told puts.rest);
         paths = parts.paths;
         young = parts.young;
         free = parts.free;
         recorded = parts.recorded;
+        cycle = puts.cycle ∙ cycle_fresh space shared old parts.fresh_is;
         count = puts.rest.count ∙ ap (λ (seat : Seat). length seat.table) told;
         beside = λ a out.
             puts.beside a
@@ -102,4 +114,7 @@ is_told space shared old main parts =
     record {
       bound = ap (λ (recorded : Recorded). recorded.bound) parts.recorded ∙ sym (ap eden_start same);
       layouts = parts.both.read;
+      listed = listed_again old main.seat main.grey parts.puts.rest.shared parts.listed;
+      lists = subst (λ (s : Space). IfSome main.grey (λ grey. grey.bound ≡ eden_start s)) (sym same) parts.lists;
+      paid = λ mark. absurd (quiet_idle (parts.puts.rest.phase ∙ ap (λ (seat : Seat). seat.phase) told) mark);
     }

@@ -2,11 +2,13 @@
 use Rattle.std.proofs.Common.{◌≡◌, ◌≢◌, ℕ, zero, suc, ◌+◌, ◌<◌, ◌≤◌, List, ◌++◌, length, map, Option, Some, None}
 use Rattle.std.proofs.Common.{slice_get, unwrap_or, IfSome}
 use Rattle.std.proofs.Common.{refl, sym, ◌∙◌, ap, subst, arith, ⊎_elim, below_more, length-append, length-set}
-use Rattle.std.specs.Prelude.{slice_set, option_map, is_some}
-use Rattle.std.proofs.lemmas.Bool.{cases_lt}
+use Rattle.std.specs.Prelude.{slice_set, option_map, is_some, IsTrue, IsSome}
+use Rattle.std.proofs.lemmas.Bool.{cases_lt, false≢true}
 use Rattle.std.proofs.lemmas.List.{length-map}
 use Rattle.std.proofs.lemmas.Option.{slice_get_past, none-some}
-use Rattle.tagged_word.specs.Layouts.{layout_bits}
+use Rattle.tagged_word.specs.declared.layout.LayoutWord.{LayoutWord}
+use Rattle.tagged_word.specs.Layouts.{IsLayout, layout_bits}
+use Rattle.tagged_word.proofs.Readings.{layout_to}
 use Rattle.tagged_word.specs.Shapes.{shapes_most, first_path_shape, fixed_layout_words}
 use Rattle.page_space.specs.Extents.{layouts_start}
 use Rattle.page_space.proofs.Starts.{marks_start_is}
@@ -14,6 +16,9 @@ use Rattle.heap_model.specs.Types.{Path}
 use Rattle.object_graph.proofs.Lists.{slice_get-set_same, slice_get-set_other}
 use Rattle.shape_tree.specs.ShapeLayouts.{layout_of, layout_word, layout_words}
 use Rattle.shape_tree.proofs.PathLayouts.{layout_word-append}
+use Rattle.mark_world.specs.Cycles.{Cycle, cycle_of}
+use Rattle.mark_world.specs.Conditions.{MayAddLayout}
+use Rattle.heap_table.specs.Overviews.{known}
 use Rattle.heap_table.specs.Seats.{Seat as TableSeat, Beside, with_layout, with_read_layout}
 use Rattle.write_barrier.specs.Layouts.{AreLayouts, AreLayoutsBelow, HasBoth, HasBothBelow, PutsLayouts}
 use Rattle.write_barrier.specs.Seats.{told_of}
@@ -126,15 +131,32 @@ both_all seat paths count below all = record {
       (λ words are. all_layouts words 0 paths count are all) below.read;
 }
 
--- there is a shared table where there was one
+-- the shared table stays, where there is one
 still_shared : (shared : Option Beside) (shape word : ℕ)
-    → is_some (option_map (with_read_layout shape word) shared) ≡ is_some shared
+    → option_map (λ (beside : Beside). beside.id) (option_map (with_read_layout shape word) shared)
+    ≡ option_map (λ (beside : Beside). beside.id) shared
 still_shared (Some beside) shape word = refl
 still_shared None shape word = refl
 
+-- what is known of the cycle
+abbrev cycle_beside : Option Beside → Cycle
+cycle_beside shared = cycle_of (known shared).view (known shared).reached (known shared).made
+
+-- stays, where a layout word is put among those that helpers read
+still_known : (shared : Option Beside) (shape word : ℕ)
+    → cycle_beside (option_map (with_read_layout shape word) shared) ≡ cycle_beside shared
+still_known (Some beside) shape word = refl
+still_known None shape word = refl
+
+-- and so does the mutator's view
+still_seen : (shared : Option Beside) (shape word : ℕ)
+    → (known (option_map (with_read_layout shape word) shared)).view ≡ (known shared).view
+still_seen (Some beside) shape word = refl
+still_seen None shape word = refl
+
 -- no word has changed
 pub puts_none : (seat : TableSeat) → PutsLayouts seat seat
-puts_none seat = record { rest = rest_stays_itself (told_of seat); beside = λ a out. refl }
+puts_none seat = record { rest = rest_stays_itself (told_of seat); cycle = refl; view = refl; beside = λ a out. refl }
 
 -- one layout word more has changed
 pub puts_more : (first old new : TableSeat) (shape word : ℕ) → shape < shapes_most → PutsLayouts first old
@@ -150,8 +172,30 @@ puts_more first old new shape word few before is =
         count = length-set old.table at word;
         shared = still_shared old.shared shape word;
       });
+      cycle = still_known old.shared shape word ∙ before.cycle;
+      view = still_seen old.shared shape word ∙ before.view;
       beside = λ a out.
           let start : layouts_start old.space ≡ layouts_start first.space = ap layouts_start same in
           let apart : a ≢ at = omega (arith, out, start, marks_start_is first.space) in
           slice_get-set_other old.table at a word apart ∙ before.beside a out;
     })
+
+-- the layout word of a shape that is not put so far is 0 among those that helpers read
+pub read_unused : (shared : Option Beside) (paths : List Path) (shape : ℕ) → shape < shapes_most
+    → IfSome shared (λ beside. AreLayoutsBelow beside.layouts 0 paths shape)
+    → IfSome shared (λ beside. slice_get beside.layouts shape ≡ Some 0)
+read_unused shared paths shape few below =
+    let from_none : 0 + shape ≡ shape = omega arith in
+    both_by (λ words. AreLayoutsBelow words 0 paths shape) (λ words. slice_get words shape ≡ Some 0) shared
+    (λ words are. sym (ap (slice_get words) from_none) ∙ are.rest shape (omega arith) few) below
+
+-- so it may be added in an open cycle, in which there is a shared table
+pub may_add : (shared : Option Beside) (shape word : ℕ) (layout : LayoutWord) → IsLayout layout
+    → word ≡ layout_bits layout → IsTrue (is_some shared)
+    → IfSome shared (λ beside. slice_get beside.layouts shape ≡ Some 0)
+    → MayAddLayout (known shared).layouts shape word
+may_add (Some beside) shape word layout is same some unused = record {
+  unused = unused;
+  parses = subst IsSome (sym (layout_to word layout is same)) refl;
+}
+may_add None shape word layout is same some unused = absurd (false≢true some)

@@ -17,9 +17,10 @@ use Rattle.write_barrier.specs.MutatorState.{Mutator, heap_of, put_word, wiped, 
 use Rattle.write_barrier.specs.MutatorState.{with_word, with_slot, judged}
 use Rattle.write_barrier.specs.Recording.{Touches, untouched, touched, touched_one, touched_again, touched_then}
 use Rattle.write_barrier.specs.Recording.{Remembers}
+use Rattle.write_barrier.proofs.SlotCycles.{young_slot}
 use Rattle.write_barrier.proofs.JudgedSlots.{wiped_behind, wiped_bound, wiped_was, wiped_none, wiped_others}
 use Rattle.write_barrier.proofs.TouchedRanges.{touched_inside, touched_outside, touched_here, touched_other}
-use Rattle.write_barrier.proofs.JudgedSlots.{JudgesOne, told_young, young_there, judges_one, judged_behind}
+use Rattle.write_barrier.proofs.JudgedSlots.{JudgesOne, told_young, young_there, judges_one}
 
 -- where words of pages, their free runs and the record are the same, nothing was touched
 pub same_touch : (old new : Mutator) → new.free ≡ old.free → new.recorded ≡ old.recorded
@@ -191,13 +192,6 @@ pub young_word : (main : Mutator) (at word : ℕ) → main.recorded.bound ≤ at
     → with_word main at word ≡ put_word main at word
 young_word main at word behind =
     ap (λ (one : Mutator). put_word one at word) (young_forgets main at (at + 1) behind)
-
--- and so is that of a slot
-pub young_slot : (main : Mutator) (at word : ℕ) → main.recorded.bound ≤ at
-    → with_slot main at word ≡ put_word main at word
-young_slot main at word behind =
-    ap (λ (one : Recorded). put_word (record main { recorded = one }) at word)
-    (judged_behind main.recorded at word behind)
 
 -- the word that a slot has now refers to a young cell exactly where the test says so
 pub refers_as_told : (eden at word : ℕ) (words : List ℕ) → slice_get words at ≡ Some word

@@ -127,6 +127,7 @@ all_started space laid gaps last all within counted =
           ∙ ap (λ (s : Space). (blank s shared).free) same;
       recorded = all.roots.recorded ∙ all.pages.recorded ∙ all.laid_is.changes.recorded
           ∙ ap (λ (s : Space). (blank s shared).recorded) same;
+      cycle = all.roots.cycle ∙ all.pages.cycle ∙ all.laid_is.changes.cycle;
       within = subst (λ (s : Space). AreWithin s.sizes s.variables) same within;
       count = counted;
       gaps = subst (λ (s : Space). (page : ℕ) → page < s.sizes.pages → IsOneGap words page) same (all_gaps all);

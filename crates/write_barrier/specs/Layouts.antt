@@ -4,6 +4,7 @@ use Rattle.tagged_word.specs.Shapes.{shapes_most}
 use Rattle.page_space.specs.Extents.{layouts_start, marks_start}
 use Rattle.heap_model.specs.Types.{Path}
 use Rattle.shape_tree.specs.ShapeLayouts.{layout_word}
+use Rattle.heap_table.specs.Overviews.{cycle_in, overview}
 use Rattle.heap_table.specs.Seats.{Seat as TableSeat}
 use Rattle.write_barrier.specs.Seats.{RestStays, heap_words, told_of}
 use Rattle.write_barrier.specs.MutatorState.{Mutator}
@@ -45,8 +46,10 @@ pub record HasFirst (seat : TableSeat) (paths : List Path) (count : ℕ) : Type 
   pub counted : length first ≡ count
   pub both : HasBoth seat first
 
--- no word has changed but layout words
+-- no word has changed but layout words, and what is known of the cycle has not, nor the mutator's view of it
 pub record PutsLayouts (old new : TableSeat) : Type 0 where
   pub rest : RestStays (told_of old) (told_of new)
+  pub cycle : cycle_in new ≡ cycle_in old
+  pub view : (overview new).view ≡ (overview old).view
   pub beside : (a : ℕ) → (a < layouts_start old.space) ⊎ (marks_start old.space ≤ a)
       → slice_get new.table a ≡ slice_get old.table a

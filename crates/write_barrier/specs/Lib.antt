@@ -4,6 +4,7 @@ pub mod MutatorState
 pub mod Recording
 pub mod FreeCells
 pub mod Layouts
+pub mod Marking
 pub mod Model
 pub mod Lending
 pub mod Reading

@@ -14,7 +14,10 @@ use Rattle.handle_roots.specs.Roots.{with_root}
 use Rattle.nursery.specs.Young.{Young, new_young, next_of, bumped, other_half}
 use Rattle.free_runs.specs.FreeRuns.{whole_rows}
 use Rattle.remembered_set.specs.Recorded.{Recorded, noted, forgotten}
-use Rattle.heap_table.specs.Phases.{Quiet}
+use Rattle.mark_world.specs.Cycles.{Cycle}
+use Rattle.heap_table.specs.Overviews.{unopened}
+use Rattle.heap_table.specs.Phases.{Phase, Quiet, Mark, Paused}
+use Rattle.mark_barrier.specs.CycleSteps.{surer}
 use Rattle.write_barrier.specs.Seats.{Seat, RestStays, fresh, heap_words}
 use Rattle.heap_model.specs.Heaps.{Heap}
 use Rattle.heap_model.specs.Showing.{Shows}
@@ -22,13 +25,15 @@ use Rattle.heap_model.specs.Changes.{AreFillers}
 use Rattle.heap_model.specs.Collectable.{IsCollectable, AreFreeRuns}
 use Rattle.heap_model.specs.Remembered.{AreRemembered}
 
--- the seat, the shapes, the young generation, the free runs of pages, and which slots of pages are recorded
+-- the seat, the shapes, the young generation, the free runs of pages, which slots of pages are recorded, and what is
+-- known of the open cycle
 pub record Mutator : Type 0 where
   pub seat : Seat
   pub paths : List Path
   pub young : Young
   pub free : List (List Run)
   pub recorded : Recorded
+  pub cycle : Cycle
 
 -- the heap that stands in the words
 abbrev pub heap_of : Mutator → Heap
@@ -69,8 +74,7 @@ pub record MainShows (main : Mutator) (graph : Graph) : Type 0 where
   pub bounded : main.recorded.bound ≡ eden_start main.seat.space
   pub remembered : AreRemembered (heap_of main) main.recorded.slots
 
--- The mutator may store words of cells and of variables: only it runs. A collection stores words under conditions of
--- its own.
+-- the mutator may store words of cells of pages, whatever they are: only it runs
 abbrev pub MayStore : Mutator → Type 0
 MayStore main = main.seat.phase ≡ Quiet
 
@@ -102,9 +106,28 @@ judged recorded at word =
 abbrev pub with_word : Mutator → ℕ → ℕ → Mutator
 with_word main at word = put_word (forgets main at (at + 1)) at word
 
--- the word of one slot is another
+-- what is known of a cycle becomes another, if the cycle is open and does not wait
+abbrev pub while_open : Phase → Cycle → Cycle → Cycle
+while_open Mark was next = next
+while_open Quiet was next = was
+while_open Paused was next = was
+
+-- what is known of the cycle after a step that goes with the word at an address: another, if the word is one of a page
+abbrev pub cycle_after : Mutator → ℕ → Cycle → Cycle
+cycle_after main at next =
+    if nat_lt at main.recorded.bound then while_open main.seat.phase main.cycle next else main.cycle
+
+-- a word that a scavenge takes as that of a slot, and marking does not, is another
+abbrev pub with_weak : Mutator → ℕ → ℕ → Mutator
+with_weak main at word = put_word (record main { recorded = judged main.recorded at word }) at word
+
+-- The word of one slot is another. In an open cycle the mutator is sure of the target of a word that it stores in a
+-- page.
 abbrev pub with_slot : Mutator → ℕ → ℕ → Mutator
-with_slot main at word = put_word (record main { recorded = judged main.recorded at word }) at word
+with_slot main at word =
+    record (with_weak main at word) {
+      cycle = cycle_after main at (surer (eden_start main.seat.space) main.cycle word);
+    }
 
 -- so many words more are used: of eden, or of what is granted
 abbrev pub reserved : Mutator → ℕ → Mutator
@@ -140,10 +163,11 @@ abbrev pub none_recorded : Space → Recorded
 none_recorded space = record { bound = eden_start space; slots = [] }
 
 -- A heap that was just opened: nothing is used and nothing has survived, each page is one gap and one free run, nothing
--- is recorded, and the phase is quiet. There may be a shared table.
+-- is recorded, and no cycle was ever open. There may be a shared table.
 pub record IsOpened (main : Mutator) : Type 0 where
   pub young : main.young ≡ new_young main.seat.space
   pub free : main.free ≡ whole_rows main.seat.space.sizes.pages
   pub recorded : main.recorded ≡ none_recorded main.seat.space
+  pub cycle : main.cycle ≡ unopened
   pub beside : RestStays (fresh main.seat.space main.seat.shared) main.seat
   pub pages : (page : ℕ) → page < main.seat.space.sizes.pages → IsOneGap (heap_words main.seat) page

@@ -1,5 +1,6 @@
 -- How a heap is opened: what has changed on the way, and what stands in the words at the end.
-use Rattle.std.specs.Prelude.{◌≡◌, ℕ, ◌+◌, ◌<◌, ◌≤◌, ◌⊎◌, Bool, List, length, Some, slice_get, Result, Ok, Err}
+use Rattle.std.specs.Prelude.{◌≡◌, ℕ, ◌+◌, ◌<◌, ◌≤◌, ◌⊎◌, List, length, Some, slice_get, Option, Result, Ok, Err}
+use Rattle.atomic_table.specs.Seated.{TableId}
 use Rattle.page_space.specs.Sizes.{AreWithin}
 use Rattle.free_runs.specs.FreeRuns.{whole_rows}
 use Rattle.page_space.specs.Extents.{Space, segments_start, roots_start, layouts_start, marks_start}
@@ -9,6 +10,7 @@ use Rattle.heap_model.specs.Types.{Path, ShapesFull}
 use Rattle.shape_tree.specs.Shapes.{Leads, LacksPathsFor}
 use Rattle.handle_roots.specs.declared.held.Held.TheVariants.{Unbound}
 use Rattle.handle_roots.specs.Roots.{root_at, first_word}
+use Rattle.heap_table.specs.Overviews.{unopened}
 use Rattle.write_barrier.specs.Seats.{RestStays, fresh, heap_words}
 use Rattle.heap_model.specs.Wholeness.{HasSizes}
 use Rattle.write_barrier.specs.MutatorState.{Mutator, IsOneGap, heap_of, none_recorded}
@@ -21,6 +23,7 @@ pub record ChangesWithin (old new : Mutator) (from to : ℕ) : Type 0 where
   pub young : new.young ≡ old.young
   pub free : new.free ≡ old.free
   pub recorded : new.recorded ≡ old.recorded
+  pub cycle : new.cycle ≡ old.cycle
   pub count : length (heap_words new.seat) ≡ length (heap_words old.seat)
   pub beside : (a : ℕ) → (a < from) ⊎ (to ≤ a) → slice_get (heap_words new.seat) a ≡ slice_get (heap_words old.seat) a
 
@@ -50,14 +53,16 @@ AreUnbound main = (variable : ℕ) → variable < main.seat.space.variables
 abbrev pub AreGaps : Mutator → Type 0
 AreGaps main = (page : ℕ) → page < main.seat.space.sizes.pages → IsOneGap (heap_words main.seat) page
 
--- nothing is written, nothing is used, each page is a free run, nothing is recorded, and there are the nine empty paths
-abbrev pub blank : Space → Bool → Mutator
+-- nothing is written, nothing is used, each page is a free run, nothing is recorded, there are the nine empty paths,
+-- and no cycle was ever open
+abbrev pub blank : Space → Option TableId → Mutator
 blank space shared = record {
   seat = fresh space shared;
   paths = empty_paths;
   young = new_young space;
   free = whole_rows space.sizes.pages;
   recorded = none_recorded space;
+  cycle = unopened;
 }
 
 -- the same, but for the layout words, which are there
@@ -73,6 +78,7 @@ pub record IsStarted (main : Mutator) : Type 0 where
   pub young : main.young ≡ new_young main.seat.space
   pub free : main.free ≡ whole_rows main.seat.space.sizes.pages
   pub recorded : main.recorded ≡ none_recorded main.seat.space
+  pub cycle : main.cycle ≡ unopened
   pub within : AreWithin main.seat.space.sizes main.seat.space.variables
   pub count : length (heap_words main.seat) ≡ marks_start main.seat.space
   pub gaps : AreGaps main

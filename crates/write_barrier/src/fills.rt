@@ -2,11 +2,12 @@
 ghost use Rattle.std.specs.Prelude.{◌≡◌, ℕ, ◌+◌, ◌<◌, ◌≤◌, Contains, replicate};
 ghost use Rattle.page_space.specs.Extents.{marks_start};
 ghost use Rattle.word_store.specs.Copies.{AreDisjoint, copied};
-ghost use Rattle.heap_table.specs.Phases.{Quiet};
+ghost use Rattle.heap_table.specs.Phases.{Mark};
 ghost use Rattle.write_barrier.specs.Seats.{RestStays, heap_words};
 ghost use Rattle.heap_model.specs.Slots.{hole_word};
 ghost use Rattle.heap_model.specs.Remembered.{Touch};
-ghost use Rattle.write_barrier.specs.MutatorState.{MayStore, forgets, with_table};
+ghost use Rattle.write_barrier.specs.Marking.{MayFill};
+ghost use Rattle.write_barrier.specs.MutatorState.{forgets, with_table};
 ghost use Rattle.write_barrier.specs.Recording.{Touches, touched};
 ghost use Rattle.write_barrier.specs.Values.{with_range};
 
@@ -17,7 +18,7 @@ impl Main {
     /// Puts one word at so many addresses from one on. Of these nothing is recorded.
     #[inline(always)]
     pub(crate) fn fill(&mut self, at: u32, count: u32, word: u64)
-        requires may_store { MayStore self.old }
+        requires may_store { MayFill self.old at }
         requires within { at + count ≤ marks_start self.old.seat.space }
         ensures filled { let words = replicate count word in
             let table = with_range self.old.seat.table at words in
@@ -38,7 +39,6 @@ impl Main {
     /// The same of words behind all pages, of which nothing is recorded.
     #[inline(always)]
     fn fill_behind(&mut self, at: u32, count: u32, word: u64)
-        requires may_store { MayStore self.old }
         requires within { at + count ≤ marks_start self.old.seat.space }
         requires behind { self.old.recorded.bound ≤ at }
         ensures filled { let words = replicate count word in
@@ -54,7 +54,7 @@ impl Main {
     #[cold]
     #[inline(never)]
     fn fill_in_page(&mut self, at: u32, count: u32, word: u64)
-        requires may_store { MayStore self.old }
+        requires may_store { self.old.seat.phase ≡ Mark → ⊥ }
         requires within { at + count ≤ marks_start self.old.seat.space }
         requires of_page { at < self.old.recorded.bound }
         ensures filled { let words = replicate count word in
@@ -72,7 +72,7 @@ impl Main {
     /// nothing: so it is as if each was stored in a slot, too.
     #[inline(always)]
     pub fn fill_holes(&mut self, at: u32, count: u32)
-        requires may_store { MayStore self.old }
+        requires may_store { MayFill self.old at }
         requires within { at + count ≤ marks_start self.old.seat.space }
         ensures filled { let holes = replicate count hole_word in
             let table = with_range self.old.seat.table at holes in
@@ -88,7 +88,7 @@ impl Main {
     /// Makes so many words at an address 0, where no cell stands any more. What is recorded stays, so this is
     /// for a heap that ends.
     pub fn blank(&mut self, at: u32, count: u32)
-        requires may_store { MayStore self.old }
+        requires may_store { self.old.seat.phase ≡ Mark → ⊥ }
         requires within { at + count ≤ marks_start self.old.seat.space }
         ensures blanked { let table = with_range self.old.seat.table at (replicate count 0) in
             self.new ≡ with_table self.old table }
@@ -101,7 +101,7 @@ impl Main {
     /// Copies so many words to another address, as words that are no slots there. The two stretches have
     /// no word in common. Of the copies nothing is recorded.
     pub fn copy_words(&mut self, from: u32, to: u32, count: u32)
-        requires quiet { self.old.seat.phase ≡ Quiet }
+        requires quiet { MayFill self.old to }
         requires within { from + count ≤ marks_start self.old.seat.space }
         requires room { to + count ≤ marks_start self.old.seat.space }
         requires apart { AreDisjoint from to count }
@@ -123,7 +123,6 @@ impl Main {
     /// The same to words behind all pages, of which nothing is recorded.
     #[inline(always)]
     fn copy_behind(&mut self, from: u32, to: u32, count: u32)
-        requires may_store { MayStore self.old }
         requires within { from + count ≤ marks_start self.old.seat.space }
         requires room { to + count ≤ marks_start self.old.seat.space }
         requires behind { self.old.recorded.bound ≤ to }
@@ -139,7 +138,7 @@ impl Main {
     #[cold]
     #[inline(never)]
     fn copy_to_page(&mut self, from: u32, to: u32, count: u32)
-        requires may_store { MayStore self.old }
+        requires may_store { self.old.seat.phase ≡ Mark → ⊥ }
         requires within { from + count ≤ marks_start self.old.seat.space }
         requires room { to + count ≤ marks_start self.old.seat.space }
         requires of_page { to < self.old.recorded.bound }
@@ -156,7 +155,6 @@ impl Main {
     /// Judges the word that stands at an address of which nothing is recorded, as that of a slot.
     #[inline]
     fn judge_copy(&mut self, slot: u32)
-        requires may_store { MayStore self.old }
         requires within { slot < marks_start self.old.seat.space }
         requires none { slot < self.old.recorded.bound → Contains self.old.recorded.slots slot → ⊥ }
         ensures rest { self.new ≡ record self.old { recorded = self.new.recorded } }
@@ -174,7 +172,6 @@ impl Main {
     /// Judges the words that stand at so many addresses from one on, as those of slots. Nothing is recorded
     /// of them yet.
     fn judge_copies(&mut self, at: u32, count: u32)
-        requires may_store { MayStore self.old }
         requires within { at + count ≤ marks_start self.old.seat.space }
         requires none { (slot : ℕ) → at ≤ slot → slot < at + count → slot < self.old.recorded.bound
             → Contains self.old.recorded.slots slot → ⊥ }
@@ -191,7 +188,7 @@ impl Main {
     /// that was just made. The two stretches have no word in common. Where the copies are in a page, each
     /// that refers to a young cell is recorded, and no other.
     pub fn copy_slots(&mut self, from: u32, to: u32, count: u32)
-        requires may_store { MayStore self.old }
+        requires may_store { MayFill self.old to }
         requires within { from + count ≤ marks_start self.old.seat.space }
         requires room { to + count ≤ marks_start self.old.seat.space }
         requires apart { AreDisjoint from to count }
@@ -199,6 +196,7 @@ impl Main {
             heap_words self.new.seat ≡ copied words from to count }
         ensures beside { RestStays self.old.seat self.new.seat }
         ensures paths { self.new.paths ≡ self.old.paths }
+        ensures cycle { self.new.cycle ≡ self.old.cycle }
         ensures young { self.new.young ≡ self.old.young }
         ensures touches { Touches self.old self.new (touched Touch.Stored to (to + count)) }
     {

@@ -5,9 +5,10 @@ ghost use Rattle.page_space.specs.Sizes.{page_words};
 ghost use Rattle.page_space.specs.Extents.{marks_start};
 ghost use Rattle.free_runs.specs.FreeRuns.{AreFree, FitsNowhere, IsBehind, LiesIn, TakesFront, longest_of, row_of};
 ghost use Rattle.remembered_set.specs.Recorded.{HasNoneFrom, IsNextRecorded};
-ghost use Rattle.heap_table.specs.Phases.{Quiet};
+ghost use Rattle.heap_table.specs.Phases.{Mark};
 ghost use Rattle.write_barrier.specs.Seats.{RestStays, heap_words};
 ghost use Rattle.heap_model.specs.Remembered.{Touch};
+ghost use Rattle.write_barrier.specs.Marking.{MayFill};
 ghost use Rattle.write_barrier.specs.FreeCells.{with_free_cell};
 ghost use Rattle.write_barrier.specs.Recording.{Touches, touched};
 
@@ -51,6 +52,14 @@ impl Main {
         self.free.longest()
     }
 
+    /// Free runs are apart. The call says so, and does nothing else.
+    #[inline(always)]
+    pub fn free_runs_fit(&self)
+        ensures { AreFree self.now.free }
+    {
+        let _longest = self.longest_free();
+    }
+
     /// A page has no free run any more. The words of the heap are neither read nor written.
     pub fn clear_free(&mut self, page: u32)
         requires { page < length self.old.free }
@@ -84,10 +93,11 @@ impl Main {
     /// more. Nothing is recorded of them.
     #[inline]
     pub fn put_free_cell(&mut self, at: u32, count: u32)
-        requires quiet { self.old.seat.phase ≡ Quiet }
+        requires quiet { MayFill self.old at }
         requires within { at + count ≤ marks_start self.old.seat.space }
         ensures beside { RestStays self.old.seat self.new.seat }
         ensures paths { self.new.paths ≡ self.old.paths }
+        ensures cycle { self.new.cycle ≡ self.old.cycle }
         ensures young { self.new.young ≡ self.old.young }
         ensures heap { let words = heap_words self.old.seat in
             heap_words self.new.seat ≡ with_free_cell words at count }
@@ -103,11 +113,11 @@ impl Main {
     /// The same of words behind all pages, of which nothing is recorded.
     #[inline(always)]
     fn put_free_young(&mut self, at: u32, count: u32)
-        requires quiet { self.old.seat.phase ≡ Quiet }
         requires within { at + count ≤ marks_start self.old.seat.space }
         requires behind { self.old.recorded.bound ≤ at }
         ensures beside { RestStays self.old.seat self.new.seat }
         ensures paths { self.new.paths ≡ self.old.paths }
+        ensures cycle { self.new.cycle ≡ self.old.cycle }
         ensures young { self.new.young ≡ self.old.young }
         ensures heap { let words = heap_words self.old.seat in
             heap_words self.new.seat ≡ with_free_cell words at count }
@@ -127,10 +137,11 @@ impl Main {
     /// The same of words of a page.
     #[inline(never)]
     fn put_free_in_page(&mut self, at: u32, count: u32)
-        requires quiet { self.old.seat.phase ≡ Quiet }
+        requires quiet { self.old.seat.phase ≡ Mark → ⊥ }
         requires within { at + count ≤ marks_start self.old.seat.space }
         ensures beside { RestStays self.old.seat self.new.seat }
         ensures paths { self.new.paths ≡ self.old.paths }
+        ensures cycle { self.new.cycle ≡ self.old.cycle }
         ensures young { self.new.young ≡ self.old.young }
         ensures heap { let words = heap_words self.old.seat in
             heap_words self.new.seat ≡ with_free_cell words at count }

@@ -6,17 +6,17 @@ ghost use Rattle.tagged_word.specs.Readings.{reference_in};
 ghost use Rattle.page_space.specs.Extents.{marks_start};
 ghost use Rattle.write_barrier.specs.Seats.{heap_words};
 ghost use Rattle.handle_roots.specs.Roots.{FitsHeld, with_root};
-ghost use Rattle.write_barrier.specs.MutatorState.{MayStore, heap_of, with_variable};
+ghost use Rattle.write_barrier.specs.MutatorState.{heap_of, with_variable};
 ghost use Rattle.write_barrier.specs.Values as values;
 
 use crate::main_side::Main;
+use handle_roots::RootPair;
 use tagged_word::Word;
 
 impl Main {
     /// Makes a variable hold what the word of a slot stands for.
     #[inline(always)]
     pub fn hold_word(&mut self, variable: u32, word: Word)
-        requires may_store { MayStore self.old }
         requires known { variable < self.old.seat.space.variables }
         requires class { (class : Class) × IsClass class × (word.0 ≡ bits_of class) }
         requires within { (at : ℕ) → reference_in word.0 ≡ Some at
@@ -43,7 +43,6 @@ impl Main {
     /// too.
     #[inline(always)]
     fn hold_small(&mut self, variable: u32, word: Word)
-        requires may_store { MayStore self.old }
         requires known { variable < self.old.seat.space.variables }
         requires even { word.0 % 2 ≡ 0 }
         ensures held { (class : Class) → IsClass class → word.0 ≡ bits_of class →
@@ -56,8 +55,10 @@ impl Main {
         ensures fits { (class : Class) → IsClass class → word.0 ≡ bits_of class →
             FitsHeld (values.held_of_class (heap_of self.old) class) }
     {
-        let root = self.root_of(variable);
-        self.put_own(root, word.0);
-        self.put_own_slot(root, 1, 0);
+        let pair = RootPair {
+            first: word.0,
+            second: 0,
+        };
+        self.put_roots_from_second(variable, pair);
     }
 }

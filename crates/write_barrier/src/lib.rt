@@ -1,10 +1,11 @@
 //! The mutator's side of a heap: stores with their barrier, and room for new cells.
 //!
 //! Model: a `Mutator` of `specs/MutatorState.antt`: the seat with its words, the field paths, the young
-//! generation, the free runs of pages, and which slots of pages are recorded. `heap_of` is the heap that
-//! stands in the words.
+//! generation, the free runs of pages, which slots of pages are recorded, and what is known of the open cycle of
+//! marking. `heap_of` is the heap that stands in the words.
 //! Invariant: an address is below the bound of what is recorded exactly if it is one of a page, and the layout
-//! words of the shared table, where there is one, are those of the shapes. There is none over the part that is lent.
+//! words of the shared table, where there is one, are those of the shapes. While a cycle of marking is open, nothing is
+//! owed, and each grey cell that waits with the mutator is listed. There is none over the part that is lent.
 //! `MainShows` of `specs/MutatorState.antt` is what holds between two commands; each call here says what it
 //! changes, in the middle of a change too.
 #![tactic(auto)]
@@ -15,7 +16,9 @@ mod held_words;
 mod laws;
 mod layouts;
 mod main_side;
+mod marking;
 mod opening;
+mod page_writes;
 mod paths;
 mod room;
 mod roots;

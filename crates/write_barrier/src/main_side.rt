@@ -7,7 +7,7 @@ ghost use Rattle.std.specs.Borrow.{sem};
 ghost use Rattle.std.proofs.Common.{◌∙◌};
 ghost use Rattle.tagged_word.specs.Readings.{header_at};
 ghost use Rattle.page_space.specs.Sizes.{AreWithin};
-ghost use Rattle.page_space.specs.Extents.{marks_start};
+ghost use Rattle.page_space.specs.Extents.{eden_start, marks_start};
 ghost use Rattle.shape_tree.specs.Shapes.{AreShapes, IsPathShape, IsLocated, shape_path, has_name};
 ghost use Rattle.shape_tree.specs.CachedSlots.{IsCachedSlot};
 ghost use Rattle.nursery.specs.Young.{IsYoung};
@@ -18,6 +18,7 @@ ghost use Rattle.write_barrier.specs.Reading.{HasHeader, IsHeaderAt};
 
 use free_runs::FreeRuns;
 use heap_table::MainSeat;
+use mark_barrier::GreyCells;
 use nursery::Nursery;
 use page_space::Regions;
 use remembered_set::Remembered;
@@ -28,7 +29,8 @@ use word_store::Reads;
 
 /// The mutator: the seat of the thread that runs commands, the shapes, the young generation, the
 /// free runs of pages, and which slots of pages refer to young cells. The seat may have a shared table, which
-/// helpers read: each word that is put in a page, and each layout word, goes there too.
+/// helpers read: each word that is put in a page, and each layout word, goes there too. Then it has a list of the grey
+/// cells that wait with the mutator, too.
 #[derive(Drop)]
 pub struct Main {
     pub(crate) seat: MainSeat,
@@ -36,6 +38,7 @@ pub struct Main {
     pub(crate) nursery: Nursery,
     pub(crate) free: FreeRuns,
     pub(crate) remembered: Remembered,
+    pub(crate) grey: Option<GreyCells>,
 }
 
 impl Model for Main {
@@ -93,13 +96,15 @@ impl Main {
     }
 
     /// No address of a heap is past 32 bits: there is a word for each address before the marks, and the
-    /// regions are within their limits. The call says so, and does nothing else.
+    /// regions are within their limits. What is recorded is of pages. The call says so, and does nothing else.
     #[inline(always)]
     pub fn addresses_fit(&self)
         ensures heap_counted { length (heap_words self.now.seat) ≡ marks_start self.now.seat.space }
         ensures within { AreWithin self.now.seat.space.sizes self.now.seat.space.variables }
         ensures fit { marks_start self.now.seat.space < 2 ^ 32 }
+        ensures bounded { self.now.recorded.bound ≡ eden_start self.now.seat.space }
     {
+        let _ = &self.remembered;
         let _regions = self.regions();
     }
 
@@ -167,6 +172,7 @@ impl Main {
             nursery: _,
             free: _,
             remembered: _,
+            grey: _,
         } = self;
         (shapes, seat.into_words())
     }

@@ -1,12 +1,12 @@
 //! How a heap is opened: into words of 0 goes what is not 0.
-ghost use Rattle.std.specs.Prelude.{◌≡◌, ℕ, ◌+◌, ◌*◌, ◌<◌, Bool, slice_get, IfOk};
+ghost use Rattle.std.specs.Prelude.{◌≡◌, ℕ, ◌+◌, ◌*◌, ◌<◌, Bool, slice_get, IfOk, IfSome, is_some};
 ghost use Rattle.page_space.specs.Sizes.{page_words};
 ghost use Rattle.page_space.specs.Extents.{eden_start, roots_start, layouts_start};
 ghost use Rattle.object_graph.specs.Graphs.{start};
 ghost use Rattle.handle_roots.specs.Roots.{root_at};
 ghost use Rattle.heap_table.specs.Phases.{Quiet};
 ghost use Rattle.heap_table.specs.Seats.{IsFresh};
-ghost use Rattle.write_barrier.specs.Seats.{heap_words};
+ghost use Rattle.write_barrier.specs.Seats.{heap_words, table_of};
 ghost use Rattle.write_barrier.specs.MutatorState.{IsOneGap, MainShows, IsOpened};
 ghost use Rattle.write_barrier.specs.Opening.{ChangesWithin, AreGaps, AreUnbound, IsLaid, IsStarted};
 
@@ -14,6 +14,7 @@ use crate::layouts::put_layouts;
 use crate::main_side::Main;
 use free_runs::FreeRuns;
 use heap_table::MainSeat;
+use mark_barrier::GreyCells;
 use nursery::Nursery;
 use page_space::{PAGE_WORDS, Regions};
 use remembered_set::Remembered;
@@ -22,16 +23,33 @@ use std::alloc::Global;
 use tagged_word::cell::LENGTH;
 use tagged_word::{Header, NoMemory, Word, odd, shape};
 
+/// A list of grey cells, where the seat has a shared table.
+///
+/// # Errors
+/// Out of memory.
+fn list_for(alloc: Global, seat: &MainSeat, regions: Regions) -> Result<Option<GreyCells>, NoMemory>
+    ensures listed { IfOk result (λ grey. is_some grey ≡ is_some seat.now.shared) }
+    ensures bound { IfOk result (λ grey. IfSome grey (λ list. list.bound ≡ eden_start regions)) }
+{
+    if seat.is_shared() {
+        let grey = GreyCells::new(alloc, regions)?;
+        Ok(Some(grey))
+    } else {
+        Ok(None)
+    }
+}
+
 impl Main {
     /// Opens a heap over words of 0: no object, each page one gap and one free run, each variable bound to
-    /// nothing.
+    /// nothing. It keeps the seat, and so the shared table, where there is one.
     ///
     /// # Errors
-    /// Memory was refused, for the shapes, the free runs, or what is recorded of pages.
+    /// Memory was refused, for the shapes, the free runs, what is recorded of pages, or the list of grey cells.
     pub fn open(alloc: Global, seat: MainSeat, regions: Regions) -> Result<Main, NoMemory>
         requires { (shared : Bool) × IsFresh regions shared seat }
         ensures opened { IfOk result (λ main. MainShows main start × IsOpened main) }
         ensures regions { IfOk result (λ main. main.seat.space ≡ regions) }
+        ensures table { IfOk result (λ main. main.seat.shared ≡ table_of seat) }
     {
         let shapes = ShapeTree::new(alloc)?;
         let nursery = Nursery::new(&regions);
@@ -39,6 +57,7 @@ impl Main {
         let pages = regions.sizes().pages;
         let free = FreeRuns::new(alloc, pages)?;
         let remembered = Remembered::new(alloc, pages)?;
+        let grey = list_for(alloc, &seat, regions)?;
         let mut seat = seat;
         put_layouts(&mut seat, &shapes, 1);
         let mut main = Main {
@@ -47,6 +66,7 @@ impl Main {
             nursery,
             free,
             remembered,
+            grey,
         };
         main.start(&regions);
         Ok(main)
@@ -57,6 +77,7 @@ impl Main {
         requires { IsLaid self.old regions.now }
         ensures started { IsStarted self.new }
         ensures space { self.new.seat.space ≡ regions.now }
+        ensures table { self.new.seat.shared ≡ self.old.seat.shared }
     {
         self.put_gaps();
         self.put_unbound();

@@ -3,10 +3,9 @@ ghost use Rattle.std.specs.Prelude.{◌≡◌, ◌<◌, length, false};
 ghost use Rattle.object_graph.specs.Invariants.{fields_most};
 ghost use Rattle.shape_tree.specs.Shapes.{IsPathShape, shape_path, has_name, stepped, changed, without};
 ghost use Rattle.shape_tree.specs.Growth.{IsStep};
-ghost use Rattle.heap_table.specs.Phases.{Mark};
 ghost use Rattle.write_barrier.specs.Layouts.{HasBoth, HasFirst, PutsLayouts};
 ghost use Rattle.heap_model.specs.Wholeness.{HasSizes};
-ghost use Rattle.write_barrier.specs.MutatorState.{MayStore, heap_of};
+ghost use Rattle.write_barrier.specs.MutatorState.{heap_of};
 ghost use Rattle.write_barrier.specs.Opening.{LaysPath, LaysPathOr};
 
 use crate::layouts::put_layouts;
@@ -17,14 +16,14 @@ use shape_tree::{ShapeTree, ShapesFull, Step};
 use tagged_word::shape;
 
 /// Puts the layout words of the paths behind the first `before`: those of the first are there.
+#[inline(always)]
 fn put_new_layouts(seat: &mut MainSeat, shapes: &ShapeTree, before: u32)
-    requires idle { seat.old.phase ≡ Mark → ⊥ }
     requires layouts { HasFirst seat.old shapes.now before }
     ensures layouts { HasBoth seat.new shapes.now }
     ensures changes { PutsLayouts seat.old seat.new }
 {
     // There are no more paths than shapes.
-    let _paths = shapes.paths();
+    shapes.paths_fit();
     put_layouts(seat, shapes, shape::PATHS + before);
 }
 
@@ -33,7 +32,6 @@ impl Main {
     #[cold]
     #[inline(never)]
     pub fn step_path(&mut self, shape: u32, field: PathField, step: Step) -> u32
-        requires may_store { MayStore self.old }
         requires sized { HasSizes (heap_of self.old) }
         requires path { IsPathShape self.old.paths shape }
         requires is_new { has_name (shape_path self.old.paths shape) field.name ≡ false }
@@ -57,7 +55,6 @@ impl Main {
     /// There may not be as many paths; nothing has changed.
     #[inline]
     pub fn change_path(&mut self, shape: u32, slot: u32, rep: Rep) -> Result<u32, ShapesFull>
-        requires may_store { MayStore self.old }
         requires sized { HasSizes (heap_of self.old) }
         requires path { IsPathShape self.old.paths shape }
         requires there { slot < length (shape_path self.old.paths shape).fields }
@@ -78,7 +75,6 @@ impl Main {
     /// There may not be as many paths; nothing has changed.
     #[inline]
     pub fn shorten_path(&mut self, shape: u32, slot: u32) -> Result<u32, ShapesFull>
-        requires may_store { MayStore self.old }
         requires sized { HasSizes (heap_of self.old) }
         requires path { IsPathShape self.old.paths shape }
         requires there { slot < length (shape_path self.old.paths shape).fields }

@@ -3,7 +3,7 @@ ghost use Rattle.std.specs.Prelude.{◌≡◌, ◌+◌, ◌≤◌, ◌↔◌, Is
 ghost use Rattle.tagged_word.specs.Cells.{cell_words_most};
 ghost use Rattle.page_space.specs.Extents.{eden_start};
 ghost use Rattle.nursery.specs.Young.{HasRoom, with_granted};
-ghost use Rattle.heap_table.specs.Phases.{Quiet};
+ghost use Rattle.heap_table.specs.Phases.{Mark};
 ghost use Rattle.write_barrier.specs.Seats.{RestStays, heap_words};
 ghost use Rattle.heap_model.specs.Remembered.{Touch};
 ghost use Rattle.write_barrier.specs.FreeCells.{with_fillers};
@@ -63,7 +63,7 @@ impl Main {
     /// Grants a run of a page: each word of it becomes a filler, of which nothing is recorded, and the
     /// next cells are made in them. What was granted before is granted no more.
     pub fn grant(&mut self, run: Run)
-        requires quiet { self.old.seat.phase ≡ Quiet }
+        requires quiet { self.old.seat.phase ≡ Mark → ⊥ }
         requires of_page { run.at + run.words ≤ eden_start self.old.seat.space }
         requires tied { self.old.young.space ≡ self.old.seat.space }
         ensures young { self.new.young ≡ with_granted self.old.young run }
@@ -71,6 +71,7 @@ impl Main {
             heap_words self.new.seat ≡ with_fillers words run.at run.words }
         ensures beside { RestStays self.old.seat self.new.seat }
         ensures paths { self.new.paths ≡ self.old.paths }
+        ensures cycle { self.new.cycle ≡ self.old.cycle }
         ensures touches { Touches self.old self.new (touched Touch.Wiped run.at (run.at + run.words)) }
     {
         self.fill(run.at, run.words, FILLER.word().0);

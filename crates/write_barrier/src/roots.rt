@@ -8,11 +8,20 @@ ghost use Rattle.handle_roots.specs.Givens.{IsGivenFor, GivesHeld};
 ghost use Rattle.handle_roots.specs.declared.held.Held.{Held};
 ghost use Rattle.handle_roots.specs.RootValues.{AreWordsOf};
 ghost use Rattle.handle_roots.specs.Roots.{Holds, IsRoot, root_at, with_root};
-ghost use Rattle.write_barrier.specs.MutatorState.{MayStore, with_variable};
+ghost use Rattle.write_barrier.specs.MutatorState.{with_variable};
 
 use crate::main_side::Main;
 use handle_roots::{Given, Held, RootPair, held_by, root_words, small_word, wide_word, words_of};
-use tagged_word::Word;
+use tagged_word::{Word, is_small};
+
+/// Whether a value is a small integer.
+#[inline(always)]
+fn is_small_integer(value: Held) -> bool {
+    match value {
+        Held::Int(v) => is_small(v),
+        Held::Unbound | Held::Undefined | Held::Ref(_) => false,
+    }
+}
 
 impl Main {
     /// The address of the first root word of a variable. Both stand behind the pages, and before the marks.
@@ -29,7 +38,6 @@ impl Main {
     /// Puts both root words of a variable: those of this value.
     #[inline(always)]
     fn put_roots(&mut self, variable: u32, pair: RootPair)
-        requires may_store { MayStore self.old }
         requires known { variable < self.old.seat.space.variables }
         ensures held { (held : Held) → AreWordsOf held pair → self.new ≡ with_variable self.old variable held }
         ensures heap { (held : Held) → AreWordsOf held pair → let words = heap_words self.old.seat in
@@ -41,6 +49,22 @@ impl Main {
         let root = self.root_of(variable);
         self.put_own(root, pair.first);
         self.put_own_slot(root, 1, pair.second);
+    }
+
+    /// The same, the second root word before the first.
+    #[inline(always)]
+    pub(crate) fn put_roots_from_second(&mut self, variable: u32, pair: RootPair)
+        requires known { variable < self.old.seat.space.variables }
+        ensures held { (held : Held) → AreWordsOf held pair → self.new ≡ with_variable self.old variable held }
+        ensures heap { (held : Held) → AreWordsOf held pair → let words = heap_words self.old.seat in
+            heap_words self.new.seat ≡ with_root self.old.seat.space words variable held }
+        ensures holds { (held : Held) → AreWordsOf held pair →
+            Holds self.old.seat.space (heap_words self.new.seat) variable held }
+    {
+        self.addresses_fit();
+        let root = self.root_of(variable);
+        self.put_own_slot(root, 1, pair.second);
+        self.put_own(root, pair.first);
     }
 
     /// What a variable holds.
@@ -134,7 +158,6 @@ impl Main {
     /// Makes a variable that holds an integer in its second root word hold another one there. Only that word changes.
     #[inline(always)]
     pub fn replace_wide(&mut self, variable: u32, v: i64)
-        requires may_store { MayStore self.old }
         requires known { variable < self.old.seat.space.variables }
         requires was { let words = heap_words self.old.seat in
             (was : ℤ) × (small was ≡ false) × Holds self.old.seat.space words variable (Int was) }
@@ -153,7 +176,6 @@ impl Main {
     /// Makes a variable that holds a small integer hold another one. Only its first root word changes.
     #[inline(always)]
     pub fn replace_small(&mut self, variable: u32, v: i64)
-        requires may_store { MayStore self.old }
         requires known { variable < self.old.seat.space.variables }
         requires was { let words = heap_words self.old.seat in
             (was : ℤ) × IsTrue (small was) × Holds self.old.seat.space words variable (Int was) }
@@ -185,7 +207,6 @@ impl Main {
     /// Makes a variable hold what another one holds. Only its two root words change.
     #[inline(always)]
     pub fn copy(&mut self, from: u32, to: u32)
-        requires may_store { MayStore self.old }
         requires known { from < self.old.seat.space.variables }
         requires target_known { to < self.old.seat.space.variables }
         requires root { IsRoot self.old.seat.space (heap_words self.old.seat) from }
@@ -206,7 +227,6 @@ impl Main {
     /// Makes a variable hold a value. Only its two root words change.
     #[inline(always)]
     pub fn hold(&mut self, variable: u32, value: Held)
-        requires may_store { MayStore self.old }
         requires known { variable < self.old.seat.space.variables }
         ensures held { self.new ≡ with_variable self.old variable value }
         ensures heap { let words = heap_words self.old.seat in
@@ -214,6 +234,12 @@ impl Main {
         ensures holds { let words = heap_words self.new.seat in
             Holds self.old.seat.space words variable value }
     {
-        self.put_roots(variable, words_of(value));
+        // A small integer's words are put in an order of their own. In one order the compiler makes one store of those
+        // for small and other integers, and chooses each word by a conditional move, which costs more than the branch.
+        if is_small_integer(value) {
+            self.put_roots_from_second(variable, words_of(value));
+        } else {
+            self.put_roots(variable, words_of(value));
+        }
     }
 }

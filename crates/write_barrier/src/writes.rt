@@ -5,8 +5,12 @@ ghost use Rattle.std.specs.Prelude.{◌≡◌, ◌+◌, ◌<◌, ◌≤◌, slic
 ghost use Rattle.tagged_word.specs.Headers.{IsHeader, header_bits};
 ghost use Rattle.tagged_word.specs.Readings.{reference_in};
 ghost use Rattle.page_space.specs.Extents.{eden_start, marks_start};
+ghost use Rattle.mark_world.specs.declared.event.Event.TheVariants as event;
+ghost use Rattle.heap_table.specs.Phases.{Mark};
 ghost use Rattle.write_barrier.specs.Seats.{heap_words};
-ghost use Rattle.write_barrier.specs.MutatorState.{MayStore, put_word, forgets, is_young, judged, with_slot, with_word};
+ghost use Rattle.write_barrier.specs.Marking.{MayPut};
+ghost use Rattle.write_barrier.specs.MutatorState.{MayStore, put_word, forgets, is_young, judged};
+ghost use Rattle.write_barrier.specs.MutatorState.{with_slot, with_weak, with_word};
 
 use crate::main_side::Main;
 use tagged_word::{Header, Word};
@@ -28,7 +32,6 @@ impl Main {
     /// Puts a word behind all pages, and before the marks: among the own ones alone.
     #[inline(always)]
     pub(crate) fn put_own(&mut self, a: u32, word: u64)
-        requires may_store { MayStore self.old }
         requires within { a < marks_start self.old.seat.space }
         requires behind { eden_start self.old.seat.space ≤ a }
         ensures put { self.new ≡ put_word self.old a word }
@@ -41,7 +44,6 @@ impl Main {
     /// The same at an offset of a cell.
     #[inline(always)]
     pub(crate) fn put_own_slot(&mut self, cell: u32, offset: u32, word: u64)
-        requires may_store { MayStore self.old }
         requires within { cell + offset < marks_start self.old.seat.space }
         requires behind { eden_start self.old.seat.space ≤ cell + offset }
         ensures put { self.new ≡ put_word self.old (cell + offset) word }
@@ -66,7 +68,6 @@ impl Main {
     /// word changes.
     #[inline(always)]
     pub(crate) fn put_young(&mut self, a: u32, word: u64)
-        requires may_store { MayStore self.old }
         requires within { a < marks_start self.old.seat.space }
         requires behind { self.old.recorded.bound ≤ a }
         ensures written { self.new ≡ with_word self.old a word }
@@ -75,20 +76,6 @@ impl Main {
         ensures bound { self.new.recorded.bound ≡ self.old.recorded.bound }
     {
         self.seat.put_own(a, word);
-    }
-
-    /// Puts a word in a page: one that is no slot of a cell. Nothing is recorded of it any more.
-    #[inline(always)]
-    fn write_in_page(&mut self, a: u32, word: u64)
-        requires may_store { MayStore self.old }
-        requires within { a < marks_start self.old.seat.space }
-        requires of_page { a < self.old.recorded.bound }
-        ensures written { self.new ≡ with_word self.old a word }
-        ensures heap { let words = heap_words self.old.seat in
-            heap_words self.new.seat ≡ slice_set words a word }
-    {
-        self.remembered.forget(a);
-        self.seat.put(a, word);
     }
 
     /// Whether a word refers to a young cell.
@@ -116,26 +103,11 @@ impl Main {
         }
     }
 
-    /// Puts a value in a slot of a page, and judges it.
-    #[cold]
-    #[inline(never)]
-    fn store_in_page(&mut self, slot: u32, value: Word)
-        requires may_store { MayStore self.old }
-        requires within { slot < marks_start self.old.seat.space }
-        requires of_page { slot < self.old.recorded.bound }
-        ensures stored { self.new ≡ with_slot self.old slot value.0 }
-        ensures heap { let words = heap_words self.old.seat in
-            heap_words self.new.seat ≡ slice_set words slot value.0 }
-    {
-        self.judge(slot, value);
-        self.seat.put(slot, value.0);
-    }
-
     /// Puts a word at an address before the marks: one that is no slot of a cell. No other word
     /// changes.
     #[inline(always)]
     pub fn write(&mut self, a: u32, word: u64)
-        requires may_store { MayStore self.old }
+        requires may_store { MayPut self.old a (event.StoreOwned a word) }
         requires within { a < marks_start self.old.seat.space }
         ensures written { self.new ≡ with_word self.old a word }
         ensures heap { let words = heap_words self.old.seat in
@@ -151,7 +123,7 @@ impl Main {
     /// Puts a word at an offset of a cell, before the marks: in no slot. No other word changes.
     #[inline(always)]
     pub fn write_slot(&mut self, cell: u32, offset: u32, word: u64)
-        requires may_store { MayStore self.old }
+        requires may_store { let a = cell + offset in MayPut self.old a (event.StoreOwned a word) }
         requires within { cell + offset < marks_start self.old.seat.space }
         ensures written { self.new ≡ with_word self.old (cell + offset) word }
         ensures heap { let words = heap_words self.old.seat in
@@ -169,7 +141,7 @@ impl Main {
     /// Puts a value in the slot of a cell at an offset. No other word changes.
     #[inline(always)]
     pub fn store(&mut self, cell: u32, offset: u32, value: Word)
-        requires may_store { MayStore self.old }
+        requires may_store { let a = cell + offset in MayPut self.old a (event.StoreSlot a value.0) }
         requires within { cell + offset < marks_start self.old.seat.space }
         ensures stored { self.new ≡ with_slot self.old (cell + offset) value.0 }
         ensures heap { let words = heap_words self.old.seat in
@@ -188,43 +160,37 @@ impl Main {
     /// what a pair of a table refers to; a scavenge takes it as a slot like others.
     #[inline]
     pub fn store_weak(&mut self, cell: u32, offset: u32, value: Word)
-        requires may_store { MayStore self.old }
+        requires may_store { let a = cell + offset in MayPut self.old a (event.StoreOwned a value.0) }
         requires within { cell + offset < marks_start self.old.seat.space }
-        ensures stored { self.new ≡ with_slot self.old (cell + offset) value.0 }
+        ensures weak { self.new ≡ with_weak self.old (cell + offset) value.0 }
+        ensures stored { (self.old.seat.phase ≡ Mark → ⊥) → self.new ≡ with_slot self.old (cell + offset) value.0 }
         ensures heap { let words = heap_words self.old.seat in
             heap_words self.new.seat ≡ slice_set words (cell + offset) value.0 }
     {
-        self.store(cell, offset, value);
+        self.addresses_fit();
+        let slot = cell + offset;
+        if self.remembered.covers(slot) {
+            self.store_weak_in_page(slot, value);
+        } else {
+            self.seat.put_own(slot, value.0);
+        }
     }
 
     /// Puts the header of a cell at an address. No other word changes.
     #[inline(always)]
     pub fn set_header(&mut self, a: u32, header: Header)
-        requires may_store { MayStore self.old }
+        requires may_store { MayPut self.old a (event.StoreHeader a (header_bits header)) }
         requires within { a < marks_start self.old.seat.space }
         requires is { IsHeader header }
         ensures written { self.new ≡ with_word self.old a (header_bits header) }
         ensures heap { let words = heap_words self.old.seat in
             heap_words self.new.seat ≡ slice_set words a (header_bits header) }
     {
-        self.write(a, header.word().0);
+        let word = header.word().0;
+        if self.remembered.covers(a) {
+            self.set_header_in_page(a, word);
+        } else {
+            self.put_young(a, word);
+        }
     }
-
-    /// Tells the marking that a cell was made whole and needs no look: nothing while the phase is
-    /// quiet.
-    #[inline]
-    pub fn made(&mut self, a: u32)
-        requires may_store { MayStore self.old }
-        requires within { a < marks_start self.old.seat.space }
-        ensures same { self.new ≡ self.old }
-    {}
-
-    /// Tells the marking that the slots of a cell are about to move or go: nothing while the phase
-    /// is quiet.
-    #[inline]
-    pub fn blacken(&mut self, cell: u32)
-        requires may_store { MayStore self.old }
-        requires within { cell < marks_start self.old.seat.space }
-        ensures same { self.new ≡ self.old }
-    {}
 }

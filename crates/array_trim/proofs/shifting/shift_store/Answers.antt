@@ -1,5 +1,5 @@
 -- The store that begins later ends where the old one ends, and its words are put one after another.
-use Rattle.std.proofs.Common.{ℕ, ◌+◌, ◌-◌, ◌<◌, ◌∙◌, ap, sym, subst, arith}
+use Rattle.std.proofs.Common.{rules, ℕ, ◌+◌, ◌-◌, ◌<◌, ◌∙◌, ap, sym, subst, arith}
 use Rattle.tagged_word.specs.Headers.{header_bits}
 use Rattle.tagged_word.specs.Cells.{store_head}
 use Rattle.page_space.specs.Extents.{marks_start}
@@ -31,12 +31,12 @@ overflow_add-start c =
       c.addresses_fit.ensures.fit,
     )
 
-pub made-requires-clause-within : goal.made-requires-clause-within
-made-requires-clause-within c =
+pub publish-requires-clause-within : goal.publish-requires-clause-within
+publish-requires-clause-within c =
     omega (
       arith,
       head_within c.store_of-store.result c.args.gone c.requires.ready c.store_of-store.ensures c.requires.few,
-      ap marks c.blacken.ensures.same,
+      ap marks (c.blacken.ensures.same (search rules)),
     )
 
 pub set_header-requires-clause-within : goal.set_header-requires-clause-within
@@ -44,7 +44,7 @@ set_header-requires-clause-within c =
     omega (
       arith,
       head_within c.store_of-store.result c.args.gone c.requires.ready c.store_of-store.ensures c.requires.few,
-      ap marks (c.made.ensures.same ∙ c.blacken.ensures.same),
+      ap marks ((c.publish.ensures.same (search rules)) ∙ (c.blacken.ensures.same (search rules))),
     )
 
 pub overflow_sub-store : goal.overflow_sub-store
@@ -56,7 +56,7 @@ write_slot-requires-clause-within c =
     omega (
       arith,
       head_within c.store_of-store.result c.args.gone c.requires.ready c.store_of-store.ensures c.requires.few,
-      ap marks (c.made.ensures.same ∙ c.blacken.ensures.same),
+      ap marks ((c.publish.ensures.same (search rules)) ∙ (c.blacken.ensures.same (search rules))),
       ap marks c.set_header.ensures.written,
     )
 
@@ -65,7 +65,7 @@ store-requires-clause-within c =
     omega (
       arith,
       slot_within c.requires.ready.whole.whole c.requires.ready.there,
-      ap marks (c.made.ensures.same ∙ c.blacken.ensures.same),
+      ap marks ((c.publish.ensures.same (search rules)) ∙ (c.blacken.ensures.same (search rules))),
       ap marks c.set_header.ensures.written,
       ap marks c.write_slot.ensures.written,
     )
@@ -75,7 +75,7 @@ write_slot-requires-2-clause-within c =
     omega (
       arith,
       count_within c.requires.ready.whole.whole c.requires.ready.there,
-      ap marks (c.made.ensures.same ∙ c.blacken.ensures.same),
+      ap marks ((c.publish.ensures.same (search rules)) ∙ (c.blacken.ensures.same (search rules))),
       ap marks c.set_header.ensures.written,
       ap marks c.write_slot.ensures.written,
       ap marks c.store.ensures.stored,
@@ -86,7 +86,7 @@ put_free_cell-requires-clause-within c =
     omega (
       arith,
       head_within c.store_of-store.result c.args.gone c.requires.ready c.store_of-store.ensures c.requires.few,
-      ap marks (c.made.ensures.same ∙ c.blacken.ensures.same),
+      ap marks ((c.publish.ensures.same (search rules)) ∙ (c.blacken.ensures.same (search rules))),
       ap marks c.set_header.ensures.written,
       ap marks c.write_slot.ensures.written,
       ap marks c.store.ensures.stored,
@@ -101,7 +101,7 @@ returns c =
     let within = head_within store c.args.gone c.requires.ready c.store_of-store.ensures c.requires.few in
     let slot_before = slot_within c.requires.ready.whole.whole c.requires.ready.there in
     let count_before = count_within c.requires.ready.whole.whole c.requires.ready.there in
-    let same = c.made.ensures.same ∙ c.blacken.ensures.same in
+    let same = (c.publish.ensures.same (search rules)) ∙ (c.blacken.ensures.same (search rules)) in
     let named = rw c.reference.ensures at c.store.ensures.stored in
     let headed = puts_then start (header_bits store_header) (puts_none same) (puts_no_slot c.set_header.ensures.written)
     (omega (arith, within)) in

@@ -1,5 +1,5 @@
 -- The words behind the slots that stay are of the store, and all words are put one after another.
-use Rattle.std.proofs.Common.{◌≡◌, ℕ, ◌+◌, ◌-◌, ◌<◌, ◌∙◌, ap, sym, subst, arith}
+use Rattle.std.proofs.Common.{rules, ◌≡◌, ℕ, ◌+◌, ◌-◌, ◌<◌, ◌∙◌, ap, sym, subst, arith}
 use Rattle.tagged_word.specs.Cells.{length_offset}
 use Rattle.page_space.specs.Extents.{marks_start}
 use Rattle.write_barrier.specs.Seats.{heap_words}
@@ -25,7 +25,7 @@ write_slot-requires-2-clause-within c =
     omega (
       arith,
       count_within c.requires.ready.whole.whole c.requires.ready.there,
-      ap marks c.blacken.ensures.same,
+      ap marks (c.blacken.ensures.same (search rules)),
       ap marks c.write_slot.ensures.written,
     )
 
@@ -45,7 +45,7 @@ put_free_cell-requires-clause-within c =
       store_has_room c.store_of-store.result c.requires.ready c.store_of-store.ensures,
       c.requires.fewer,
       c.store_of-store.ensures.within,
-      ap marks c.blacken.ensures.same,
+      ap marks (c.blacken.ensures.same (search rules)),
       ap marks c.write_slot.ensures.written,
       ap marks c.write_slot-2.ensures.written,
     )
@@ -58,7 +58,7 @@ returns c =
     let free : ℕ = store.capacity - c.args.kept in
     let count_before = count_within c.requires.ready.whole.whole c.requires.ready.there in
     let length_before = length_within store c.requires.ready c.store_of-store.ensures in
-    let none = puts_none c.blacken.ensures.same in
+    let none = puts_none (c.blacken.ensures.same (search rules)) in
     let shrunk = puts_then (store.at + 1) c.args.kept none (puts_no_slot c.write_slot.ensures.written)
     length_before in
     let counted = puts_then (c.args.list + 2) c.args.kept shrunk (puts_no_slot c.write_slot-2.ensures.written)
@@ -78,7 +78,7 @@ returns c =
     let long : Touches old c.write_slot.new.self (touched_one Touch.Wiped (store.at + length_offset)) =
     subst (λ (main : Mutator). Touches old main (touched_one Touch.Wiped (store.at + length_offset)))
     (sym (c.write_slot.ensures.written
-    ∙ ap (λ (main : Mutator). with_word main (store.at + 1) c.args.kept) c.blacken.ensures.same))
+    ∙ ap (λ (main : Mutator). with_word main (store.at + 1) c.args.kept) (c.blacken.ensures.same (search rules))))
     (word_touch old (store.at + 1) c.args.kept length_before) in
     let wiped = then_wiped (c.args.list + 2) c.args.kept long c.write_slot-2.ensures.written
     (omega (arith, count_before, ap marks_start shrunk.beside.space)) in

@@ -1,4 +1,5 @@
-use Rattle.cycle_laws.proofs.LastMarking.{coloured_is_kept, black_slots_lead_on, free_pages_are_white}
+use Rattle.cycle_laws.proofs.LastMarking.{coloured_is_kept, black_slots_lead_on, black_slots_lead_to_starts}
+use Rattle.cycle_laws.proofs.LastMarking.{free_pages_are_white}
 use Rattle.cycle_laws.proofs.laws.laws_of_ends.Goals as goal
 
 pub returns-clause-coloured : goal.returns-clause-coloured
@@ -9,3 +10,6 @@ returns-clause-black c = black_slots_lead_on
 
 pub returns-clause-pages : goal.returns-clause-pages
 returns-clause-pages c = free_pages_are_white
+
+pub returns-clause-starts : goal.returns-clause-starts
+returns-clause-starts c = black_slots_lead_to_starts

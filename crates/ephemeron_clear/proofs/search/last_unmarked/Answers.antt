@@ -10,7 +10,8 @@ pub has_unmarked_key-requires-clause-below : goal.has_unmarked_key-requires-clau
 has_unmarked_key-requires-clause-below c =
     let some = some_pairs c.requires.whole.whole c.requires.there in
     let place = c.loop-place.place - 1 in
-    let within : place < c.table_of-table.result.capacity = omega (arith, c.loop-place-test.true, c.loop-place.auto.place) in
+    let within : place < c.table_of-table.result.capacity =
+    omega (arith, c.loop-place-test.true, c.loop-place.auto.place) in
     λ at refers. subst (λ n. at < n) (sym c.requires.bound)
     (key_below c.requires.whole.whole some.are c.table_of-table.ensures place at within refers)
 
@@ -34,7 +35,8 @@ loop-place-preserved c pairs has at pair filled from below = elim (cases_lt (c.l
 pub returns-then-has_unmarked_key : goal.returns-then-has_unmarked_key
 returns-then-has_unmarked_key c pairs has =
     let place = c.loop-place.place - 1 in
-    let within : place < c.table_of-table.result.capacity = omega (arith, c.loop-place-test.true, c.loop-place.auto.place) in
+    let within : place < c.table_of-table.result.capacity =
+    omega (arith, c.loop-place-test.true, c.loop-place.auto.place) in
     let found = unmarked_read c.requires.whole.whole has c.table_of-table.ensures place within
     (c.has_unmarked_key.ensures.unmarked c.if-has_unmarked_key.true) in
     record {

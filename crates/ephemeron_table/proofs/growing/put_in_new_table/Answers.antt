@@ -3,22 +3,20 @@ use Rattle.std.proofs.Common.{◌≡◌, ℕ, ◌+◌, ◌*◌, ◌<◌, ◌≤�
 use Rattle.tagged_word.specs.Cells.{store_head}
 use Rattle.page_space.specs.Extents.{Space, marks_start}
 use Rattle.write_barrier.specs.Seats.{heap_words, RestStays}
-use Rattle.write_barrier.specs.Staying.{rest_stays_again}
+use Rattle.write_barrier.specs.Staying.{rest_stays_itself, rest_stays_again}
 use Rattle.heap_model.specs.Remembered.{Touch}
-use Rattle.write_barrier.specs.MutatorState.{Mutator, with_slot}
+use Rattle.write_barrier.specs.MutatorState.{Mutator}
 use Rattle.write_barrier.specs.Recording.{Touches, touched_one}
 use Rattle.write_barrier.proofs.Recording.{slot_touch}
 use Rattle.object_cells.specs.Made.{content_need}
-use Rattle.object_cells.proofs.RestOfWords.{same_rest, reserved_rest, put_rest}
+use Rattle.object_cells.proofs.RestOfWords.{reserved_rest, put_rest}
 use Rattle.object_cells.proofs.TouchedWords.{then_wiped}
 use Rattle.ephemeron_table.proofs.GrowingTables.{begun_touch, begun_within, boxed_free, grown_apart, grown_before_marks}
 use Rattle.ephemeron_table.proofs.GrowingTables.{grown_keys, grown_more, grown_nothing, inserted_long}
+use Rattle.write_barrier.proofs.SlotCycles.{quiet_may}
 use Rattle.ephemeron_table.proofs.growing.put_in_new_table.Goals as goal
 
--- a table begins before it ends, and a map's slot stands before its count
-begins_before : (at more marks : ℕ) → at + (store_head + more) ≤ marks → at < marks
-begins_before at more marks within = omega arith
-
+-- a map's slot stands before its count
 slot_before : (map marks : ℕ) → map + 2 < marks → map + 1 < marks
 slot_before map marks within = omega arith
 
@@ -110,49 +108,32 @@ insert_rehashed-requires-clause-key c =
     ∙ c.begin_table.ensures.puts.beside.space ∙ ap (λ (main : Mutator). main.seat.space) c.in_ok-at.ensures.reserved in
     subst (λ (s : Space). c.args.key < marks_start s) (sym space) c.requires.can.key_within
 
-pub made-requires-clause-may_store : goal.made-requires-clause-may_store
-made-requires-clause-may_store c =
-    c.insert_rehashed.ensures.words.beside.phase ∙ c.boxed_word-word.ensures.made.beside.phase
-    ∙ c.rehash.ensures.changes.rest.phase ∙ c.begin_table.ensures.puts.beside.phase
-    ∙ ap (λ (main : Mutator). main.seat.phase) c.in_ok-at.ensures.reserved ∙ c.requires.can.quiet
-
-pub made-requires-clause-within : goal.made-requires-clause-within
-made-requires-clause-within c =
-    let within = begun_within c.requires.can c.addresses_fit.ensures.heap_counted c.need_of.result
-    c.in_ok-at.ensures.room
-    c.in_ok-at.ensures.at c.grown-capacity.ensures c.in_ok-at.ensures.reserved
-    c.begin_table.ensures.puts in
-    let space = c.insert_rehashed.ensures.words.beside.space ∙ c.boxed_word-word.ensures.made.beside.space
-    ∙ c.rehash.ensures.changes.rest.space in
-    subst (λ (s : Space). c.in_ok-at.at < marks_start s) (sym space) (begins_before _ _ _ within)
-
 pub store-requires-clause-may_store : goal.store-requires-clause-may_store
 store-requires-clause-may_store c =
-    ap (λ (main : Mutator). main.seat.phase) c.made.ensures.same ∙ c.insert_rehashed.ensures.words.beside.phase
+    quiet_may (c.insert_rehashed.ensures.words.beside.phase
     ∙ c.boxed_word-word.ensures.made.beside.phase ∙ c.rehash.ensures.changes.rest.phase
     ∙ c.begin_table.ensures.puts.beside.phase ∙ ap (λ (main : Mutator). main.seat.phase) c.in_ok-at.ensures.reserved
-    ∙ c.requires.can.quiet
+    ∙ c.requires.can.quiet)
 
 pub store-requires-clause-within : goal.store-requires-clause-within
 store-requires-clause-within c =
-    let space = ap (λ (main : Mutator). main.seat.space) c.made.ensures.same
-    ∙ c.insert_rehashed.ensures.words.beside.space
+    let space = c.insert_rehashed.ensures.words.beside.space
     ∙ c.boxed_word-word.ensures.made.beside.space ∙ c.rehash.ensures.changes.rest.space
     ∙ c.begin_table.ensures.puts.beside.space ∙ ap (λ (main : Mutator). main.seat.space) c.in_ok-at.ensures.reserved in
     subst (λ (s : Space). c.args.map + 1 < marks_start s) (sym space) (slot_before _ _ c.requires.can.map_within)
 
 pub write_slot-requires-clause-may_store : goal.write_slot-requires-clause-may_store
 write_slot-requires-clause-may_store c =
-    ap (λ (main : Mutator). main.seat.phase) c.store.ensures.stored
-    ∙ ap (λ (main : Mutator). main.seat.phase) c.made.ensures.same ∙ c.insert_rehashed.ensures.words.beside.phase
+    quiet_may (ap (λ (main : Mutator). main.seat.phase) c.store.ensures.stored
+    ∙ c.insert_rehashed.ensures.words.beside.phase
     ∙ c.boxed_word-word.ensures.made.beside.phase ∙ c.rehash.ensures.changes.rest.phase
     ∙ c.begin_table.ensures.puts.beside.phase ∙ ap (λ (main : Mutator). main.seat.phase) c.in_ok-at.ensures.reserved
-    ∙ c.requires.can.quiet
+    ∙ c.requires.can.quiet)
 
 pub write_slot-requires-clause-within : goal.write_slot-requires-clause-within
 write_slot-requires-clause-within c =
     let space = ap (λ (main : Mutator). main.seat.space) c.store.ensures.stored
-    ∙ ap (λ (main : Mutator). main.seat.space) c.made.ensures.same ∙ c.insert_rehashed.ensures.words.beside.space
+    ∙ c.insert_rehashed.ensures.words.beside.space
     ∙ c.boxed_word-word.ensures.made.beside.space ∙ c.rehash.ensures.changes.rest.space
     ∙ c.begin_table.ensures.puts.beside.space ∙ ap (λ (main : Mutator). main.seat.space) c.in_ok-at.ensures.reserved in
     subst (λ (s : Space). c.args.map + 2 < marks_start s) (sym space) c.requires.can.map_within
@@ -171,7 +152,6 @@ returns-clause-ok c =
     let moved : Mutator = c.rehash.new.main in
     let boxed : Mutator = c.boxed_word-word.new.main in
     let inserted : Mutator = c.insert_rehashed.new.main in
-    let told : Mutator = c.made.new.self in
     let linked : Mutator = c.store.new.self in
     let reached : RestStays old.seat inserted.seat =
     rest_stays_again old.seat boxed.seat inserted.seat
@@ -180,7 +160,7 @@ returns-clause-ok c =
     (rest_stays_again old.seat c.room_for.new.main.seat begun.seat
     (reserved_rest old _ c.in_ok-at.ensures.reserved) c.begin_table.ensures.puts.beside)
     c.rehash.ensures.changes.rest) c.boxed_word-word.ensures.made.beside) c.insert_rehashed.ensures.words.beside in
-    let still : RestStays inserted.seat told.seat = same_rest c.made.ensures.same in
+    let still : RestStays inserted.seat inserted.seat = rest_stays_itself inserted.seat in
     let marks = ap (λ (s : Space). marks_start s) reached.space in
     let named : RestStays inserted.seat linked.seat =
     put_rest (c.args.map + 1) _ still (ap (λ (main : Mutator). main.seat) c.store.ensures.stored)
@@ -190,8 +170,7 @@ returns-clause-ok c =
     inserted_long c.requires.can counted c.need_of.result c.in_ok-at.ensures.room c.in_ok-at.ensures.at
     c.grown-capacity.ensures c.in_ok-at.ensures.reserved c.begin_table.ensures.puts c.content_for-content.result
     c.rehash.ensures c.boxed_word-word.ensures.made c.insert_rehashed.ensures ∙ counted ∙ sym marks in
-    let stored = c.store.ensures.stored
-    ∙ ap (λ (main : Mutator). with_slot main (c.args.map + 1) c.reference.result.0) c.made.ensures.same in
+    let stored = c.store.ensures.stored in
     let slot : Touches inserted linked (touched_one Touch.Stored (c.args.map + 1)) =
     subst (λ (main : Mutator). Touches inserted main (touched_one Touch.Stored (c.args.map + 1))) (sym stored)
     (slot_touch inserted (c.args.map + 1) c.reference.result.0 long

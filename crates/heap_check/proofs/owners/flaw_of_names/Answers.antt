@@ -13,7 +13,8 @@ use Rattle.heap_check.proofs.owners.flaw_of_names.Goals as goal
 
 pub loop-offset-init : goal.loop-offset-init
 loop-offset-init c = record {
-  names = subst (λ (to : ℕ). NamesBelow (image_heap c.args.image.now) to c.args.named.now) (omega arith) c.requires.names;
+  names =
+      subst (λ (to : ℕ). NamesBelow (image_heap c.args.image.now) to c.args.named.now) (omega arith) c.requires.names;
   within = omega arith;
   as_many = refl;
 }

@@ -6,6 +6,7 @@ use Rattle.heap_model.specs.Images.{image_heap}
 use Rattle.heap_check.specs.Roots.{IsRootOf}
 use Rattle.heap_check.proofs.WordsRead.{read_at}
 use Rattle.heap_check.proofs.RootFlaws.{root_first, root_second}
+use Rattle.page_space.proofs.Limits.{words_count_most}
 use Rattle.heap_check.proofs.roots.flaw_of_root.Goals as goal
 
 pub bounds-as_slice-at : goal.bounds-as_slice-at
@@ -102,3 +103,7 @@ returns c =
     (λ alone. false≢true (sym c.if-is_root-2.false ∙ c.is_root-2.ensures.1 alone))
     (λ both. false≢true (sym c.if-is_root.false ∙ c.is_root.ensures.1 both))
     c.root_at-at.ensures.at c.odd.ensures
+
+pub overflow_add-result : goal.overflow_add-result
+overflow_add-result c =
+    omega (arith, c.root_at-at.ensures.inside, words_count_most c.args.image.now.regions c.sizes_fit.ensures)

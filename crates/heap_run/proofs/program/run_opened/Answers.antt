@@ -19,14 +19,14 @@ returns g c checks sizes bytes is ready =
     let opened = c.args.opened in
     let space = opened.heap.main.seat.space in
     let counts = counts_asked checks space opened.inspection ready.inspected in
-    let (later, finishes, ends) = rw counts at ran.ensures.finishes in
+    let (later, ended, inspected, finishes, ends) = rw counts at ran.ensures.finishes in
     let led = finishes_imaged checks finished _ _ _ _ laws_hold kept.image finishes in
     let judged : FinishesJudged checks script (image_heap image) finished.how finished.line finished.executed
     (g.K.Sink.HasTaken c.args.sink.now) (g.K.Sink.HasTaken ran.new.sink) (g.K.Sink.faults c.args.sink.now)
     (g.K.Sink.faults ran.new.sink) = record {
       finishes = led;
       judged = λ came comes.
-          checked_as_asked checks space opened.inspection later ran.result.heap.main script (image_heap image)
+          checked_as_asked checks opened.heap space opened.inspection later ran.result.heap.main script (image_heap image)
           led.led.last.rows led.led.collections finished.executed led.reached.so_far came finished.line ready.inspected
           ends comes;
     } in

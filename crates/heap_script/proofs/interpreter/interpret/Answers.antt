@@ -1,10 +1,11 @@
-use Rattle.std.proofs.Common.{◌≡◌, ◌∙◌, ◌<◌, Ok, Err, refl, ap, get_or, arith}
+use Rattle.std.proofs.Common.{◌≡◌, ◌∙◌, ◌+◌, ◌<◌, true, false, Ok, Err, refl, sym, ap, subst, get_or, arith}
 use Rattle.std.proofs.lemmas.Option.{slice_get_past}
 use Rattle.std.specs.Prelude.{slice_get, None, Some}
 use Rattle.object_graph.specs.Run.{lines_most}
 use Rattle.script_text.specs.Unrolled.{executed_lines}
 use Rattle.script_text.proofs.Left.{at_most_four}
-use Rattle.write_barrier.specs.MutatorState.{Mutator, heap_of}
+use Rattle.write_barrier.specs.MutatorState.{heap_of}
+use Rattle.collector.specs.States.{HeapState}
 use Rattle.heap_script.specs.Stages.{stage_of}
 use Rattle.heap_script.proofs.Ways.{goes_on, is_inside, past_end}
 use Rattle.heap_script.specs.Runs.{OutputHolds, IsDue}
@@ -18,8 +19,9 @@ use Rattle.heap_script.specs.Progress.{command_in, how_of}
 use Rattle.heap_script.specs.declared.finished.How.TheVariants as ways
 use Rattle.heap_script.specs.Found.{PausesFound}
 use Rattle.heap_script.specs.Inspecting.{HasInspected}
+use Rattle.heap_script.proofs.InspectedLines.{notes_next, passes_inspected}
 use Rattle.heap_script.proofs.Judging.{is_for, Running-judged, Pauses-judged}
-use Rattle.heap_script.proofs.Inspected.{inspected_after, paused_found, paused_here}
+use Rattle.heap_script.proofs.Inspected.{paused_found, paused_here, stopped_not_end}
 use Rattle.heap_script.proofs.interpreter.interpret.Goals as goal
 
 pub loop-at-init : goal.loop-at-init
@@ -62,6 +64,8 @@ returns-then-executed-eq-LINES_MOST-clause-pauses g c =
     r.left in
     rw c.after.ensures (
       None,
+      false,
+      λ is. refl,
       c.loop-at.invariant.inspected,
       paused_here ways.LineLimit line.number r (
         EndsRun-limit script (stage_of c.loop-at.heap.main) _ c.loop-at.executed line.number _ _ r.reached goes
@@ -79,6 +83,8 @@ returns-clause-pauses g c =
     rw (← c.lines-lines.ensures.all) (slice_get_past lines c.loop-at.at c.loop-at-test.false) in
     rw c.after-2.ensures (
       None,
+      false,
+      λ is. refl,
       c.loop-at.invariant.inspected,
       paused_here ways.End 0 r (
         EndsRun-end c.args.script.now (stage_of c.loop-at.heap.main) c.loop-at.at c.loop-at.executed c.loop-at.turns
@@ -107,6 +113,8 @@ returns-in_default g c =
     record {
       pauses = rw c.after-in_default.ensures (
         None,
+        false,
+        λ is. refl,
         c.loop-at.invariant.inspected,
         paused_here (ways.SinkFault 0) 0 r (
           (refl, refl, refl, due),
@@ -166,16 +174,23 @@ returns-in-Err g c =
     record {
       pauses = rw (out-is, c.after-in-Err.ensures, how-is) (
         found,
-        inspected_after after.collected after.main c.loop-at.inspection c.stopped-how.new.inspection found
-            c.loop-at.invariant.inspected answered,
+        true,
+        λ is. absurd (stopped_not_end found c.in-Err.stop is),
+        subst
+            (λ one. HasInspected g.J.Judge.Judged script c.args.heap.now c.args.inspection.now true n one
+            c.stopped-how.new.inspection found) (sym judged.taken)
+            (HasInspected.line n heap after c.loop-at.inspection c.stopped-how.new.inspection found
+            c.loop-at.invariant.inspected (Err c.in-Err.stop)
+            (notes_next script heap after _ _ n line.number (command_in line.what) text (Err c.in-Err.stop) r.reached
+            goes c.in-Err.ensures.rest noted) answered),
         paused_found found (how_of c.in-Err.stop) (c.in-Ok.ensures.steady ∙ c.loop-at.invariant.steady)
-            (Pauses-judged paused judged.main judged.shows),
+            (Pauses-judged paused judged.taken),
       );
-      space = ap (λ (main : Mutator). main.seat.space) judged.main
+      space = ap (λ (one : HeapState). one.main.seat.space) judged.taken
           ∙ line_space script.fields heap.rest.in_cycle heap.main after.main r.reached.so_far.graph
           (command_in line.what) text (Err c.in-Err.stop) noted.carries ∙ c.loop-at.invariant.space;
       same = judged.same ∙ c.loop-at.invariant.same;
-      taken = λ none. judged.taken;
+      taken = λ none. ap (λ (one : HeapState). one.collected) judged.taken;
     }
 
 pub flaw_behind-requires : goal.flaw_behind-requires
@@ -219,7 +234,7 @@ run_lines-ran-requires g c =
     let running = Running-line script heap c.execute_line.new.heap c.loop-at.objects c.flush_if_full.new.out _ _
     c.loop-at.at _ c.loop-at.turns _ n line.number _ text r below goes ran.rest noted.carries in
     let judged = c.flaw_behind.ensures in
-    let on = Running-judged running judged.main judged.cycle judged.shows in
+    let on = Running-judged running judged.taken in
     record {
       runs = (on.handed.handed, rw (ran.place, ran.turned, ran.counted, out-is) (as_taken on));
       variables = on.reached.variables;
@@ -247,20 +262,27 @@ returns-in-Some g c =
     let running = Running-line script heap c.execute_line.new.heap c.loop-at.objects c.flush_if_full.new.out _ _
     c.loop-at.at _ c.loop-at.turns _ n line.number _ text r below goes ran.rest noted.carries in
     let judged = c.flaw_behind.ensures in
-    let on = Running-judged running judged.main judged.cycle judged.shows in
+    let on = Running-judged running judged.taken in
     record {
       pauses = rw c.after-in-Some.ensures (
         Some c.in-Some.flaw,
-        inspected_after c.execute_line.new.heap.collected c.execute_line.new.heap.main c.loop-at.inspection
-            c.flaw_behind.new.inspection (Some c.in-Some.flaw) c.loop-at.invariant.inspected c.in-Some.ensures.judged,
+        false,
+        λ is. refl,
+        subst
+            (λ one. HasInspected g.J.Judge.Judged script c.args.heap.now c.args.inspection.now false (n + 1) one
+            c.flaw_behind.new.inspection (Some c.in-Some.flaw)) (sym judged.taken)
+            (HasInspected.line n heap c.execute_line.new.heap c.loop-at.inspection c.flaw_behind.new.inspection
+            (Some c.in-Some.flaw) c.loop-at.invariant.inspected (Ok tt)
+            (notes_next script heap c.execute_line.new.heap _ _ n line.number (command_in line.what) text (Ok tt)
+            r.reached goes ran.rest noted) c.in-Some.ensures.judged),
         PausesFound.flawed c.in-Some.flaw on.reached.so_far.graph refl on.shown
             (c.in-Ok.ensures.steady ∙ c.loop-at.invariant.steady),
       );
-      space = ap (λ (main : Mutator). main.seat.space) judged.main
+      space = ap (λ (one : HeapState). one.main.seat.space) judged.taken
           ∙ line_space script.fields heap.rest.in_cycle heap.main c.execute_line.new.heap.main
           r.reached.so_far.graph (command_in line.what) text (Ok tt) noted.carries ∙ c.loop-at.invariant.space;
       same = judged.same ∙ c.loop-at.invariant.same;
-      taken = λ none. judged.taken;
+      taken = λ none. ap (λ (one : HeapState). one.collected) judged.taken;
     }
 
 pub loop-at-preserved : goal.loop-at-preserved
@@ -280,7 +302,7 @@ loop-at-preserved g c =
     let running = Running-line script heap c.execute_line.new.heap c.loop-at.objects c.flush_if_full.new.out _ _
     c.loop-at.at _ c.loop-at.turns _ n line.number _ text r below goes ran.rest noted.carries in
     let judged = c.flaw_behind.ensures in
-    let on = Running-judged running judged.main judged.cycle judged.shows in
+    let on = Running-judged running judged.taken in
     let holds = OutputHolds-line script (heap_of heap.main) _ _ _ _ n line.number _ text _ r.reached goes noted.carries
     c.in-Ok.ensures.waits c.loop-at.invariant.holds in
     let lines_ran = c.run_lines-ran.ensures in
@@ -289,13 +311,21 @@ loop-at-preserved g c =
     record {
       running = as_handed runs on.handed.taken;
       holds = lines_ran.holds (rw out-is holds);
-      space = lines_ran.space ∙ ap (λ (main : Mutator). main.seat.space) judged.main
+      space = lines_ran.space ∙ ap (λ (one : HeapState). one.main.seat.space) judged.taken
           ∙ line_space script.fields heap.rest.in_cycle heap.main c.execute_line.new.heap.main
           r.reached.so_far.graph (command_in line.what) text (Ok tt) noted.carries ∙ c.loop-at.invariant.space;
-      inspected = inspected_after c.execute_line.new.heap.collected c.execute_line.new.heap.main
-          c.loop-at.inspection c.flaw_behind.new.inspection None c.loop-at.invariant.inspected
-          c.in_default-flaw_behind.ensures.judged;
+      inspected = passes_inspected
+          (subst
+          (λ one. HasInspected g.J.Judge.Judged script c.args.heap.now c.args.inspection.now false (n + 1) one
+          c.flaw_behind.new.inspection None) (sym judged.taken)
+          (HasInspected.line n heap c.execute_line.new.heap c.loop-at.inspection c.flaw_behind.new.inspection None
+          c.loop-at.invariant.inspected (Ok tt)
+          (notes_next script heap c.execute_line.new.heap _ _ n line.number (command_in line.what) text (Ok tt)
+          r.reached goes ran.rest noted) c.in_default-flaw_behind.ensures.judged))
+          (lines_ran.passes on.handed.handed
+          (rw (ran.place, ran.turned, ran.counted, out-is) (as_taken on))
+          (ap (λ (one : HeapState). one.collected) judged.taken));
       same = judged.same ∙ c.loop-at.invariant.same;
-      taken = λ none. lines_ran.noted ∙ judged.taken;
+      taken = λ none. lines_ran.noted ∙ ap (λ (one : HeapState). one.collected) judged.taken;
       steady = c.in-Ok.ensures.steady ∙ c.loop-at.invariant.steady;
     }

@@ -12,7 +12,8 @@ invariant-loop-at g l = record {
       l.at l.turns l.executed uncollected;
   holds : OutputHolds l.script l.executed l.out;
   space : l.heap.main.seat.space ≡ l.initial.heap.main.seat.space;
-  inspected : HasInspected g.J.Judge.Judged l.initial.inspection l.inspection None;
+  inspected : HasInspected g.J.Judge.Judged l.script l.initial.heap l.initial.inspection false l.executed l.heap
+      l.inspection None;
   same : plan_of g.J.Judge.regions l.inspection ≡ plan_of g.J.Judge.regions l.initial.inspection;
   taken : l.initial.heap.collected ≡ false → l.heap.collected ≡ false;
   steady : g.K.Sink.faults l.sink ≡ g.K.Sink.faults l.initial.sink;

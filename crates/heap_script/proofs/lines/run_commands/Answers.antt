@@ -4,13 +4,14 @@ use Rattle.script_text.specs.declared.script.What.TheVariants.{Run}
 use Rattle.collector.specs.States.{HeapState}
 use Rattle.heap_script.proofs.LinesRun.{some_left, first_does, no_command}
 use Rattle.heap_script.proofs.Executed.{executed_well, executed_ill}
-use Rattle.heap_script.proofs.CommandRun.{names_known, RunsLines-command, holds_command}
+use Rattle.heap_script.proofs.CommandRun.{names_known, RunsLines-command, passes_command, holds_command}
 use Rattle.heap_script.proofs.Retrying.{carried_space}
 use Rattle.heap_script.proofs.lines.run_commands.Goals as goal
 
 pub loop-command-init : goal.loop-command-init
 loop-command-init g c = record {
   runs = λ script out taken ts spare last start. start;
+  passes = λ script out taken ts spare last start from runs none passed. passed;
   holds = λ script out taken ts spare last start room held. held;
   space = refl;
   noted = refl;
@@ -48,6 +49,8 @@ returns-then-not-unwrap_or g c =
     record {
       runs = λ script out taken ts spare last start.
           rw (still, uncounted) (kept.runs script out taken ts spare last start);
+      passes = λ script out taken ts spare last start from runs none passed.
+          rw still (kept.passes script out taken ts spare last start from runs none passed);
       holds = kept.holds;
       space = ap (λ (heap : HeapState). heap.main.seat.space) still ∙ kept.space;
       noted = ap (λ (heap : HeapState). heap.collected) still ∙ kept.noted;
@@ -81,6 +84,9 @@ loop-command-preserved g c =
       runs = λ script out taken ts spare last start.
           RunsLines-command (kept.runs script out taken ts spare last start) command does after next on did.rest
           did.tries objects did.counted;
+      passes = λ script out taken ts spare last start from runs none passed.
+          passes_command (kept.runs script out taken ts spare last runs) command does after next on did.rest did.tries
+          did.noted (kept.noted ∙ none) (kept.passes script out taken ts spare last start from runs none passed);
       holds = λ script out taken ts spare last start room held.
           holds_command (kept.runs script out taken ts spare last start) command does after next on did.rest
           did.tries room (kept.holds script out taken ts spare last start room held);
@@ -96,6 +102,7 @@ returns-in_default g c =
     let some = some_left rest (sym c.loop-command-test.ensures) in
     record {
       runs = kept.runs;
+      passes = kept.passes;
       holds = kept.holds;
       space = kept.space;
       noted = kept.noted;
@@ -106,6 +113,7 @@ returns-in_default g c =
 pub returns : goal.returns
 returns g c = record {
   runs = c.loop-command.invariant.runs;
+  passes = c.loop-command.invariant.passes;
   holds = c.loop-command.invariant.holds;
   space = c.loop-command.invariant.space;
   noted = c.loop-command.invariant.noted;

@@ -2,9 +2,11 @@ use Rattle.std.proofs.Common.{◌≡◌, ◌∙◌, ◌-◌, ◌≤◌, ℕ, suc
 use Rattle.std.proofs.lemmas.List.{length-drop}
 use Rattle.object_graph.specs.Run.{lines_most}
 use Rattle.script_text.specs.declared.script.Line.{Line}
+use Rattle.heap_script.specs.Noting.{Passes}
 use Rattle.heap_script.specs.Runs.{OutputHolds}
 use Rattle.heap_script.proofs.LinesRun.{none_spent, RunsLines-start, stands_inside}
-use Rattle.heap_script.proofs.JumpRun.{deep_jump, within_jump, count_jump, RunsLines-jump, holds_jump}
+use Rattle.heap_script.proofs.JumpRun.{deep_jump, within_jump, count_jump, RunsLines-jump}
+use Rattle.heap_script.proofs.JumpRun.{passes_jump, holds_jump}
 use Rattle.heap_script.proofs.lines.run_lines.Goals.{else-loop-spare-test, then-loop-spare-test+in_default}
 use Rattle.heap_script.proofs.lines.run_lines.Goals as goal
 
@@ -29,6 +31,8 @@ loop-spare-init g c =
           RunsLines-start rest c.lines-lines.ensures.numbered c.lines-lines.ensures.matched c.requires.fields
           (subst (λ (xs : List Line). at ≤ length xs) all within)
           (c.lines_from-rest.ensures ∙ ap (λ (xs : List Line). drop at xs) all) begun few enough start;
+      passes = λ taken start none.
+          subst (λ (m : ℕ). Passes script c.args.heap.now n c.args.heap.now m) (sym whole) Passes.none;
       holds = λ held. subst (λ (m : ℕ). OutputHolds script m c.args.out.now) (sym whole) held;
       most = omega (arith, enough);
       further = subst (λ (m : ℕ). n ≤ m) (sym whole) (omega arith);
@@ -118,6 +122,13 @@ loop-spare-preserved g c =
           RunsLines-jump
           (ran.runs c.args.script.now c.args.out.now taken c.loop-spare.turns c.loop-spare.spare c.min-last.result
           (kept.runs taken start)) begins all enough goes from c.jump-after.new.self turned;
+      passes = λ taken start none.
+          passes_jump
+          (ran.runs c.args.script.now c.args.out.now taken c.loop-spare.turns c.loop-spare.spare c.min-last.result
+          (kept.runs taken start)) begins all enough goes from (ran.noted ∙ kept.noted ∙ none)
+          (ran.passes c.args.script.now c.args.out.now taken c.loop-spare.turns c.loop-spare.spare c.min-last.result
+          c.args.heap.now c.args.from.executed (kept.runs taken start) (kept.noted ∙ none)
+          (kept.passes taken start none));
       holds = λ held.
           holds_jump r begins all enough goes from room
           (ran.holds c.args.script.now c.args.out.now taken c.loop-spare.turns c.loop-spare.spare c.min-last.result
@@ -139,6 +150,22 @@ returns-clause-runs g c taken start =
           let ran = w.run_commands.ensures in
           let r = ran.runs c.args.script.now c.args.out.now taken c.loop-spare.turns c.loop-spare.spare c.min-last.result kept in
           rw (w.heap-is, w.objects-is, w.rest-is, all) r.running
+    ]
+
+pub returns-then-is_full-clause-passes : goal.returns-then-is_full-clause-passes
+returns-then-is_full-clause-passes g c taken start none = Passes.none
+
+pub returns-clause-passes : goal.returns-clause-passes
+returns-clause-passes g c taken start none =
+    let kept = c.loop-spare.invariant in
+    let all = ap (λ (xs : List Line). length xs) c.lines-lines.ensures.all in
+    elim c.loop-spare-test.branch [
+      | else-loop-spare-test w ↦ rw (w.heap-is, w.rest-is) (kept.passes taken start none)
+      | then-loop-spare-test+in_default w ↦
+          rw (w.heap-is, w.rest-is)
+          (w.run_commands.ensures.passes c.args.script.now c.args.out.now taken c.loop-spare.turns c.loop-spare.spare c.min-last.result
+          c.args.heap.now c.args.from.executed (kept.runs taken start) (kept.noted ∙ none)
+          (kept.passes taken start none))
     ]
 
 pub returns-clause-holds : goal.returns-clause-holds

@@ -1,6 +1,7 @@
-use Rattle.std.proofs.Common.{◌≡◌, ◌≤◌, ℕ, ◌-◌, ◌+◌, List, [], length}
+use Rattle.std.proofs.Common.{◌≡◌, ◌≤◌, ℕ, ◌-◌, ◌+◌, List, [], false, length}
 use Rattle.heap_script.specs.Runs.{OutputHolds}
 use Rattle.heap_script.specs.Between.{Running, only, RunsLines}
+use Rattle.heap_script.specs.Noting.{Passes}
 use Rattle.heap_script.specs.Stages.{uncollected}
 use Rattle.heap_script.proofs.lines.run_lines.Given as goal
 
@@ -10,6 +11,10 @@ invariant-loop-spare g l = record {
       → Running l.script l.initial.heap l.initial.objects l.out (only []) (only taken) l.fn.from.at
       l.initial.turns l.fn.from.executed uncollected
       → RunsLines l.script l.heap l.objects l.out taken l.turns l.rest l.spare l.last;
+  passes : (taken : List ℕ)
+      → Running l.script l.initial.heap l.initial.objects l.out (only []) (only taken) l.fn.from.at
+      l.initial.turns l.fn.from.executed uncollected → l.initial.heap.collected ≡ false
+      → Passes l.script l.initial.heap l.fn.from.executed l.heap (l.last - (l.spare + length l.rest));
   holds : OutputHolds l.script l.fn.from.executed l.out
       → OutputHolds l.script (l.last - (l.spare + length l.rest)) l.out;
   most : l.spare + length l.rest ≤ l.last;

@@ -39,6 +39,6 @@ pub returns : goal.returns
 returns c = record {
   agrees = agrees_all c.args.own.now c.loop-a.a c.args.to c.loop-a.side.main
       (omega (arith, c.loop-a-test.false, c.min-a-end.ensures, c.counts.ensures.old, c.requires.outside.old))
-      c.count-count.ensures.counted c.loop-a.invariant.outside;
+      c.words_fit.ensures.counted c.loop-a.invariant.outside;
   rest = c.loop-a.invariant.same;
 }

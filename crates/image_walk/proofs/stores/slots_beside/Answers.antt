@@ -18,10 +18,13 @@ behind_head-requires-clause-long c =
 
 pub returns-in-Undefined-clause-spans : goal.returns-in-Undefined-clause-spans
 returns-in-Undefined-clause-spans c =
-    none_beside (image_heap c.args.image.now) c.args.kind c.args.word (subst (IsSort (image_heap c.args.image.now) c.args.word) c.in-Undefined.is c.requires.stands)
+    none_beside (image_heap c.args.image.now) c.args.kind c.args.word
+    (subst (IsSort (image_heap c.args.image.now) c.args.word) c.in-Undefined.is c.requires.stands)
 
 pub returns-in-Undefined-clause-beside : goal.returns-in-Undefined-clause-beside
-returns-in-Undefined-clause-beside c = IsBeside.none (subst (IsSort (image_heap c.args.image.now) c.args.word) c.in-Undefined.is c.requires.stands) refl refl
+returns-in-Undefined-clause-beside c =
+    IsBeside.none (subst (IsSort (image_heap c.args.image.now) c.args.word) c.in-Undefined.is c.requires.stands) refl
+    refl
 
 pub returns-then-eq-clause-spans : goal.returns-then-eq-clause-spans
 returns-then-eq-clause-spans c =

@@ -15,19 +15,16 @@ use Rattle.object_cells.specs.Made.{content_need, content_touch, store_content, 
 use Rattle.object_cells.specs.declared.content.SlotContent.{SlotContent}
 use Rattle.object_cells.proofs.FilledTouches.{reserved_touch}
 use Rattle.object_cells.proofs.TouchedWords.{rest_counted, then_stored, then_wiped}
-use Rattle.object_cells.proofs.RestOfWords.{same_rest, put_rest, reserved_rest}
+use Rattle.object_cells.proofs.RestOfWords.{put_rest, reserved_rest}
 use Rattle.object_cells.proofs.UnusedWords.{IsUnusedRun, next_run, run_before_marks, run_apart, marks_fit}
 use Rattle.object_cells.proofs.ListCells.{count_within, slot_within}
+use Rattle.write_barrier.proofs.SlotCycles.{quiet_may}
 use Rattle.list_store.proofs.pushing.push_to_new_store.Goals as goal
 
 -- the store that is made has as many slots as the one before, or more
 more_slots : (count capacity slots : ℕ) → count ≡ capacity → count < list_most → slots ≡ grown_list count
     → capacity ≤ slots
 more_slots count capacity slots full few grown = omega arith
-
--- words that end before the marks begin there
-begins_before : (at slots box marks : ℕ) → at + (2 + slots + box) ≤ marks → at < marks
-begins_before at slots box marks within = omega arith
 
 pub begin_store-requires-clause-more : goal.begin_store-requires-clause-more
 begin_store-requires-clause-more c =
@@ -36,16 +33,6 @@ begin_store-requires-clause-more c =
 
 pub begin_store-requires-clause-few : goal.begin_store-requires-clause-few
 begin_store-requires-clause-few c = c.requires.can.is.small
-
-pub made-requires-clause-within : goal.made-requires-clause-within
-made-requires-clause-within c =
-    let need = 2 + c.grown-capacity.result + c.need_of.result in
-    let space = ap (λ (main : Mutator). main.seat.space) c.store.ensures.stored
-    ∙ c.boxed_word-word.ensures.made.beside.space ∙ c.begin_store.ensures.puts.beside.space
-    ∙ ap (λ (main : Mutator). main.seat.space) c.in_ok-at.ensures.reserved in
-    let before = run_before_marks c.args.main.now need c.in_ok-at.at c.store.new.self.seat.space
-    c.requires.can.ready.tied c.in_ok-at.ensures.room (c.in_ok-at.ensures.at (omega arith)) space in
-    begins_before c.in_ok-at.at c.grown-capacity.result c.need_of.result _ before
 
 pub begin_store-requires-clause-within : goal.begin_store-requires-clause-within
 begin_store-requires-clause-within c =
@@ -81,23 +68,21 @@ boxed_word-word-requires-clause-may_store c =
 
 pub store-requires-clause-may_store : goal.store-requires-clause-may_store
 store-requires-clause-may_store c =
-    c.boxed_word-word.ensures.made.beside.phase ∙ c.begin_store.ensures.puts.beside.phase
-    ∙ ap (λ (main : Mutator). main.seat.phase) c.in_ok-at.ensures.reserved ∙ c.requires.can.ready.whole.quiet
+    quiet_may (c.boxed_word-word.ensures.made.beside.phase ∙ c.begin_store.ensures.puts.beside.phase
+    ∙ ap (λ (main : Mutator). main.seat.phase) c.in_ok-at.ensures.reserved ∙ c.requires.can.ready.whole.quiet)
 
 pub store-requires-2-clause-may_store : goal.store-requires-2-clause-may_store
 store-requires-2-clause-may_store c =
-    ap (λ (main : Mutator). main.seat.phase) c.made.ensures.same
-    ∙ ap (λ (main : Mutator). main.seat.phase) c.store.ensures.stored
+    quiet_may (ap (λ (main : Mutator). main.seat.phase) c.store.ensures.stored
     ∙ c.boxed_word-word.ensures.made.beside.phase ∙ c.begin_store.ensures.puts.beside.phase
-    ∙ ap (λ (main : Mutator). main.seat.phase) c.in_ok-at.ensures.reserved ∙ c.requires.can.ready.whole.quiet
+    ∙ ap (λ (main : Mutator). main.seat.phase) c.in_ok-at.ensures.reserved ∙ c.requires.can.ready.whole.quiet)
 
 pub write_slot-requires-clause-may_store : goal.write_slot-requires-clause-may_store
 write_slot-requires-clause-may_store c =
-    ap (λ (main : Mutator). main.seat.phase) c.store-2.ensures.stored
-    ∙ ap (λ (main : Mutator). main.seat.phase) c.made.ensures.same
+    quiet_may (ap (λ (main : Mutator). main.seat.phase) c.store-2.ensures.stored
     ∙ ap (λ (main : Mutator). main.seat.phase) c.store.ensures.stored
     ∙ c.boxed_word-word.ensures.made.beside.phase ∙ c.begin_store.ensures.puts.beside.phase
-    ∙ ap (λ (main : Mutator). main.seat.phase) c.in_ok-at.ensures.reserved ∙ c.requires.can.ready.whole.quiet
+    ∙ ap (λ (main : Mutator). main.seat.phase) c.in_ok-at.ensures.reserved ∙ c.requires.can.ready.whole.quiet)
 
 pub boxed_word-word-requires-clause-within : goal.boxed_word-word-requires-clause-within
 boxed_word-word-requires-clause-within c v boxed =
@@ -129,8 +114,7 @@ overflow_add-at c =
 pub store-requires-2-clause-within : goal.store-requires-2-clause-within
 store-requires-2-clause-within c =
     let within = slot_within c.requires.can.ready.whole.whole c.requires.can.ready.there in
-    let space = ap (λ (main : Mutator). main.seat.space) c.made.ensures.same
-    ∙ ap (λ (main : Mutator). main.seat.space) c.store.ensures.stored ∙ c.boxed_word-word.ensures.made.beside.space
+    let space = ap (λ (main : Mutator). main.seat.space) c.store.ensures.stored ∙ c.boxed_word-word.ensures.made.beside.space
     ∙ c.begin_store.ensures.puts.beside.space ∙ ap (λ (main : Mutator). main.seat.space) c.in_ok-at.ensures.reserved in
     omega (arith, within, ap (λ (s : Space). marks_start s) space)
 
@@ -138,7 +122,6 @@ pub write_slot-requires-clause-within : goal.write_slot-requires-clause-within
 write_slot-requires-clause-within c =
     let within = count_within c.requires.can.ready.whole.whole c.requires.can.ready.there in
     let space = ap (λ (main : Mutator). main.seat.space) c.store-2.ensures.stored
-    ∙ ap (λ (main : Mutator). main.seat.space) c.made.ensures.same
     ∙ ap (λ (main : Mutator). main.seat.space) c.store.ensures.stored ∙ c.boxed_word-word.ensures.made.beside.space
     ∙ c.begin_store.ensures.puts.beside.space ∙ ap (λ (main : Mutator). main.seat.space) c.in_ok-at.ensures.reserved in
     omega (arith, within, ap (λ (s : Space). marks_start s) space)
@@ -183,7 +166,6 @@ returns-clause-ok c =
     let begun : Mutator = c.begin_store.new.main in
     let boxed : Mutator = c.boxed_word-word.new.main in
     let put : Mutator = c.store.new.self in
-    let told : Mutator = c.made.new.self in
     let linked : Mutator = c.store-2.new.self in
     let at = c.in_ok-at.at in
     let need = 2 + c.grown-capacity.result + c.need_of.result in
@@ -200,22 +182,18 @@ returns-clause-ok c =
     let filled : RestStays old.seat put.seat =
     put_rest place c.boxed_word-word.result.0 first (ap (λ (main : Mutator). main.seat) c.store.ensures.stored)
     place_within in
-    let still : RestStays old.seat told.seat =
-    rest_stays_again old.seat put.seat told.seat filled (same_rest c.made.ensures.same) in
-    let slot_before : c.args.list + 1 < marks_start told.seat.space =
-    omega (arith, slot_within ready.whole.whole ready.there, ap (λ (s : Space). marks_start s) still.space) in
+    let slot_before : c.args.list + 1 < marks_start put.seat.space =
+    omega (arith, slot_within ready.whole.whole ready.there, ap (λ (s : Space). marks_start s) filled.space) in
     let named : RestStays old.seat linked.seat =
-    put_rest (c.args.list + 1) _ still (ap (λ (main : Mutator). main.seat) c.store-2.ensures.stored) slot_before in
+    put_rest (c.args.list + 1) _ filled (ap (λ (main : Mutator). main.seat) c.store-2.ensures.stored) slot_before in
     let count_before : c.args.list + 2 < marks_start linked.seat.space =
     omega (arith, count_within ready.whole.whole ready.there, ap (λ (s : Space). marks_start s) named.space) in
     let counted = c.addresses_fit.ensures.heap_counted in
-    let stored = then_stored place c.boxed_word-word.result.0 (store_made c) c.store.ensures.stored
+    let is_told : Touches old put (begun_touch at c.args.count (store_content c.args.value)) =
+    then_stored place c.boxed_word-word.result.0 (store_made c) c.store.ensures.stored
     (rest_counted first counted) place_within in
     let holds = store_content c.args.value in
-    let is_told : Touches old told (begun_touch at c.args.count holds) =
-    subst (λ (main : Mutator). Touches old main (begun_touch at c.args.count holds)) (sym c.made.ensures.same)
-    stored in
-    let is_named = then_stored (c.args.list + 1) _ is_told c.store-2.ensures.stored (rest_counted still counted)
+    let is_named = then_stored (c.args.list + 1) _ is_told c.store-2.ensures.stored (rest_counted filled counted)
     slot_before in
     record {
       room = search rules;

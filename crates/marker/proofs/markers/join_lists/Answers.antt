@@ -6,17 +6,17 @@ use Rattle.marker.proofs.markers.join_lists.Goals as goal
 pub loop-place-init : goal.loop-place-init
 loop-place-init c = record { joined = none_joined c.args.to.now.addresses c.args.from.now.addresses; bound = refl }
 
-pub list_cell-requires : goal.list_cell-requires
-list_cell-requires c =
+pub add-requires : goal.add-requires
+add-requires c =
     let low = below c.args.from.now c.get.result c.loop-place.place c.len-place-end.ensures.own c.get.ensures in
     omega (arith, low, c.requires, c.loop-place.invariant.bound)
 
 pub loop-place-preserved : goal.loop-place-preserved
 loop-place-preserved c = record {
-  joined = joins_more c.args.to.now.addresses c.loop-place.to.addresses c.list_cell.new.list.addresses
+  joined = joins_more c.args.to.now.addresses c.loop-place.to.addresses c.add.new.self.addresses
       c.args.from.now.addresses c.loop-place.place c.get.result c.get.ensures c.loop-place.invariant.joined
-      c.list_cell.ensures.members;
-  bound = c.list_cell.ensures.bound ∙ c.loop-place.invariant.bound;
+      c.add.ensures.members;
+  bound = c.add.ensures.bound ∙ c.loop-place.invariant.bound;
 }
 
 pub returns-clause-joined : goal.returns-clause-joined

@@ -26,11 +26,11 @@ returns-in-Err-clause-rests c =
     let place = c.args.room.now.place in
     let found : ℕ = c.in-Err.field-0.found in
     let other : found ≢ 0 = c.in-Err.ensures.found.1 in
-    kept_back before c.give.new.seat place c.args.at found c.args.room.now.list c.list_cell.new.list
+    kept_back before c.give.new.seat place c.args.at found c.args.room.now.list c.add.new.self
     (c.give.ensures.gave
     ∙ ap (λ (r : Result Unit Occupied). record before {
       lent = learned before.lent (event.Give 0 place c.args.at)
           (word_found r);
     })
-    c.in-Err.is) other c.requires.rest c.requires.waits c.requires.listed c.list_cell.ensures.bound
-    c.list_cell.ensures.members
+    c.in-Err.is) other c.requires.rest c.requires.waits c.requires.listed c.add.ensures.bound
+    c.add.ensures.members

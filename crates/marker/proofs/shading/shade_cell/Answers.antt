@@ -4,8 +4,9 @@ use Rattle.mark_world.specs.Steps.{white}
 use Rattle.shared_table.specs.declared.colour.Colour.TheVariants.{White}
 use Rattle.shared_table.specs.Colours.{number_of}
 use Rattle.shared_table.specs.Seats.{Helping}
+use Rattle.shared_table.proofs.ColourNumbers.{not_white_number}
 use Rattle.marker.specs.Shading.{HasListed, Shades}
-use Rattle.marker.proofs.ShadeOne.{not_white_number, other_listed, shaded_out, shades_one, white_listed}
+use Rattle.marker.proofs.ShadeOne.{other_listed, shaded_out, shades_one, white_listed}
 use Rattle.marker.proofs.shading.shade_cell.Goals as goal
 
 pub returns-in-White-clause-listed : goal.returns-in-White-clause-listed
@@ -17,10 +18,10 @@ returns-in-White-clause-listed c =
       | inl visits ↦ visits
       | inr seen ↦ absurd (c.shade.ensures.seen seen is_white)
     ] in
-    subst (λ (h : Helping). HasListed c.list_cell.new.list h.lent) (sym c.shade.ensures.shaded)
-    (white_listed before c.args.at found c.args.list.now c.list_cell.new.list c.requires.listed
-    c.list_cell.ensures.bound
-    c.list_cell.ensures.members (ap number_of is_white) visit)
+    subst (λ (h : Helping). HasListed c.add.new.self h.lent) (sym c.shade.ensures.shaded)
+    (white_listed before c.args.at found c.args.list.now c.add.new.self c.requires.listed
+    c.add.ensures.bound
+    c.add.ensures.members (ap number_of is_white) visit)
 
 pub returns-in-White-clause-shades : goal.returns-in-White-clause-shades
 returns-in-White-clause-shades c =

@@ -13,11 +13,11 @@ returns-in-Some-clause-rests c =
     let before : Helping = c.args.seat.now in
     let place = c.args.room.now.place in
     let fits : c.in-Some.at < 2 ^ 32 = omega arith in
-    found_rests before c.take.new.seat place c.in-Some.at c.args.room.now.list c.list_cell.new.list
+    found_rests before c.take.new.seat place c.in-Some.at c.args.room.now.list c.add.new.self
     (c.take.ensures.took
     ∙ ap (λ (o : Option ℕ). record before { lent = learned before.lent (event.Take 0 place) (word_taken o) })
     c.in-Some.is)
-    fits c.requires.rests c.list_cell.ensures.bound c.list_cell.ensures.members
+    fits c.requires.rests c.add.ensures.bound c.add.ensures.members
 
 pub returns-in-None-clause-rests : goal.returns-in-None-clause-rests
 returns-in-None-clause-rests c =
@@ -32,5 +32,5 @@ returns-in-None-clause-rests c =
 pub returns-in-Some-clause-found : goal.returns-in-Some-clause-found
 returns-in-Some-clause-found c =
     let at : ℕ = c.in-Some.at in
-    let has = (c.list_cell.ensures.members at).1 (inr refl) in
+    let has = (c.add.ensures.members at).1 (inr refl) in
     λ answer empty. none_there at (subst (λ (all : List ℕ). Contains all at) empty has)

@@ -10,8 +10,12 @@ use Rattle.mutator.proofs.fields.set.Goals as goal
 
 pub set_value-requires-clause-shown : goal.set_value-requires-clause-shown
 set_value-requires-clause-shown o c =
-    let (graph, shows) = c.requires.shown in
-    (graph, c.args.v.now, shows_still c.small_word.ensures.same shows, small_given (c.in-Some.ensures.found graph shows))
+    let (graph, shows) = c.requires.shown in (
+      graph,
+      c.args.v.now,
+      shows_still c.small_word.ensures.same shows,
+      small_given (c.in-Some.ensures.found graph shows),
+    )
 
 pub set_value-requires-clause-is : goal.set_value-requires-clause-is
 set_value-requires-clause-is o c =

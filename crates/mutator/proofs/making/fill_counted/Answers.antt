@@ -13,7 +13,7 @@ use Rattle.mutator.proofs.PutWords.{three_in_a_row}
 use Rattle.mutator.proofs.making.fill_counted.Goals as goal
 
 -- the header and the slot for a store or table are put
-two : (c : goal.After-made) → PutsTwo c.args.main.now c.set_header.new.self c.store.new.self c.args.at
+two : (c : goal.After-write_slot) → PutsTwo c.args.main.now c.set_header.new.self c.store.new.self c.args.at
     (header_bits c.args.header) undefined_word
 two c = record {
   one = c.set_header.ensures.written;
@@ -30,8 +30,7 @@ returns-clause-filled c =
     let at = c.args.at in
     let space = main.seat.space in
     let header = header_bits c.args.header in
-    ap (λ (now : Mutator). now.seat) c.made.ensures.same
-    ∙ ap (λ (now : Mutator). now.seat) c.write_slot.ensures.written
+    ap (λ (now : Mutator). now.seat) c.write_slot.ensures.written
     ∙ ap (λ (seat : Seat). record seat { table = slice_set seat.table (at + 2) 0 }) (two_seat (two c))
     ∙ ap (λ (table : List ℕ). record main.seat { table = table })
     (three_in_a_row main.seat.table at header undefined_word 0
@@ -47,7 +46,7 @@ returns-clause-heap c =
     let at = c.args.at in
     let header = header_bits c.args.header in
     let odd : c.odd.result.0 ≡ undefined_word = c.odd.ensures in
-    ap (λ (now : Mutator). heap_words now.seat) c.made.ensures.same ∙ c.write_slot.ensures.heap
+    c.write_slot.ensures.heap
     ∙ ap (λ (words : List ℕ). slice_set words (at + 2) 0)
     (c.store.ensures.heap
     ∙ ap (λ (words : List ℕ). slice_set words (at + 1) c.odd.result.0) c.set_header.ensures.heap
@@ -64,14 +63,15 @@ returns-clause-touches c =
     subst (λ (now : Mutator). Touches next now (touched Touch.Wiped (at + 2) (at + 2 + 1)))
     (sym c.write_slot.ensures.written) (word_touch next (at + 2) 0 (omega (arith, counted.1, c.requires.within))) in
     let ends : at + 2 + 1 ≡ at + 3 = omega arith in
-    subst (λ (now : Mutator). Touches c.args.main.now now (new_touch 3 at)) (sym c.made.ensures.same)
-    (row_touch (two c) c.write_slot.new.self 3
-    (subst (λ to. Touches next c.write_slot.new.self (touched Touch.Wiped (at + 2) to)) ends third))
+    row_touch (two c) c.write_slot.new.self 3
+    (subst (λ to. Touches next c.write_slot.new.self (touched Touch.Wiped (at + 2) to)) ends third)
 
 pub returns-clause-paths : goal.returns-clause-paths
 returns-clause-paths c =
-    ap (λ (now : Mutator). now.paths) (c.made.ensures.same ∙ c.write_slot.ensures.written) ∙ two_paths (two c)
+    ap (λ (now : Mutator). now.paths) c.write_slot.ensures.written
+    ∙ two_paths (two c)
 
 pub returns-clause-young : goal.returns-clause-young
 returns-clause-young c =
-    ap (λ (now : Mutator). now.young) (c.made.ensures.same ∙ c.write_slot.ensures.written) ∙ two_young (two c)
+    ap (λ (now : Mutator). now.young) c.write_slot.ensures.written
+    ∙ two_young (two c)

@@ -1,5 +1,5 @@
 -- The header, the slot for a property store and the other slots are put one after another.
-use Rattle.std.proofs.Common.{◌≡◌, ◌+◌, ℕ, List, sym, ◌∙◌, ap, subst, arith, replicate, length}
+use Rattle.std.proofs.Common.{◌≡◌, ◌+◌, ℕ, List, ◌∙◌, ap, subst, arith, replicate, length}
 use Rattle.std.proofs.lemmas.List.{length-replicate}
 use Rattle.tagged_word.specs.Headers.{header_bits}
 use Rattle.heap_model.specs.Remembered.{Touch}
@@ -12,7 +12,7 @@ use Rattle.mutator.proofs.PutRows.{others_wiped}
 use Rattle.mutator.proofs.making.fill_plain.Goals as goal
 
 -- the header and the slot for a store are put
-two : (c : goal.After-made) → PutsTwo c.args.main.now c.set_header.new.self c.store.new.self c.args.at
+two : (c : goal.After-fill_holes) → PutsTwo c.args.main.now c.set_header.new.self c.store.new.self c.args.at
     (header_bits c.args.header) undefined_word
 two c = record {
   one = c.set_header.ensures.written;
@@ -24,7 +24,7 @@ two c = record {
 }
 
 -- the slots behind them
-abbrev holes : goal.After-made → List ℕ
+abbrev holes : goal.After-fill_holes → List ℕ
 holes c = replicate c.args.cap hole_word
 
 pub returns-clause-filled : goal.returns-clause-filled
@@ -32,8 +32,7 @@ returns-clause-filled c =
     let main = c.args.main.now in
     let space = main.seat.space in
     let long : length (holes c) ≡ c.args.cap = length-replicate c.args.cap hole_word in
-    ap (λ (now : Mutator). now.seat) c.made.ensures.same
-    ∙ row_seat (two c) c.fill_holes.new.self (holes c)
+    row_seat (two c) c.fill_holes.new.self (holes c)
     (omega (
       arith,
       long,
@@ -53,14 +52,15 @@ returns-clause-touches c =
     others_wiped (at + 2) (at + 2 + cap) _ (holes c) (omega (arith, long))
     (omega (arith, counted.0, counted.1, c.requires.within)) c.fill_holes.ensures.filled c.fill_holes.ensures.heap in
     let ends : at + 2 + cap ≡ at + (2 + cap) = omega arith in
-    subst (λ (now : Mutator). Touches c.args.main.now now (new_touch (2 + cap) at)) (sym c.made.ensures.same)
-    (row_touch (two c) c.fill_holes.new.self (2 + cap)
-    (subst (λ to. Touches next c.fill_holes.new.self (touched Touch.Wiped (at + 2) to)) ends rest))
+    row_touch (two c) c.fill_holes.new.self (2 + cap)
+    (subst (λ to. Touches next c.fill_holes.new.self (touched Touch.Wiped (at + 2) to)) ends rest)
 
 pub returns-clause-paths : goal.returns-clause-paths
 returns-clause-paths c =
-    ap (λ (now : Mutator). now.paths) (c.made.ensures.same ∙ c.fill_holes.ensures.filled) ∙ two_paths (two c)
+    ap (λ (now : Mutator). now.paths) c.fill_holes.ensures.filled
+    ∙ two_paths (two c)
 
 pub returns-clause-young : goal.returns-clause-young
 returns-clause-young c =
-    ap (λ (now : Mutator). now.young) (c.made.ensures.same ∙ c.fill_holes.ensures.filled) ∙ two_young (two c)
+    ap (λ (now : Mutator). now.young) c.fill_holes.ensures.filled
+    ∙ two_young (two c)

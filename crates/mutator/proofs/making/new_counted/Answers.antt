@@ -49,7 +49,8 @@ returns g c =
       pages = omega (arith, shows.bounded, root, roots, ap (λ (main : Mutator). main.recorded.bound) same);
     } in
     let makes = makes_first binds in
-    let is = subst (λ shape. IsCountedKind (kind_of_counted g.C.Counted.which) shape (object_of_counted g.C.Counted.which))
+    let is =
+    subst (λ shape. IsCountedKind (kind_of_counted g.C.Counted.which) shape (object_of_counted g.C.Counted.which))
     (sym c.shape.ensures) (is_counted g.C.Counted.which) in
     record {
       carried = λ graph names shows count.

@@ -1,5 +1,5 @@
 -- Both words of a box that is made are no slots.
-use Rattle.std.proofs.Common.{sym, ◌∙◌, subst, arith, to_z, of_z, w64}
+use Rattle.std.proofs.Common.{sym, subst, arith, to_z, of_z, w64}
 use Rattle.write_barrier.specs.MutatorState.{Mutator}
 use Rattle.write_barrier.specs.Recording.{Touches}
 use Rattle.object_cells.specs.Contents.{with_box}
@@ -14,6 +14,6 @@ returns-in-Boxed-clause-touches c =
     let at = c.args.at in
     let v = to_z w64 (of_z w64 c.in-Boxed.v) in
     subst (λ (new : Mutator). Touches old new (content_touch c.args.content at))
-    (sym (c.made.ensures.same ∙ c.make_box.ensures.made))
+    (sym c.make_box.ensures.made)
     (subst (λ (holds : SlotContent). Touches old (with_box old at v) (content_touch holds at)) (sym c.in-Boxed.is)
     (box_touch old at v (omega (arith, c.requires.within c.in-Boxed.v c.in-Boxed.is))))

@@ -1,4 +1,5 @@
-use Rattle.std.proofs.Common.{◌≡◌, ◌+◌, ◌*◌, ◌/◌, ◌<◌, ◌≤◌, List, Bool, length, get_or, set, true, false, arith, subst, sym}
+use Rattle.std.proofs.Common.{◌≡◌, ◌+◌, ◌*◌, ◌/◌, ◌<◌, ◌≤◌, List, Bool, length, get_or, set, true, false, arith, subst}
+use Rattle.std.proofs.Common.{sym}
 use Rattle.std.proofs.Common.{refl, ◌∙◌}
 use Rattle.std.proofs.lemmas.List.{with_items_is, length-set}
 use Rattle.page_space.specs.Sizes.{page_words, pages_most}

@@ -9,5 +9,6 @@ insert-requires c = place_within c.args.homes.now c.in-Some.home c.insertion_ind
 pub returns-in-Some : goal.returns-in-Some
 returns-in-Some c =
     on_ok_weaker c.insert.result
-    (λ is. home_joined c.args.homes.now c.args.made c.in-Some.home c.insertion_index-at.result c.insert.new.self c.in-Some.is
+    (λ is. home_joined c.args.homes.now c.args.made c.in-Some.home c.insertion_index-at.result c.insert.new.self
+    c.in-Some.is
     (search rules) is) c.insert.ensures.ok

@@ -1,7 +1,6 @@
 -- The room behind the copies and then the half that is left are emptied.
-use Rattle.std.proofs.Common.{◌∙◌, ap, subst, arith}
-use Rattle.page_space.specs.Extents.{Space, eden_start}
-use Rattle.remembered_set.specs.Recorded.{Recorded}
+use Rattle.std.proofs.Common.{◌∙◌, subst}
+use Rattle.page_space.specs.Extents.{Space}
 use Rattle.write_barrier.specs.Seats.{heap_words}
 use Rattle.scavenger.specs.Walking.{EmptiesSegments}
 use Rattle.scavenger.proofs.EmptiedSegments.{emptied_all}
@@ -16,8 +15,4 @@ returns-clause-emptied c =
     c.end_copies.ensures.ends (subst Empties c.end_copies.ensures.changes.seat.space c.empty_segments.ensures.empties)
 
 pub returns-clause-recorded : goal.returns-clause-recorded
-returns-clause-recorded c in_pages behind =
-    let first = c.end_copies.ensures.recorded behind in
-    let bound = ap (λ (one : Recorded). one.bound) first in
-    let same = ap (λ (space : Space). eden_start space) c.end_copies.ensures.changes.seat.space in
-    c.empty_segments.ensures.recorded (omega (arith, bound, same, in_pages)) ∙ first
+returns-clause-recorded c behind = c.empty_segments.ensures.recorded ∙ c.end_copies.ensures.recorded behind

@@ -36,14 +36,14 @@ loop-worker-preserved c =
           (put_changes c.start.result 0 c.write.ensures.written c.write.ensures.heap
           (subst (λ (one : Space). c.start.result < marks_start one) (sym changes.seat.space) before));
       free = ap (λ (main : Mutator). main.free) c.write.ensures.written ∙ c.loop-worker.invariant.free;
-      recorded = λ in_pages.
-          let same = c.loop-worker.invariant.recorded in_pages in
+      recorded =
+          let same = c.loop-worker.invariant.recorded in
           let young =
           segment_is_young space c.args.half worker c.start.result c.regions-regions.ensures.within starts in
           let bound = ap (λ (one : Recorded). one.bound) same in
           ap (λ (main : Mutator). main.recorded) c.write.ensures.written
           ∙ wiped_behind c.loop-worker.main.recorded c.start.result (c.start.result + 1)
-          (omega (arith, bound, in_pages, young))
+          (omega (arith, bound, c.addresses_fit.ensures.bounded, young))
           ∙ same;
       empties = empties_more space c.args.half worker c.start.result (heap_words c.args.main.now.seat)
           (heap_words c.loop-worker.main.seat) (heap_words c.write.new.self.seat) c.loop-worker.invariant.empties starts

@@ -1,6 +1,5 @@
 -- The first words of the segments below one are 0.
-use Rattle.std.proofs.Common.{◌≡◌, ◌≤◌}
-use Rattle.page_space.specs.Extents.{eden_start}
+use Rattle.std.proofs.Common.{◌≡◌}
 use Rattle.write_barrier.specs.Seats.{heap_words}
 use Rattle.scavenger.specs.Filling.{ChangesWords}
 use Rattle.scavenger.proofs.EmptiedSegments.{EmptiesBelow}
@@ -10,6 +9,6 @@ abbrev pub invariant-loop-worker : goal.invariant-loop-worker
 invariant-loop-worker l = record {
   changes : ChangesWords l.fn.main l.main;
   free : l.main.free ≡ l.fn.main.free;
-  recorded : l.fn.main.recorded.bound ≤ eden_start l.fn.main.seat.space → l.main.recorded ≡ l.fn.main.recorded;
+  recorded : l.main.recorded ≡ l.fn.main.recorded;
   empties : EmptiesBelow l.fn.main.seat.space l.half l.worker (heap_words l.fn.main.seat) (heap_words l.main.seat);
 }

@@ -87,7 +87,8 @@ loop-offset-preserved c =
           offset slot
           (least_itself (scavenge_offsets cell.layout cell.length) offset there) refl (λ front state place stood.
           w.follow.ensures.followed start all front state place
-          (same_spaces c.args.spaces.now (changes_since begun.scavenging.changes scanned.scavenging.changes) are) stood) in
+          (same_spaces c.args.spaces.now (changes_since begun.scavenging.changes scanned.scavenging.changes) are)
+          stood) in
           rw w.main-is (rw w.worker-is (record {
             scanned = λ start all end are begun. (step start all end are begun).scanned;
             grows = grows_again invariant.grows (step given.start given.all given.end given.are given.scanned).grown;

@@ -16,7 +16,7 @@ scavenge_roots-requires-clause-scavenging c =
     let all = c.args.promote_all in
     let first = comes_first main c.requires.shown.0 c.nursery_mut.result.now c.new-spaces.result all c.regions.result
     c.half-half.result c.clear.new.self.items c.requires.shown.1 c.regions.ensures.within c.used_fits.ensures.is_young
-    c.longest_free-longest.ensures.own c.nursery_mut.ensures.young c.half-half.ensures c.regions.ensures.regions
+    c.free_runs_fit.ensures c.nursery_mut.ensures.young c.half-half.ensures c.regions.ensures.regions
     c.new-spaces.ensures c.clear.ensures.items in
     (main, all, first.are, first.state)
 
@@ -26,7 +26,7 @@ scavenge_recorded-requires-clause-scavenging c =
     let all = c.args.promote_all in
     let first = comes_first main c.requires.shown.0 c.nursery_mut.result.now c.new-spaces.result all c.regions.result
     c.half-half.result c.clear.new.self.items c.requires.shown.1 c.regions.ensures.within c.used_fits.ensures.is_young
-    c.longest_free-longest.ensures.own c.nursery_mut.ensures.young c.half-half.ensures c.regions.ensures.regions
+    c.free_runs_fit.ensures c.nursery_mut.ensures.young c.half-half.ensures c.regions.ensures.regions
     c.new-spaces.ensures c.clear.ensures.items in
     let roots = comes_on first (c.scavenge_roots.ensures.scavenging main all) in
     (main, all, layouts_start main.seat.space, roots.are, roots.state)
@@ -37,7 +37,7 @@ scavenge_recorded-requires-clause-room c =
     let all = c.args.promote_all in
     let first = comes_first main c.requires.shown.0 c.nursery_mut.result.now c.new-spaces.result all c.regions.result
     c.half-half.result c.clear.new.self.items c.requires.shown.1 c.regions.ensures.within c.used_fits.ensures.is_young
-    c.longest_free-longest.ensures.own c.nursery_mut.ensures.young c.half-half.ensures c.regions.ensures.regions
+    c.free_runs_fit.ensures c.nursery_mut.ensures.young c.half-half.ensures c.regions.ensures.regions
     c.new-spaces.ensures c.clear.ensures.items in
     let roots = comes_on first (c.scavenge_roots.ensures.scavenging main all) in
     omega (
@@ -54,7 +54,7 @@ scavenge_copies-requires-clause-scavenging c =
     let all = c.args.promote_all in
     let first = comes_first main c.requires.shown.0 c.nursery_mut.result.now c.new-spaces.result all c.regions.result
     c.half-half.result c.clear.new.self.items c.requires.shown.1 c.regions.ensures.within c.used_fits.ensures.is_young
-    c.longest_free-longest.ensures.own c.nursery_mut.ensures.young c.half-half.ensures c.regions.ensures.regions
+    c.free_runs_fit.ensures c.nursery_mut.ensures.young c.half-half.ensures c.regions.ensures.regions
     c.new-spaces.ensures c.clear.ensures.items in
     let roots = comes_on first (c.scavenge_roots.ensures.scavenging main all) in
     let end = layouts_start main.seat.space in
@@ -68,7 +68,7 @@ scavenge_copies-requires-clause-room c =
     let all = c.args.promote_all in
     let first = comes_first main c.requires.shown.0 c.nursery_mut.result.now c.new-spaces.result all c.regions.result
     c.half-half.result c.clear.new.self.items c.requires.shown.1 c.regions.ensures.within c.used_fits.ensures.is_young
-    c.longest_free-longest.ensures.own c.nursery_mut.ensures.young c.half-half.ensures c.regions.ensures.regions
+    c.free_runs_fit.ensures c.nursery_mut.ensures.young c.half-half.ensures c.regions.ensures.regions
     c.new-spaces.ensures c.clear.ensures.items in
     let roots = comes_on first (c.scavenge_roots.ensures.scavenging main all) in
     let end = layouts_start main.seat.space in
@@ -89,7 +89,7 @@ empty_left-requires-clause-quiet c =
     let all = c.args.promote_all in
     let first = comes_first main c.requires.shown.0 c.nursery_mut.result.now c.new-spaces.result all c.regions.result
     c.half-half.result c.clear.new.self.items c.requires.shown.1 c.regions.ensures.within c.used_fits.ensures.is_young
-    c.longest_free-longest.ensures.own c.nursery_mut.ensures.young c.half-half.ensures c.regions.ensures.regions
+    c.free_runs_fit.ensures c.nursery_mut.ensures.young c.half-half.ensures c.regions.ensures.regions
     c.new-spaces.ensures c.clear.ensures.items in
     let roots = comes_on first (c.scavenge_roots.ensures.scavenging main all) in
     let end = layouts_start main.seat.space in
@@ -104,7 +104,7 @@ empty_left-requires-clause-within c =
     let all = c.args.promote_all in
     let first = comes_first main c.requires.shown.0 c.nursery_mut.result.now c.new-spaces.result all c.regions.result
     c.half-half.result c.clear.new.self.items c.requires.shown.1 c.regions.ensures.within c.used_fits.ensures.is_young
-    c.longest_free-longest.ensures.own c.nursery_mut.ensures.young c.half-half.ensures c.regions.ensures.regions
+    c.free_runs_fit.ensures c.nursery_mut.ensures.young c.half-half.ensures c.regions.ensures.regions
     c.new-spaces.ensures c.clear.ensures.items in
     let roots = comes_on first (c.scavenge_roots.ensures.scavenging main all) in
     let end = layouts_start main.seat.space in
@@ -119,7 +119,7 @@ overflow_sub-progress c =
     let all = c.args.promote_all in
     let first = comes_first main c.requires.shown.0 c.nursery_mut.result.now c.new-spaces.result all c.regions.result
     c.half-half.result c.clear.new.self.items c.requires.shown.1 c.regions.ensures.within c.used_fits.ensures.is_young
-    c.longest_free-longest.ensures.own c.nursery_mut.ensures.young c.half-half.ensures c.regions.ensures.regions
+    c.free_runs_fit.ensures c.nursery_mut.ensures.young c.half-half.ensures c.regions.ensures.regions
     c.new-spaces.ensures c.clear.ensures.items in
     let roots = comes_on first (c.scavenge_roots.ensures.scavenging main all) in
     let end = layouts_start main.seat.space in
@@ -134,7 +134,7 @@ turn-requires c =
     let all = c.args.promote_all in
     let first = comes_first main c.requires.shown.0 c.nursery_mut.result.now c.new-spaces.result all c.regions.result
     c.half-half.result c.clear.new.self.items c.requires.shown.1 c.regions.ensures.within c.used_fits.ensures.is_young
-    c.longest_free-longest.ensures.own c.nursery_mut.ensures.young c.half-half.ensures c.regions.ensures.regions
+    c.free_runs_fit.ensures c.nursery_mut.ensures.young c.half-half.ensures c.regions.ensures.regions
     c.new-spaces.ensures c.clear.ensures.items in
     let roots = comes_on first (c.scavenge_roots.ensures.scavenging main all) in
     let end = layouts_start main.seat.space in
@@ -154,7 +154,7 @@ ended c =
     let all = c.args.promote_all in
     let first = comes_first main c.requires.shown.0 c.nursery_mut.result.now c.new-spaces.result all c.regions.result
     c.half-half.result c.clear.new.self.items c.requires.shown.1 c.regions.ensures.within c.used_fits.ensures.is_young
-    c.longest_free-longest.ensures.own c.nursery_mut.ensures.young c.half-half.ensures c.regions.ensures.regions
+    c.free_runs_fit.ensures c.nursery_mut.ensures.young c.half-half.ensures c.regions.ensures.regions
     c.new-spaces.ensures c.clear.ensures.items in
     let roots = comes_on first (c.scavenge_roots.ensures.scavenging main all) in
     let end = layouts_start main.seat.space in
@@ -162,18 +162,17 @@ ended c =
     (comes_on roots (c.scavenge_recorded.ensures.scavenging main all end)) in
     let copies = comes_on recorded (c.scavenge_copies.ensures.scavenging main all end) in
     let state = comes_to_end recorded.state.changes copies.state in
-    let bound = bound_below copies.state in
     let half_is = c.half-half.ensures ∙ ap (λ (young : Young). young.half) c.nursery_mut.ensures.young in
     has_ended main c.scavenge_copies.new.main c.empty_left.new.main c.new-spaces.result all
     c.scavenge_copies.new.worker.progress c.half-half.result c.nursery_mut-2.result.now c.turn.new.self
     c.regions.ensures.within copies.were half_is state c.empty_left.ensures.emptied c.empty_left.ensures.changes
-    c.empty_left.ensures.free (c.empty_left.ensures.recorded bound.0 bound.1) c.nursery_mut-2.ensures.young
+    c.empty_left.ensures.free (c.empty_left.ensures.recorded (bound_below copies.state)) c.nursery_mut-2.ensures.young
     c.turn.ensures
 
 -- the free runs that are left are apart
 left_apart : (c : goal.After-main-2-1) → AreFree c.empty_left.new.main.free
 left_apart c =
-    subst (λ (rows : List (List Run)). AreFree rows) (sym c.empty_left.ensures.free) c.longest_free-left.ensures.own
+    subst (λ (rows : List (List Run)). AreFree rows) (sym c.empty_left.ensures.free) c.free_runs_fit-2.ensures
 
 pub returns-clause-scavenged : goal.returns-clause-scavenged
 returns-clause-scavenged c =

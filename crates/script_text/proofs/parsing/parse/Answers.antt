@@ -33,5 +33,6 @@ new-requires c =
     ∙ ap (λ names. script_text lines vs names) (sym c.into_names-2.ensures) in
     script_of-IsWellFormed (lines_of c.args.source.now)
     (map stated_shown c.in_ok-stated.stated.items) _ c.in_ok-stated.ensures.stated same
-    (subst (λ names. length names ≤ variable_names_most) (sym c.into_names.ensures) c.in_ok-numbered.ensures.few_variables)
+    (subst (λ names. length names ≤ variable_names_most) (sym c.into_names.ensures)
+    c.in_ok-numbered.ensures.few_variables)
     (subst (λ names. length names ≤ field_names_most) (sym c.into_names-2.ensures) c.in_ok-numbered.ensures.few_fields)

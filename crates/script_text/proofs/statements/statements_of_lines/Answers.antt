@@ -1,4 +1,5 @@
-use Rattle.std.proofs.Common.{◌≡◌, ℕ, ◌+◌, ◌<◌, List, [], ◌∷◌, Result, Bor, length, map, drop, get_or, sym, ap, ◌∙◌, subst}
+use Rattle.std.proofs.Common.{◌≡◌, ℕ, ◌+◌, ◌<◌, List, [], ◌∷◌, Result, Bor, length, map, drop, get_or, sym, ap, ◌∙◌}
+use Rattle.std.proofs.Common.{subst}
 use Rattle.script_text.specs.declared.script.BadScript.{BadScript}
 use Rattle.script_text.specs.Scripts.{NumberedStatement}
 use Rattle.script_text.specs.Gathered.{gathered}

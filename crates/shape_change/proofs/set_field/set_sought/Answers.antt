@@ -17,7 +17,8 @@ pub returns-then-header-lt-PATHS : goal.returns-then-header-lt-PATHS
 returns-then-header-lt-PATHS o c = (
   Err stop.NotPlain,
   c.refused.ensures,
-  not_plain c.args.main.now c.args.object c.args.header c.args.name c.args.value (omega (arith, c.if-header-lt-PATHS.true)),
+  not_plain c.args.main.now c.args.object c.args.header c.args.name c.args.value
+      (omega (arith, c.if-header-lt-PATHS.true)),
 )
 
 pub lookup-requires : goal.lookup-requires

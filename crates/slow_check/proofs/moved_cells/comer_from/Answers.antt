@@ -20,7 +20,12 @@ loop-cell-preserved c =
     c.args.from ≤ cell.at → to_of c.args.moves.now cell.at ≡ Some c.args.now → ⊥ in
     record {
       boundary = c.in-Some.ensures.next.onward;
-      behind = omega (arith, c.loop-cell.invariant.behind, c.in-Some.ensures.next.first.reached, c.in-Some.ensures.ends.0);
+      behind = omega (
+        arith,
+        c.loop-cell.invariant.behind,
+        c.in-Some.ensures.next.first.reached,
+        c.in-Some.ensures.ends.0,
+      );
       none = each_before_more heap None_comes c.loop-cell.at c.in-Some.cell c.requires.rows c.in-Some.ensures.next
           c.loop-cell.invariant.none
           (λ from comes. false≢true (c.if-eq.ensures ∙ rw (c.place_after.ensures, comes)

@@ -20,5 +20,5 @@ returns c =
     c.clear_pages.ensures in
     record {
       swept = sweep_ends begun (c.sweep_regions.ensures c.args.main.now begun from_begin) c.requires.closed
-          c.longest_free-longest.ensures.own;
+          c.free_runs_fit.ensures;
     }

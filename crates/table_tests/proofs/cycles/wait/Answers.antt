@@ -2,9 +2,9 @@
 use Rattle.std.proofs.Common.{ℕ, List, [], Contains, inl, refl, sym, subst, arith}
 use Rattle.mark_laws.specs.Restarts.{HasJoined}
 use Rattle.mark_laws.specs.Runs.{IsSoundAndBorn}
-use Rattle.mark_laws.specs.Types.{MainView}
 use Rattle.mark_world.specs.Cycles.{Cycle, cycle_of}
 use Rattle.shared_table.specs.Changes.{IsContinued, resumed}
+use Rattle.shared_table.specs.declared.overview.Overview.{Overview}
 use Rattle.shared_table.specs.Seats.{Side}
 use Rattle.shared_table.specs.Worlds.{world_at_home}
 use Rattle.table_tests.proofs.cycles.wait.Goals as goal
@@ -19,14 +19,16 @@ has_stayed list =
     record { kept = λ at has. has; new = λ at none. absurd (none_in at none); from = λ at has. inl has }
 
 -- no cell was promoted
-goes_on : (view : MainView) (reached : List ℕ) (made : ℕ) → IsContinued view (cycle_of view reached made)
-goes_on view reached made = record {
+goes_on : (main : Overview) → IsContinued main (cycle_of main.view main.reached main.made)
+goes_on main = record {
   promoted = [];
   unpublished = λ at none has. none_in at none;
-  starts = has_stayed view.starts;
-  born = has_stayed view.born;
-  mine = has_stayed view.mine;
-  sure = has_stayed view.sure;
+  starts = has_stayed main.view.starts;
+  born = has_stayed main.view.born;
+  mine = has_stayed main.view.mine;
+  sure = has_stayed main.view.sure;
+  reached = refl;
+  made = refl;
 }
 
 pub resume_cycle-requires-clause-chosen : goal.resume_cycle-requires-clause-chosen
@@ -34,7 +36,7 @@ resume_cycle-requires-clause-chosen c =
     let same : Side → Cycle = λ side. cycle_of side.main.view side.main.reached side.main.made in (
       same c.pause_cycle.new.self,
       refl,
-      goes_on c.pause_cycle.new.self.main.view c.pause_cycle.new.self.main.reached c.pause_cycle.new.self.main.made,
+      goes_on c.pause_cycle.new.self.main,
       subst (λ (side : Side). IsSoundAndBorn (world_at_home (resumed side.main (same side))))
           (sym c.pause_cycle.ensures.paused) c.pause_cycle.ensures.whole,
     )

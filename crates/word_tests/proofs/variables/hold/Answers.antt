@@ -14,7 +14,8 @@ returns c =
     let put : c.put_pair.new.words ≡ with_root space words c.args.variable c.args.value =
     c.put_pair.ensures
     ∙ ap (λ (word : ℕ). slice_set (slice_set words at word) (at + 1) c.words_of.result.second) c.words_of.ensures.first
-    ∙ ap (λ (word : ℕ). slice_set (slice_set words at (first_word c.args.value)) (at + 1) word) c.words_of.ensures.second
+    ∙ ap (λ (word : ℕ). slice_set (slice_set words at (first_word c.args.value)) (at + 1) word)
+    c.words_of.ensures.second
     in
     record {
       held = put;

@@ -2,11 +2,16 @@
 use Rattle.std.proofs.Common.{◌<◌, arith}
 use Rattle.tagged_word.specs.Shapes.{shapes_most}
 use Rattle.shape_tree.specs.ShapeLayouts.{layout_word}
-use Rattle.write_barrier.proofs.PutLayouts.{both_all, both_more, puts_more, puts_none}
+use Rattle.write_barrier.proofs.PutLayouts.{both_all, both_more, puts_more, puts_none, read_unused}
 use Rattle.write_barrier.proofs.layouts.put_layouts.Goals as goal
 
 pub loop-shape-init : goal.loop-shape-init
 loop-shape-init c = record { changes = puts_none c.args.seat.now; layouts = c.requires.layouts }
+
+pub put_layout-requires-clause-unused : goal.put_layout-requires-clause-unused
+put_layout-requires-clause-unused c =
+    read_unused c.loop-shape.seat.shared c.args.shapes.now c.loop-shape.shape
+    (omega (arith, c.paths-paths.ensures.counted, c.paths-paths.ensures.good.few)) c.loop-shape.invariant.layouts.read
 
 pub loop-shape-preserved : goal.loop-shape-preserved
 loop-shape-preserved c =

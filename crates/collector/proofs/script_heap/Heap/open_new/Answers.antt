@@ -1,4 +1,5 @@
--- No shared table is asked for. A heap that was just opened has a row of free runs for each page, and each cell can be marked.
+-- No shared table is asked for. A heap that was just opened has a row of free runs for each page, and each cell can be
+-- marked.
 use Rattle.std.proofs.Common.{rules, ◌∙◌, false, length, ap, sym}
 use Rattle.std.proofs.lemmas.List.FromFn.{length-map-range_with_len}
 use Rattle.page_space.specs.Extents.{roots_start}

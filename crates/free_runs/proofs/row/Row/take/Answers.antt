@@ -34,7 +34,8 @@ invariant_of-self c =
     let run = c.index-run.result.now in
     let stands : StandsAt runs n place = rw (← c.deref.ensures.value) c.in-Some.ensures in
     let read = c.index-run.ensures in
-    let stays : run.words < longest_in runs → longest_in c.if-run-n.self-inside.runs.items ≡ longest_in runs = λ shorter.
+    let stays : run.words < longest_in runs → longest_in c.if-run-n.self-inside.runs.items ≡ longest_in runs =
+    λ shorter.
     elim c.if-run-n.branch [
       | then-run-n w ↦ rw (w.self-inside-is, w.remove.ensures.by_index.2)
           (whole_keeps_longest runs n place run stands read w.if-run-n.true shorter)

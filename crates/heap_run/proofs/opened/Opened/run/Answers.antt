@@ -10,7 +10,8 @@ run_script-finished-requires-clause-for_heap g c κs within =
 pub returns-clause-finishes : goal.returns-clause-finishes
 returns-clause-finishes g c =
     let ran = c.run_script-finished in
-    let (found, inspected, told, judged) = ran.ensures.finishes in
-    let (finishes, ends) =
-    finishes_unflawed found c.args.self.inspection ran.new.inspection ran.new.heap.main inspected told judged in
-    (ran.new.inspection, finishes, ends)
+    let (found, ended, inspected, told, judged) = ran.ensures.finishes in
+    let (none, finishes, ends) =
+    finishes_unflawed found c.args.self.heap ran.new.heap c.args.self.inspection ran.new.inspection inspected told
+    judged in
+    (ran.new.inspection, ended, none, finishes, ends)

@@ -13,5 +13,5 @@ share_stretch-requires-clause-outside c =
     let within : c.args.from + c.args.count ≤ marks_start own.space = omega (arith, marks, c.requires.within) in
     let room : c.args.to + c.args.count ≤ marks_start own.space = omega (arith, marks, c.requires.room) in
     copied_agrees own c.copy.new.self c.in-Some.side.main
-    (agreed c.self.inside c.in-Some.side c.in-Some.is c.self.invariant) c.count-count.ensures.counted c.args.from
+    (agreed c.self.inside c.in-Some.side c.in-Some.is c.self.invariant) c.words_fit.ensures.counted c.args.from
     c.args.to c.args.count c.copy.ensures within room

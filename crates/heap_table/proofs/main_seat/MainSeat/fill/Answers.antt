@@ -12,5 +12,5 @@ share_stretch-requires-clause-outside c =
     let marks = ap (λ (seat : Seat). marks_start seat.space) c.self.view_is in
     let within : c.args.at + c.args.count ≤ marks_start own.space = omega (arith, marks, c.requires.within) in
     filled_agrees own c.fill.new.self c.in-Some.side.main
-    (agreed c.self.inside c.in-Some.side c.in-Some.is c.self.invariant) c.count-count.ensures.counted c.args.at
+    (agreed c.self.inside c.in-Some.side c.in-Some.is c.self.invariant) c.words_fit.ensures.counted c.args.at
     c.args.count c.args.word c.fill.ensures within

@@ -12,7 +12,7 @@ pub invariant_of-self : goal.invariant_of-self
 invariant_of-self c =
     let own : Own = c.self.inside.own in
     let marks = ap (λ (seat : Seat). marks_start seat.space) c.self.view_is in
-    let counted : length own.words ≡ marks_start own.space = c.count-count.ensures.counted in
+    let counted : length own.words ≡ marks_start own.space = c.words_fit.ensures.counted in
     let behind : eden_start own.space ≤ c.args.at =
     omega (arith, ap (λ (seat : Seat). eden_start seat.space) c.self.view_is, c.requires.own) in
     let within : c.args.at + c.args.count ≤ length own.words = omega (arith, marks, counted, c.requires.within) in

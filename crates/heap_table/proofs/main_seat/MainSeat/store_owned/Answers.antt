@@ -1,7 +1,8 @@
 -- The word goes to both.
-use Rattle.std.proofs.Common.{◌<◌, ap, arith}
+use Rattle.std.proofs.Common.{◌<◌, ◌∙◌, ap, arith, rules}
 use Rattle.page_space.specs.Extents.{eden_start}
 use Rattle.heap_table.specs.Seats.{Seat}
+use Rattle.heap_table.proofs.OwnedSteps.{beside_is, owned_put}
 use Rattle.heap_table.proofs.PutSeats.{agreed, stored_agree}
 use Rattle.heap_table.proofs.main_seat.MainSeat.store_owned.Goals as goal
 
@@ -14,3 +15,11 @@ invariant_of-self c =
           c.args.word _ (agreed c.self.inside c.in-Some.side c.in-Some.is c.self.invariant) c.put_in_page.ensures
           c.store_owned.ensures.stored below;
     }
+
+pub returns-clause-stored : goal.returns-clause-stored
+returns-clause-stored c = search rules
+
+pub returns-clause-put : goal.returns-clause-put
+returns-clause-put c =
+    returns-clause-stored c ∙ owned_put c.args.self.now _ c.args.a c.args.word
+    (beside_is c.self.inside c.args.self.now c.in-Some.side c.self.view_is c.in-Some.is)

@@ -12,7 +12,12 @@ returns c =
     let operands = (statement_shown c.args.statement.now).operands in
     let some = take (length (places_of k)) c.args.statement.now.operands in
     let few : length operands ≤ 3 =
-    omega (arith, few_places k, length-map some shown, length-take (length (places_of k)) c.args.statement.now.operands) in
+    omega (
+      arith,
+      few_places k,
+      length-map some shown,
+      length-take (length (places_of k)) c.args.statement.now.operands,
+    ) in
     let all = three_enter operands _ _ _ _ _ _ _ _ c.in_ok-a.a c.in_ok-b.b c.in_ok-c.c few
     (record {
       variables_are = c.in_ok-a.ensures.variables;

@@ -9,7 +9,8 @@ use Rattle.script_text.proofs.numbering.Numbering.what.Goals as goal
 pub what_of-requires : goal.what_of-requires
 what_of-requires c =
     let k = c.args.statement.now.keyword in
-    subst (AreOfKinds (places_of k)) (sym (ap (λ places. take (length places) c.in_ok-given.given) c.places-count.ensures.all
+    subst (AreOfKinds (places_of k))
+    (sym (ap (λ places. take (length places) c.in_ok-given.given) c.places-count.ensures.all
     ∙ c.in_ok-given.ensures.arguments)) (arguments_of_kinds _ _ (places_of k) _ c.requires.fits.fitting)
 
 pub returns-clause-what : goal.returns-clause-what

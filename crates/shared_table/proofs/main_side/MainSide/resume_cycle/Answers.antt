@@ -21,7 +21,7 @@ compare_exchange_with-requires g c =
             chosen.0,
             subst (λ (v : Side). g.M.Choice.fits c.args.own.now c.args.made v.main chosen.0)
                 (sym c.self.view_is) chosen.1,
-            subst (λ (v : Side). IsContinued v.main.view chosen.0) (sym c.self.view_is) chosen.2,
+            subst (λ (v : Side). IsContinued v.main chosen.0) (sym c.self.view_is) chosen.2,
             subst (λ (v : Side). IsSoundAndBorn (world_at_home (resumed v.main chosen.0)))
                 (sym c.self.view_is) chosen.3,
           ),

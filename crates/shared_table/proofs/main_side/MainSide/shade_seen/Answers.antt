@@ -1,5 +1,6 @@
 -- The load is an event where it finds a cell that is not white.
-use Rattle.std.proofs.Common.{◌≡◌, ◌<◌, ◌∙◌, ◌+◌, ◌-◌, ℕ, Contains, Option, IfSome, length, sym, ap, subst, arith, rules}
+use Rattle.std.proofs.Common.{◌≡◌, ◌<◌, ◌∙◌, ◌+◌, ◌-◌, ℕ, Contains, Option, IfSome, length, sym, ap, subst, arith}
+use Rattle.std.proofs.Common.{rules}
 use Rattle.mark_world.specs.declared.event.Event.TheVariants as event
 use Rattle.shared_table.specs.declared.phase.Phase.TheVariants.{Mark}
 use Rattle.shared_table.specs.declared.overview.Overview.{Overview}
@@ -8,7 +9,8 @@ use Rattle.shared_table.specs.declared.colour.Colour.TheVariants.{Black}
 use Rattle.shared_table.specs.Changes.{MayDo}
 use Rattle.shared_table.specs.Seats.{Side}
 use Rattle.shared_table.specs.Worlds.{overview_of}
-use Rattle.shared_table.proofs.ColourSteps.{shade_left_may, black_is}
+use Rattle.shared_table.proofs.ColourNumbers.{black_is}
+use Rattle.shared_table.proofs.ColourSteps.{shade_left_may}
 use Rattle.shared_table.proofs.main_side.MainSide.shade_seen.Goals as goal
 use Rattle.shared_table.proofs.main_side.MainSide.shade_seen.Goals.{then-found-eq0, else-found-eq0}
 
@@ -41,6 +43,7 @@ returns-clause-mine c =
     elim c.if-found-eq0.branch [
       | then-found-eq0 w ↦ subst Says (sym w.result-is) tt
       | else-found-eq0 w ↦ subst Says (sym w.result-is) (λ own. black_is w.of.result (w.of.ensures
-          ∙ (c.load-found.ensures.2.0 (search rules)).1.mark.mine (subst (λ (i : ℕ). Contains main.view.mine i) (sym cell)
+          ∙ (c.load-found.ensures.2.0 (search rules)).1.mark.mine
+          (subst (λ (i : ℕ). Contains main.view.mine i) (sym cell)
           (subst (λ (v : Side). Contains v.main.view.mine c.args.a) (sym c.self.view_is) own))))
     ]

@@ -6,7 +6,8 @@ use Rattle.shared_table.specs.declared.overview.Overview.{Overview}
 use Rattle.shared_table.specs.Changes.{MayDo}
 use Rattle.shared_table.specs.Seats.{Side}
 use Rattle.shared_table.specs.Worlds.{overview_of}
-use Rattle.shared_table.proofs.ColourSteps.{shade_may, black_is}
+use Rattle.shared_table.proofs.ColourNumbers.{black_is}
+use Rattle.shared_table.proofs.ColourSteps.{shade_may}
 use Rattle.shared_table.proofs.main_side.MainSide.shade_white.Goals as goal
 
 pub compare_exchange-found-requires : goal.compare_exchange-found-requires

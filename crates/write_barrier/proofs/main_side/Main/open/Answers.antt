@@ -27,6 +27,8 @@ invariant_of-main c =
       free = c.in_ok-free.ensures ∙ ap (λ (sizes : Sizes). whole_rows sizes.pages) c.sizes-pages.ensures;
       recorded = c.in_ok-remembered.ensures
           ∙ ap none_of c.sizes-pages.ensures;
+      listed = c.in_ok-grey.ensures.listed;
+      lists = c.in_ok-grey.ensures.bound;
     })
 
 pub start-requires : goal.start-requires
@@ -40,7 +42,12 @@ start-requires c =
       free = c.in_ok-free.ensures ∙ ap (λ (sizes : Sizes). whole_rows sizes.pages) c.sizes-pages.ensures;
       recorded = c.in_ok-remembered.ensures
           ∙ ap none_of c.sizes-pages.ensures;
+      listed = c.in_ok-grey.ensures.listed;
+      lists = c.in_ok-grey.ensures.bound;
     })
+
+pub returns-clause-table : goal.returns-clause-table
+returns-clause-table c = c.start.ensures.table ∙ c.put_layouts.ensures.changes.rest.shared
 
 pub returns-clause-opened : goal.returns-clause-opened
 returns-clause-opened c = started_shows c.start.new.self c.start.ensures.started

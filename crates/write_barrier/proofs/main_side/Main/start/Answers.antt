@@ -9,6 +9,9 @@ pub returns-clause-space : goal.returns-clause-space
 returns-clause-space c =
     c.put_unbound.ensures.changes.seat.space ∙ c.put_gaps.ensures.changes.seat.space ∙ c.requires.changes.seat.space
 
+pub returns-clause-table : goal.returns-clause-table
+returns-clause-table c = c.put_unbound.ensures.changes.seat.shared ∙ c.put_gaps.ensures.changes.seat.shared
+
 pub returns-clause-started : goal.returns-clause-started
 returns-clause-started c =
     let space = c.args.regions.now in

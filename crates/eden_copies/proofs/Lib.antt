@@ -1,0 +1,10 @@
+pub mod KnownCells
+mod Tiles
+mod FewWords
+mod Growing
+mod Stepping
+mod ScannedSlots
+mod CopySteps
+mod DealtSlots
+mod AllTogether
+mod PutTogether

@@ -1,0 +1,12 @@
+-- All that was dealt was followed, and then all slots of the room.
+use Rattle.eden_copies.specs.Eden.{Deal, deal_of}
+use Rattle.eden_copies.proofs.DealtSlots.{ends}
+use Rattle.eden_copies.proofs.worker.Worker.run.Goals as goal
+
+pub returns-clause-copied : goal.returns-clause-copied
+returns-clause-copied g c =
+    let own = c.args.words.now in
+    let deal : Deal = deal_of c.args.recorded.now.slots c.args.first c.args.every in
+    ends own deal c.follow_recorded.new.worker c.scan.new.worker c.follow_recorded.new.seat c.scan.new.seat
+    c.follow_recorded.ensures.dealing.dealt c.scan.ensures.goes
+    (c.scan.ensures.copying deal c.requires.may c.follow_recorded.ensures.dealing.copying)

@@ -1,0 +1,27 @@
+-- The cell is published, and the list stays.
+use Rattle.std.proofs.Common.{◌≡◌, sym, ap, subst, ◌∙◌}
+use Rattle.mark_world.specs.declared.event.Event.TheVariants as event
+use Rattle.mark_world.specs.Steps.{black}
+use Rattle.heap_table.specs.Overviews.{cycle_in, stepped}
+use Rattle.heap_table.specs.Seats.{Seat}
+use Rattle.mark_barrier.specs.CycleSteps.{published}
+use Rattle.mark_barrier.specs.Paid.{IsPaid, StepsTo}
+use Rattle.mark_barrier.proofs.Listed.{publish_paid}
+use Rattle.mark_barrier.proofs.Steps.{publish_steps}
+use Rattle.mark_barrier.proofs.grey_cells.GreyCells.publish.Goals as goal
+
+module _ (c : goal.After-new_black) where
+  made : c.new_black.new.self ≡ stepped c.args.seat.now (event.NewBlack c.args.a) black
+  made = c.new_black.ensures.made ∙ ap (λ (s : Seat). stepped s (event.NewBlack c.args.a) black)
+      c.colour-colour.ensures.same
+
+pub returns-clause-paid : goal.returns-clause-paid
+returns-clause-paid c =
+    subst (λ (s : Seat). IsPaid s c.args.self.now) (sym (made c))
+    (publish_paid c.args.seat.now c.args.self.now c.args.a c.requires.paid)
+
+pub returns-clause-steps : goal.returns-clause-steps
+returns-clause-steps c =
+    let before : Seat = c.args.seat.now in
+    subst (λ (s : Seat). StepsTo before s before.table (published (cycle_in before) c.args.a)) (sym (made c))
+    (publish_steps before c.args.a c.colour-colour.result c.colour-colour.ensures.home)

@@ -1,0 +1,59 @@
+-- The cell that was on the board is listed.
+use Rattle.std.proofs.Common.{◌≡◌, ℕ, Contains, IfSome, Some, sym, ap, subst, ◌∙◌, arith}
+use Rattle.tagged_word.specs.Readings.{reference_in}
+use Rattle.cell_list.specs.Listing.{Listing}
+use Rattle.mark_laws.proofs.MainStays.{born_old}
+use Rattle.mark_laws.proofs.Slots.{some_at}
+use Rattle.mark_world.specs.declared.event.Event.TheVariants as event
+use Rattle.shared_table.specs.Worlds.{world_at_home}
+use Rattle.heap_table.specs.Overviews.{overview, stepped}
+use Rattle.heap_table.specs.Seats.{Seat}
+use Rattle.mark_barrier.specs.Paid.{IsPaid, ListsGrey}
+use Rattle.mark_barrier.proofs.Listed.{none_taken, taken_paid}
+use Rattle.mark_barrier.proofs.grey_cells.GreyCells.take.Goals as goal
+
+-- the seat before the step is the one that was handed over
+taken_is : (now before after : Seat) (place found : ℕ) → before ≡ now
+    → after ≡ stepped before (event.TakeMain place) found → stepped now (event.TakeMain place) found ≡ after
+taken_is now before after place found same taken =
+    sym (taken ∙ ap (λ (s : Seat). stepped s (event.TakeMain place) found) same)
+
+-- the cell that was found is born
+found_born : (now before : Seat) (found at : ℕ) → before ≡ now → reference_in found ≡ Some at
+    → IfSome (reference_in found) (λ at. Contains (overview before).view.born at)
+    → Contains (overview now).view.born at
+found_born now before found at same is born =
+    subst (λ (s : Seat). Contains (overview s).view.born at) same
+    (some_at (Contains (overview before).view.born) (reference_in found) at is born)
+
+pub add-requires : goal.add-requires
+add-requires c =
+    let now : Seat = c.args.seat.now in
+    let is : reference_in c.take_board.result ≡ Some c.in-Some.at = sym c.address.ensures ∙ c.in-Some.is in
+    let born = found_born now c.sound.new.self c.take_board.result c.in-Some.at c.sound.ensures.same is
+    c.take_board.ensures.born in
+    let old = born_old (world_at_home (overview now)) c.sound.ensures.sound c.in-Some.at born in
+    let bound = ap (λ (l : Listing). l.bound) c.self.view_is in
+    omega (arith, old, bound, c.requires.paid.lists.bound)
+
+pub returns-in-Some-clause-paid : goal.returns-in-Some-clause-paid
+returns-in-Some-clause-paid c =
+    let now : Seat = c.args.seat.now in
+    let is : reference_in c.take_board.result ≡ Some c.in-Some.at = sym c.address.ensures ∙ c.in-Some.is in
+    let born = found_born now c.sound.new.self c.take_board.result c.in-Some.at c.sound.ensures.same is
+    c.take_board.ensures.born in
+    subst (λ (s : Seat). IsPaid s c.add.new.self)
+    (taken_is now c.sound.new.self c.take_board.new.self c.args.place c.take_board.result c.sound.ensures.same
+    c.take_board.ensures.taken)
+    (taken_paid now c.self.inside.list c.add.new.self c.in-Some.at
+    (subst (ListsGrey now) (sym c.self.view_is) c.requires.paid.lists) c.add.ensures.bound c.add.ensures.members
+    c.args.place c.take_board.result is c.requires.paid.owed born)
+
+pub returns-in_default-clause-paid : goal.returns-in_default-clause-paid
+returns-in_default-clause-paid c =
+    let now : Seat = c.args.seat.now in
+    subst (λ (s : Seat). IsPaid s c.args.self.now)
+    (taken_is now c.sound.new.self c.take_board.new.self c.args.place c.take_board.result c.sound.ensures.same
+    c.take_board.ensures.taken)
+    (none_taken now c.args.self.now c.args.place c.take_board.result (sym c.address.ensures ∙ c.in_default.is)
+    c.requires.paid)

@@ -1,0 +1,5 @@
+pub mod Model
+pub mod CycleSteps
+pub mod Paid
+pub mod Owing
+pub mod Lending

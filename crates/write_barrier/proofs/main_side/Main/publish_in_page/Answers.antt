@@ -1,0 +1,14 @@
+-- The step may be made in the open cycle.
+use Rattle.std.proofs.Common.{◌≡◌, rules}
+use Rattle.heap_table.specs.Phases.{Mark}
+use Rattle.write_barrier.proofs.CycleSteps.{new_step}
+use Rattle.write_barrier.proofs.main_side.Main.publish_in_page.Goals as goal
+
+pub publish-requires-clause-may : goal.publish-requires-clause-may
+publish-requires-clause-may c =
+    let mark : c.self.inside.seat.phase ≡ Mark = search rules in
+    new_step c.self.inside c.args.self.now c.self.view_is c.self.invariant (record {
+      counted = search rules;
+      shared = c.layouts_fit.ensures.shared mark;
+      long = c.layouts_fit.ensures.counted;
+    }) mark c.args.a c.requires.may_store c.requires.of_page

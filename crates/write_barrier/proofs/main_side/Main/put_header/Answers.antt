@@ -1,0 +1,18 @@
+-- The step may be made in the open cycle.
+use Rattle.std.proofs.Common.{◌≡◌, rules}
+use Rattle.heap_table.specs.Phases.{Mark}
+use Rattle.write_barrier.proofs.CycleSteps.{of_page, header_step}
+use Rattle.write_barrier.proofs.main_side.Main.put_header.Goals as goal
+
+pub store_header-requires-clause-may : goal.store_header-requires-clause-may
+store_header-requires-clause-may c =
+    let mark : c.self.inside.seat.phase ≡ Mark = search rules in
+    header_step c.self.inside c.args.self.now c.self.view_is c.self.invariant (record {
+      counted = search rules;
+      shared = c.layouts_fit.ensures.shared mark;
+      long = c.layouts_fit.ensures.counted;
+    }) mark c.args.a c.args.word c.requires.may_store c.requires.of_page
+
+pub store_header-requires-clause-within : goal.store_header-requires-clause-within
+store_header-requires-clause-within c =
+    of_page c.self.inside c.args.self.now c.args.a c.self.view_is c.self.invariant c.requires.of_page
