@@ -1,3 +1,5 @@
 pub mod Flags
 pub mod Exchanges
 pub mod Pushes
+pub mod Joins
+pub mod Removed

@@ -10,9 +10,9 @@
 
 ghost use Rattle.std.specs.Prelude.{◌≡◌, ◌≢◌, ℕ, ◌+◌, ◌-◌, ◌<◌, ◌≤◌, ◌↔◌, ◌⊎◌, [], if◌then◌else◌, false};
 ghost use Rattle.std.specs.Prelude.{length, slice_get, Some};
-ghost use Rattle.std.specs.Prelude.{slice_index_or, Contains, IsTrue, IfOk, IfNone, MatchOption};
+ghost use Rattle.std.specs.Prelude.{slice_index_or, Contains, IsTrue, IfOk, IfNone, IfSome, MatchOption};
 ghost use Rattle.std.specs.Vec.{vec_capacity};
-ghost use Rattle.cell_list.specs.Listing.{IsListing, pushed};
+ghost use Rattle.cell_list.specs.Listing.{HasJoined, IsListing, pushed};
 
 use std::alloc::Global;
 use std::marker::Model;
@@ -160,6 +160,8 @@ impl CellList {
         requires { place < length self.old.addresses }
         ensures brought { slice_get self.new.addresses place ≡
             slice_get self.old.addresses (length self.old.addresses - 1) }
+        ensures last { slice_get self.new.addresses (length self.old.addresses - 1) ≡
+            slice_get self.old.addresses place }
         ensures before { (other : ℕ) → other < place →
             slice_get self.new.addresses other ≡ slice_get self.old.addresses other }
         ensures members { (at : ℕ) → Contains self.new.addresses at ↔ Contains self.old.addresses at }
@@ -175,12 +177,53 @@ impl CellList {
     pub fn pop(&mut self) -> Option<u32>
         ensures last { MatchOption result
             (self.old.addresses ≡ []) (λ at. self.old ≡ pushed self.new at) }
+        ensures below { IfSome result (λ at. at < self.old.bound) }
+        ensures gone { IfSome result (λ at. ¬ Contains self.new.addresses at) }
         ensures unchanged { IfNone result (self.new ≡ self.old) }
         ensures bound { self.new.bound ≡ self.old.bound }
     {
         let at = self.addresses.pop()?;
         self.listed[at as usize] = false;
         Some(at)
+    }
+
+    /// Lists the addresses of another list, too.
+    pub fn join(&mut self, others: &CellList)
+        requires { others.now.bound ≤ self.old.bound }
+        ensures joined { HasJoined self.old self.new others.now }
+        ensures bound { self.new.bound ≡ self.old.bound }
+    {
+        for place in 0..others.len() {
+            self.add(others.get(place));
+        }
+    }
+
+    /// The place of a listed address.
+    fn place_of(&self, at: u32) -> usize
+        requires { Contains self.now.addresses at }
+        ensures { slice_get self.now.addresses result ≡ Some at }
+    {
+        for place in 0..self.len() {
+            if self.get(place) == at {
+                return place;
+            }
+        }
+        unreachable!()
+    }
+
+    /// Takes the address off the list, if it is listed. The time goes by how many are listed.
+    pub fn remove(&mut self, at: u32)
+        requires { at < self.old.bound }
+        ensures bound { self.new.bound ≡ self.old.bound }
+        ensures members { (other : ℕ) → Contains self.new.addresses other ↔
+            (Contains self.old.addresses other × (other ≢ at)) }
+        ensures few { length self.new.addresses ≤ length self.old.addresses }
+    {
+        if self.contains(at) {
+            let place = self.place_of(at);
+            self.bring(place);
+            self.pop();
+        }
     }
 
     /// No address is listed any more. The time goes by how many there were, if these are few among the

@@ -29,8 +29,8 @@ dead_fills in_rows dead cell words at has free of_page word =
 
 module _ {old new : Heap} {rows : List (List Run)} {graph : Graph} (leaves : LeavesExact old new rows graph) where
   -- a copy has no word that was live
-  copy_was_dead : (copy : Cell) → IsCopy old new copy → IsOfSomeCell old (λ cell. IsLive old (IsRootTarget old) cell.at) copy.at
-      → ⊥
+  copy_was_dead : (copy : Cell) → IsCopy old new copy
+      → IsOfSomeCell old (λ cell. IsLive old (IsRootTarget old) cell.at) copy.at → ⊥
   copy_was_dead copy is live =
       let cell : Cell = live.cell in
       let of_page : copy.at < eden_start old.space =

@@ -37,6 +37,8 @@ exact_is_born opening old new rows graph stays leaves =
           reached_or_made number stays (keeps.reached number at place)
           (nat_lt number (length opening.graph.objects)) refl;
       no_dead_word = λ cell words has used of_page lost at word was. lost (used_is_live leaves.exact has used);
+      words = λ cell before after had has used no_map no_table lost.
+          absurd (lost (used_is_live leaves.exact has used));
       stands = λ cell words has. packed_stands old leaves.exact has (is_free_kind cell.layout.kind) refl;
       filled = dead_fills keeps.shows.whole.rows leaves.dead;
       free = leaves.free;

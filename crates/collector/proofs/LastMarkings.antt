@@ -4,7 +4,7 @@ use Rattle.std.proofs.Common.{arith}
 use Rattle.std.proofs.lemmas.Bool.{false≢true}
 use Rattle.page_space.specs.Extents.{Space, eden_start}
 use Rattle.cycle_state.proofs.PageCells.{page_cell_within}
-use Rattle.cycle_laws.specs.DeadWords.{IsLostWord}
+use Rattle.cycle_laws.specs.LostWords.{IsLostWord}
 use Rattle.cycle_laws.proofs.DeadWords.{live_has_no_dead_word}
 use Rattle.cycle_laws.proofs.ReachedKept.{live_is_kept}
 use Rattle.collector.specs.Born.{Opening, WasDead}
@@ -23,7 +23,7 @@ dead_is_lost opening at was = record {
 
 -- both hold of the last marking
 pub last_markings_are_born : LastMarkingsAreBorn
-last_markings_are_born opening old new cycle dead given marking graph space opened keeps none starts marked = (
+last_markings_are_born opening old new cycle given marking graph space opened keeps none starts marked = (
   (λ number at place among.
       let kept = live_is_kept old cycle given at keeps starts ((marked.live at).0 among) in
       elim (keeps.numbers number at place kept) [
@@ -35,7 +35,8 @@ last_markings_are_born opening old new cycle dead given marking graph space open
       let within = page_cell_within has of_page in
       let below : at < eden_start old.space = omega (arith, within, word.below) in
       let there = subst (λ (one : Space). at < eden_start one) space below in
-      live_has_no_dead_word old cycle given dead cell words at keeps starts none has
+      live_has_no_dead_word old cycle given cell words at keeps starts none has
       (λ free. false≢true (sym used ∙ free)) of_page ((marked.live cell.at).0 among) word
-      (opened.lost.all at there (dead_is_lost opening at was))),
+      (subst (λ all. Contains all at) (sym opened.dead)
+      (opened.opens.dead.all at there (dead_is_lost opening at was)))),
 )

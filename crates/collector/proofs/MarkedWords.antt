@@ -15,7 +15,7 @@ use Rattle.sweeper.proofs.KeptPlaces.{place_of_marked}
 
 module _ {old new : Mutator} {marked : List ℕ} (sweeps : Sweeps old new marked) where
   -- a marked cell stands with the words that it had
-  cell_is_kept : (cell : Cell) (words : List ℕ) → HasCell (heap_of old) cell words → Contains marked cell.at
+  pub cell_is_kept : (cell : Cell) (words : List ℕ) → HasCell (heap_of old) cell words → Contains marked cell.at
       → HasCell (heap_of new) cell words
   cell_is_kept cell words has among =
       let stood = sweeps.moved.stands cell words cell.at has (place_of_marked marked cell.at among) in

@@ -31,7 +31,8 @@ of_row heap row at among used from below =
 
 -- no address of a region behind its used row is
 pub not_behind : (heap : Heap) (row : Row) (at : ℕ) → HasRows heap → Contains (cell_extents heap.space) row.extent
-    → IsUsedRow heap row → row.end ≤ at → at < row.extent.start + row.extent.words → IsOfSomeCell heap (λ cell. Unit {0}) at → ⊥
+    → IsUsedRow heap row → row.end ≤ at → at < row.extent.start + row.extent.words
+    → IsOfSomeCell heap (λ cell. Unit {0}) at → ⊥
 not_behind heap row at rows among used past below of_some =
     let has = of_some.has in
     let own = has.row in
@@ -46,7 +47,8 @@ not_behind heap row at rows among used past below of_some =
     omega (arith, within.1, (one_used_row heap own row has.used used same).end, past, of_cell.below)
 
 -- each address of a page is
-pub of_page : (heap : Heap) (at : ℕ) → HasRows heap → at < eden_start heap.space → IsOfSomeCell heap (λ cell. Unit {0}) at
+pub of_page : (heap : Heap) (at : ℕ) → HasRows heap → at < eden_start heap.space
+    → IsOfSomeCell heap (λ cell. Unit {0}) at
 of_page heap at rows below =
     let page : ℕ = at / page_words in
     let own = row_of (extent_of heap.space (Page page)) rows.are (page_among heap.space page (omega arith)) in

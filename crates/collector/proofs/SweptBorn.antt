@@ -1,6 +1,6 @@
 -- What a sweep of marked cells leaves is what the end of a cycle has to leave.
-use Rattle.std.proofs.Common.{◌≡◌, ℕ, zero, suc, ◌+◌, ◌<◌, ◌≤◌, ◌⊎◌, Bool, true, false, inl, inr, List, Contains}
-use Rattle.std.proofs.Common.{IsTrue, refl, ap, subst, arith}
+use Rattle.std.proofs.Common.{◌≡◌, ◌∙◌, ℕ, zero, suc, ◌+◌, ◌<◌, ◌≤◌, ◌⊎◌, Bool, true, false, inl, inr, List, Contains}
+use Rattle.std.proofs.Common.{IsTrue, refl, sym, ap, subst, arith}
 use Rattle.std.proofs.lemmas.Bool.{cases_lt, false_from_ne_true}
 use Rattle.tagged_word.specs.Cells.{is_free_kind}
 use Rattle.page_space.specs.Extents.{Space, eden_start}
@@ -70,7 +70,8 @@ module _ {old new : Mutator} {marked : List ℕ} {graph : Graph} (sweeps : Sweep
             | inr last ↦
                 let same : cell.at + n ≡ at = omega (arith, last, below) in
                 subst
-                (IsOfSomeCell (heap_of old) (λ one. IsLive (heap_of old) (IsRootTarget (heap_of old)) one.at → ⊥)) same (was_useless was out)
+                (IsOfSomeCell (heap_of old) (λ one. IsLive (heap_of old) (IsRootTarget (heap_of old)) one.at → ⊥))
+                same (was_useless was out)
           ])
         ]
   ]
@@ -111,6 +112,9 @@ swept_is_born opening old new marked graph sweeps born no_dead = record {
       let was = sweeps.used cell words has used in
       no_dead cell was.words at was.had used
       (subst (λ (space : Space). cell.at < eden_start space) sweeps.seat.space of_page) was.among lost word dead;
+  words = λ cell before after had has used no_map no_table lost.
+      let was = sweeps.used cell after has used in
+      let kept = sweeps.others cell before had was.among no_map no_table in sym has.words_are ∙ kept.words_are;
   stands = λ cell words has. may_stand sweeps cell words has (is_free_kind cell.layout.kind) refl;
   filled = sweeps.filled;
   free = sweeps.shows.free;

@@ -19,6 +19,7 @@ use Rattle.heap_model.specs.Showing.{Shows}
 use Rattle.heap_model.specs.Collectable.{IsCollectable}
 use Rattle.heap_model.specs.Remembered.{AreRemembered}
 use Rattle.heap_model.proofs.CellsApart.{cells_apart}
+use Rattle.heap_model.proofs.RowCovers.{stretch_alike}
 use Rattle.heap_model.proofs.RememberedSlots.{ends_in_page}
 use Rattle.heap_moves.specs.Standing.{Stays}
 use Rattle.heap_moves.proofs.AllStands.{shows_for}
@@ -31,11 +32,12 @@ use Rattle.weak_pairs.specs.Pairs.{HasPairsAt}
 use Rattle.ephemeron_clear.specs.Clearing.{Clears}
 use Rattle.sweeper.specs.Swept.{Sweeps, IsOfMarked, IsCellWord, place_if_marked}
 use Rattle.collector.specs.Born.{FreeIsRun}
-use Rattle.collector.specs.MarkSwept.{Ungrants}
-use Rattle.collector.specs.MarkSwept.{MarkedCellsStay, IsBesideMarkedMaps, LeavesMarkedPairs, WasMarked, SweepsMarked}
-use Rattle.collector.proofs.MarkedWords.{pairs_are_kept}
+use Rattle.collector.specs.MarkSwept.{Ungrants, MarkedCellsStay, MarkedWordsStay, IsBesideMarkedMaps}
+use Rattle.collector.specs.MarkSwept.{LeavesMarkedPairs, WasMarked, SweepsMarked}
+use Rattle.collector.proofs.BesideMaps.{cell_beside}
+use Rattle.collector.proofs.MarkedWords.{cell_is_kept, pairs_are_kept}
 use Rattle.collector.proofs.Ungranted.{heap_stays, ungranted_remembered}
-use Rattle.collector.proofs.ClearedHeap.{IsMarked, roots_are_marked, reached_is_marked, marked_is_used}
+use Rattle.collector.proofs.ClearedHeap.{IsMarked, are_maps, roots_are_marked, reached_is_marked, marked_is_used}
 use Rattle.collector.proofs.ClearedHeap.{sweepable, still_collectable, still_shown}
 use Rattle.collector.proofs.SweptObjects.{SweptAfter, marked_cells_stay, used_were_marked, rooms_no_fuller}
 
@@ -148,7 +150,18 @@ module _ {old bare cleared new : Mutator} {graph : Graph} {given maps marked : L
       ∙ steps.clears.takes.stay at (λ map listed.
       let told = (steps.is_marked.told map).0 listed in beside map ((steps.is_marked.live map).1 told.0) told.1)
 
-  -- and of these pairs those with marked keys are left
+  -- a marked cell has the words that it had, where it is neither a weak map nor a table
+  other_words_stay : MarkedWordsStay (heap_of bare) (heap_of new) marked
+  other_words_stay cell words has among no_map no_table =
+      let takes = steps.clears.takes in
+      let same : words_of_cell (heap_of cleared) cell ≡ words_of_cell (heap_of bare) cell =
+      stretch_alike cell.at cell.size (heap_words bare.seat) (heap_words cleared.seat) (λ at from below.
+      takes.stay at (cell_beside steps.is_marked.shows.whole steps.within maps at (are_maps steps.is_marked) has
+      (record { from = from; below = below }) no_table (λ weak. absurd (no_map weak)))) in
+      cell_is_kept steps.sweeps cell words
+      (subst (HasCell (heap_of cleared) cell) (same ∙ has.words_are) (takes.cells.stays cell words has)) among
+
+  -- of the pairs of marked weak maps those with marked keys are left
   pairs_are_left : (map : ℕ) (before : List Pair) → Contains marked map → HasPairsAt (heap_of bare) map before
       → LeavesMarkedPairs (heap_of new) map marked before
   pairs_are_left map before among had =
@@ -279,6 +292,7 @@ module _ {old bare cleared new : Mutator} {graph : Graph} {given maps marked : L
         → slice_get (heap_words new.seat) at ≡ slice_get heap.words at) same_heap words_are_kept;
     pairs = subst (λ (heap : Heap). (map : ℕ) (before : List Pair) → Contains marked map → HasPairsAt heap map before
         → LeavesMarkedPairs (heap_of new) map marked before) same_heap pairs_are_left;
+    others = subst (λ (heap : Heap). MarkedWordsStay heap (heap_of new) marked) same_heap other_words_stay;
     of_cells = subst (λ (heap : Heap). (at : ℕ) → IsCellWord (heap_of new) at → IsCellWord heap at) same_heap
         cell_words_were;
     swept = subst (λ (heap : Heap). (at : ℕ) → at < eden_start heap.space

@@ -1,5 +1,6 @@
 -- What a collection leaves that ends a cycle of marking.
-use Rattle.std.specs.Prelude.{◌≡◌, ℕ, ◌+◌, ◌*◌, ◌<◌, ◌≤◌, ◌⊎◌, Bool, true, false, List, length, IsTrue}
+use Rattle.std.specs.Prelude.{◌≡◌, ◌≢◌, ℕ, ◌+◌, ◌*◌, ◌<◌, ◌≤◌, ◌⊎◌, Bool, true, false, List, length, IsTrue}
+use Rattle.tagged_word.specs.declared.layout.Kind.TheVariants as kind
 use Rattle.tagged_word.specs.Cells.{is_free_kind}
 use Rattle.page_space.specs.Sizes.{page_words}
 use Rattle.page_space.specs.Extents.{eden_start}
@@ -82,6 +83,11 @@ pub record LeavesBorn (opening : Opening) (old new : Heap) (rows : List (List Ru
   pub no_dead_word : (cell : Cell) (words : List ℕ) → HasCell new cell words
       → is_free_kind cell.layout.kind ≡ false → cell.at < eden_start new.space
       → (BelongsToReached new graph cell.at → ⊥) → (at : ℕ) → IsWordOf cell at → WasDead opening at → ⊥
+  -- a cell that is kept, and belongs to nothing that can be reached, has the words that it had, unless it is free, a
+  -- weak map or a weak table
+  pub words : (cell : Cell) (before after : List ℕ) → HasCell old cell before → HasCell new cell after
+      → is_free_kind cell.layout.kind ≡ false → cell.layout.kind ≢ kind.Weak → cell.layout.kind ≢ kind.Table
+      → (BelongsToReached new graph cell.at → ⊥) → after ≡ before
   -- no cell is made that nothing needs; and of the young generation only words of cells that were not live become free
   pub stands : (cell : Cell) (words : List ℕ) → HasCell new cell words → MayStand old new graph cell
   -- what is free in pages is in free runs; these are single free cells that neither overlap nor touch

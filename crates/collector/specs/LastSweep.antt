@@ -11,7 +11,7 @@ use Rattle.live_cells.specs.Exact.{IsWordOf}
 use Rattle.live_cells.specs.Laws.{BelongsToReached}
 use Rattle.mark_world.specs.Cycles.{Cycle}
 use Rattle.cycle_state.specs.Keeping.{IsKept, KeepsClosed}
-use Rattle.cycle_laws.specs.DeadWords.{AreLostWords, KeepsNoWordOf}
+use Rattle.cycle_laws.specs.DeadWords.{KeepsNoDeadWord}
 use Rattle.cycle_laws.specs.Openings.{Opens}
 use Rattle.write_barrier.specs.MutatorState.{Mutator, heap_of}
 use Rattle.ephemeron_mark.specs.Marked.{Marked}
@@ -42,21 +42,21 @@ SweptIsBorn =
     → MarksBorn opening (heap_of old) marked → MarksNoDeadWord opening (heap_of old) (heap_of new) marked graph
     → LeavesBorn opening (heap_of old) (heap_of new) new.free graph
 
--- A cycle that is open opened with this opening, when these words of pages were dead. It has the numbers of the objects
--- that could be reached then, and how many objects there were.
-pub record HasOpenedWith (opening : Opening) (cycle : Cycle) (dead : List ℕ) : Type 0 where
+-- A cycle that is open opened with this opening. It has the numbers of the objects that could be reached then, how many
+-- objects there were, and the words of pages that were dead.
+pub record HasOpenedWith (opening : Opening) (cycle : Cycle) : Type 0 where
   pub first : Cycle
   pub opens : Opens opening.heap opening.graph first
   pub reached : cycle.reached ≡ first.reached
   pub counted : cycle.made ≡ first.made
-  pub lost : AreLostWords opening.heap opening.graph dead
+  pub dead : cycle.dead ≡ first.dead
 
 -- Both are so of a last marking that is given kept cells alone to start at, where what the cycle keeps is closed, and
 -- no kept cell of a page has a word that was dead.
 abbrev pub LastMarkingsAreBorn : Type 0
 LastMarkingsAreBorn =
-    (opening : Opening) (old new : Heap) (cycle : Cycle) (dead given : List ℕ) (marking : Marked) (graph : Graph)
-    → old.space ≡ opening.heap.space → HasOpenedWith opening cycle dead → KeepsClosed old cycle
-    → KeepsNoWordOf old cycle.born dead → ((start : ℕ) → Contains given start → IsKept old cycle.born start)
+    (opening : Opening) (old new : Heap) (cycle : Cycle) (given : List ℕ) (marking : Marked) (graph : Graph)
+    → old.space ≡ opening.heap.space → HasOpenedWith opening cycle → KeepsClosed old cycle
+    → KeepsNoDeadWord old cycle → ((start : ℕ) → Contains given start → IsKept old cycle.born start)
     → IsMarkedFrom old given marking
     → MarksBorn opening old marking.cells × MarksNoDeadWord opening old new marking.cells graph

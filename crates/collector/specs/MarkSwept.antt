@@ -1,5 +1,6 @@
 -- What marking, clearing and sweeping come to, as one call.
 use Rattle.std.specs.Prelude.{◌≡◌, ◌≢◌, ◌+◌, ◌<◌, ◌↔◌, ℕ, false, List, AllPairs, Contains, length, slice_get}
+use Rattle.tagged_word.specs.declared.layout.Kind.TheVariants as kind
 use Rattle.tagged_word.specs.Cells.{is_free_kind}
 use Rattle.page_space.specs.Extents.{eden_start}
 use Rattle.free_runs.specs.FreeRuns.{AreFree}
@@ -77,6 +78,12 @@ MarkedCellsStay old new marked =
     (cell : Cell) (words : List ℕ) → HasCell old cell words → Contains marked cell.at
     → (others : List ℕ) × HasCell new cell others
 
+-- each marked cell that is neither a weak map nor a weak table has the words that it had
+abbrev pub MarkedWordsStay : Heap → Heap → List ℕ → Type 0
+MarkedWordsStay old new marked =
+    (cell : Cell) (words : List ℕ) → HasCell old cell words → Contains marked cell.at
+    → cell.layout.kind ≢ kind.Weak → cell.layout.kind ≢ kind.Table → HasCell new cell words
+
 -- the word is neither the count of a marked weak map nor a word of a pair of its table
 abbrev pub IsBesideMarkedMaps : Heap → List ℕ → ℕ → Type 0
 IsBesideMarkedMaps heap marked word =
@@ -112,6 +119,8 @@ pub record SweepsMarked (old new : Mutator) (marked : List ℕ) (graph : Graph) 
       → slice_get (heap_words new.seat) at ≡ slice_get (heap_words old.seat) at
   pub pairs : (map : ℕ) (before : List Pair) → Contains marked map → HasPairsAt (heap_of old) map before
       → LeavesMarkedPairs (heap_of new) map marked before
+  -- so a marked cell that is neither a weak map nor a weak table has the words that it had
+  pub others : MarkedWordsStay (heap_of old) (heap_of new) marked
   -- free runs have just the words of pages that no marked cell had, in a row for each page; so they have the words of
   -- free cells of pages
   pub swept : (at : ℕ) → at < eden_start old.seat.space

@@ -4,7 +4,8 @@ use Rattle.std.proofs.Common.{◌∷◌, ◌++◌, Option, None, Some}
 use Rattle.std.proofs.Common.{option_map, option_and_then, cond, find, bytes_eq, codes, refl, ap, ap₂, sym}
 use Rattle.std.proofs.Common.{append-nil, append_assoc}
 use Rattle.page_space.specs.declared.sizes.Sizes.{Sizes}
-use Rattle.command_line.specs.Given.{Text, Setting, Given, Kind, valued, named, ends_options, plain, stray, kind_of, unless_any}
+use Rattle.command_line.specs.Given.{Text, Setting, Given, Kind, valued, named, ends_options, plain, stray, kind_of}
+use Rattle.command_line.specs.Given.{unless_any}
 use Rattle.command_line.specs.Given.{given_after, given_by, with_setting, with_positional, is_option_name, is_set}
 use Rattle.command_line.specs.Numbers.{number_or_default}
 use Rattle.command_line.specs.Sizes.{sizes_alone, sizes_of, sizes_by, sizes_from, text_in}

@@ -97,6 +97,7 @@ pub new_joins : (old new : Heap) (cycle : Cycle) (cell : Cell) → eden_start ne
 new_joins old new cycle cell young = record {
   reached = refl;
   counted = refl;
+  dead = refl;
   stays = λ at there. there;
   joined = λ at there. inl there;
   new_born = λ other there. absurd (none_in other there);

@@ -21,7 +21,7 @@ use Rattle.live_cells.specs.Laws.{BelongsToReached}
 use Rattle.mark_world.specs.Cycles.{Cycle}
 use Rattle.cycle_laws.specs.Changes.{JoinsNewCells}
 use Rattle.cycle_laws.specs.Scavenges.{PromotesTo, JoinsPromoted}
-use Rattle.cycle_laws.specs.DeadWords.{KeepsNoWordOf, NoRunHas, GrowsNoRun, WasKeptWord, OpensAvoidingDead}
+use Rattle.cycle_laws.specs.DeadWords.{KeepsNoDeadWord, NoRunHas, GrowsNoRun, WasKeptWord, OpensAvoidingDead}
 use Rattle.cycle_laws.specs.DeadWords.{ChangesAvoidDead, BindingsAvoidDead, NewObjectsAvoidDead, ScavengesAvoidDead}
 use Rattle.cycle_laws.specs.DeadWords.{LiveHasNoDeadWord}
 use Rattle.cycle_laws.proofs.BoundKept.{bound_back, new_joins}
@@ -65,38 +65,40 @@ free_cell_of {rows = rows} are word =
 
 -- a cycle opens so
 pub opens_avoiding_dead : OpensAvoidingDead
-opens_avoiding_dead heap rows graph cycle dead shows are opens lost = record {
+opens_avoiding_dead heap rows graph cycle shows are opens = record {
   cells = λ cell words at has used of_page kept word among.
-      let one = lost at among in
+      let one = opens.dead.each at among in
       let same : cell ≡ one.cell = one_of_word shows.whole.rows has one.has word one.of_cell in
       let belongs = (opens.born cell.at).0 (kept_may_be_blackened heap cycle cell.at kept of_page) in
       one.lost (subst (λ (it : Cell). BelongsToReached heap graph it.at) same belongs);
   runs = λ at word among.
-      let one = lost at among in
+      let one = opens.dead.each at among in
       let free = free_cell_of are word in
       let same : free.cell ≡ one.cell = one_of_word shows.whole.rows free.has one.has free.of_cell one.of_cell in
       one.used (subst (λ (it : Cell). IsTrue (is_free_kind it.layout.kind)) same free.free);
 }
 
--- runs that got no word have none of these
-still_none : (before after : List (List Run)) (dead : List ℕ) → GrowsNoRun before after → NoRunHas before dead
-    → NoRunHas after dead
-still_none before after dead grows none at word among = none at (grows at word) among
+-- runs that got no word have no dead one
+still_none : (before after : List (List Run)) (dead now : List ℕ) → now ≡ dead → GrowsNoRun before after
+    → NoRunHas before dead → NoRunHas after now
+still_none before after dead now same grows none at word among =
+    none at (grows at word) (subst (λ (all : List ℕ). Contains all at) same among)
 
 -- kept cells get none while commands change cells
-cells_keep_none : {old new : Heap} {cycle later : Cycle} {gone came made : List Cell} (dead : List ℕ) → Whole old
+cells_keep_none : {old new : Heap} {cycle later : Cycle} {gone came made : List Cell} → Whole old
     → CellsChange old new gone came made → JoinsNewCells old new cycle later came made
     → ((cell : Cell) (at : ℕ) → Contains came cell → (IsTrue (is_free_kind cell.layout.kind) → ⊥)
     → cell.at < eden_start new.space → IsWordOf cell at → WasKeptWord old cycle.born gone at)
-    → KeepsNoWordOf old cycle.born dead → KeepsNoWordOf new later.born dead
-cells_keep_none {old} {new} {cycle} {came = came} {made = made} dead whole cells joins came_in none cell words at has
-    used of_page kept word among =
+    → KeepsNoDeadWord old cycle → KeepsNoDeadWord new later
+cells_keep_none {old} {new} {cycle} {came = came} {made = made} whole cells joins came_in none cell words at has used
+    of_page kept word among =
+    let was_dead = subst (λ (all : List ℕ). Contains all at) joins.dead among in
     elim (cells.back cell words has) [
       | inl comes ↦ elim (Contains-append_cases came made cell comes) [
         | inl came_there ↦
             let was = came_in cell at came_there used of_page word in
             none was.cell (words_of_cell old was.cell) at (cells.went was.cell was.among) was.used was.of_page was.kept
-            was.of_cell among
+            was.of_cell was_dead
         | inr made_there ↦ (let young = joins.young cell made_there in omega (arith, young, of_page))
       ]
       | inr stood ↦
@@ -108,20 +110,19 @@ cells_keep_none {old} {new} {cycle} {came = came} {made = made} dead whole cells
             stands = refl;
             used = used;
           }) kept in
-          none cell words at stood.0 used below was word among
+          none cell words at stood.0 used below was word was_dead
     ]
 
 -- it goes on so then
 pub changes_avoid_dead : ChangesAvoidDead
-changes_avoid_dead old new before after cycle later gone came made dead whole cells joins came_in grows avoids =
-    record {
-      cells = cells_keep_none dead whole cells joins came_in avoids.cells;
-      runs = still_none before after dead grows avoids.runs;
-    }
+changes_avoid_dead old new before after cycle later gone came made whole cells joins came_in grows avoids = record {
+  cells = cells_keep_none whole cells joins came_in avoids.cells;
+  runs = still_none before after cycle.dead later.dead joins.dead grows avoids.runs;
+}
 
 -- a variable that is bound anew
 pub bindings_avoid_dead : BindingsAvoidDead
-bindings_avoid_dead heap rows variable one cycle dead below whole avoids = record {
+bindings_avoid_dead heap rows variable one cycle below whole avoids = record {
   cells = λ cell words at has.
       avoids.cells cell words at (bound_back variable one below whole has);
   runs = avoids.runs;
@@ -129,27 +130,28 @@ bindings_avoid_dead heap rows variable one cycle dead below whole avoids = recor
 
 -- a young cell that is made
 pub new_objects_avoid_dead : NewObjectsAvoidDead
-new_objects_avoid_dead old new rows variable cell one cycle dead below whole whole_new cells young avoids =
+new_objects_avoid_dead old new rows variable cell one cycle below whole whole_new cells young avoids =
     let joins = new_joins old new cycle cell young in
-    bindings_avoid_dead new rows variable one cycle dead below whole_new (record {
-      cells = cells_keep_none dead whole cells joins (λ other at there. absurd (none_in other there)) avoids.cells;
+    bindings_avoid_dead new rows variable one cycle below whole_new (record {
+      cells = cells_keep_none whole cells joins (λ other at there. absurd (none_in other there)) avoids.cells;
       runs = avoids.runs;
     })
 
 -- kept cells get none over a scavenge that promotes into other words
-scavenges_keep_none : {old new : Heap} {to : ℕ → Option ℕ} {promoted : List ℕ} {cycle later : Cycle} (dead : List ℕ)
+scavenges_keep_none : {old new : Heap} {to : ℕ → Option ℕ} {promoted : List ℕ} {cycle later : Cycle}
     → PromotesTo old new to promoted → JoinsPromoted cycle later promoted
     → ((cell : Cell) (words : List ℕ) (at : ℕ) → HasCell new cell words → Contains promoted cell.at → IsWordOf cell at
-    → Contains dead at → ⊥)
-    → KeepsNoWordOf old cycle.born dead → KeepsNoWordOf new later.born dead
-scavenges_keep_none {old} {new} dead promotes joins avoid none cell words at has used of_page kept word among =
+    → Contains cycle.dead at → ⊥)
+    → KeepsNoDeadWord old cycle → KeepsNoDeadWord new later
+scavenges_keep_none {old} {new} promotes joins avoid none cell words at has used of_page kept word among =
+    let was_dead = subst (λ (all : List ℕ). Contains all at) joins.dead among in
     let from = origin promotes.moved has used in
     let was : Cell = from.was in
     let below = subst (λ (space : Space). cell.at < eden_start space) promotes.moved.space of_page in
     elim (cases_lt was.at (eden_start old.space)) [
       | inr young ↦ elim (promotes.young was.at cell.at young from.stays) [
         | inl still ↦ omega (arith, still, below)
-        | inr came ↦ avoid cell words at has came word among
+        | inr came ↦ avoid cell words at has came word was_dead
       ]
       | inl old_page ↦
           let here : cell.at ≡ was.at = promotes.in_place was.at cell.at old_page from.stays in
@@ -158,18 +160,18 @@ scavenges_keep_none {old} {new} dead promotes joins avoid none cell words at has
           let was_word : IsWordOf was at =
           record { from = omega (arith, word.from, here); below = omega (arith, word.below, here, size) } in
           none was from.words at from.had was_used old_page (kept_back promotes joins cell.at from.had from.stays kept)
-          was_word among
+          was_word was_dead
     ]
 
 -- so it goes on over each
 pub scavenges_avoid_dead : ScavengesAvoidDead
-scavenges_avoid_dead old new to promoted before after cycle later dead promotes into joins avoids = record {
-  cells = scavenges_keep_none dead promotes joins
+scavenges_avoid_dead old new to promoted before after cycle later promotes into joins avoids = record {
+  cells = scavenges_keep_none promotes joins
       (λ cell words at has came word. avoids.runs at (into.taken cell words at has came word)) avoids.cells;
-  runs = still_none before after dead into.left avoids.runs;
+  runs = still_none before after cycle.dead later.dead joins.dead into.left avoids.runs;
 }
 
 -- what is live in the end has none
 pub live_has_no_dead_word : LiveHasNoDeadWord
-live_has_no_dead_word heap cycle given dead cell words at keeps starts none has used of_page live =
+live_has_no_dead_word heap cycle given cell words at keeps starts none has used of_page live =
     none cell words at has used of_page (live_is_kept heap cycle given cell.at keeps starts live)

@@ -11,7 +11,7 @@ use Rattle.heap_model.specs.Showing.{Shows}
 use Rattle.live_cells.specs.Exact.{IsWordOf}
 use Rattle.live_cells.specs.Laws.{BelongsToReached}
 use Rattle.live_cells.proofs.CellLists.{cells_in, cell_among, among_has}
-use Rattle.cycle_laws.specs.DeadWords.{IsLostWord, LostWordsAreListed}
+use Rattle.cycle_laws.specs.LostWords.{IsLostWord, LostWordsAreListed}
 use Rattle.cycle_laws.proofs.Decided.{belongs_decided}
 use Rattle.cycle_laws.proofs.Lists.{IsDecided, some_decided, listed}
 

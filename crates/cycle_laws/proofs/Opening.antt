@@ -23,6 +23,7 @@ use Rattle.cycle_state.specs.Resting.{IsUsedPageCell, Rests}
 use Rattle.cycle_laws.specs.Openings.{CyclesOpen}
 use Rattle.cycle_laws.proofs.Decided.{belongs_decided, number_decided}
 use Rattle.cycle_laws.proofs.Lists.{IsListed, listed}
+use Rattle.cycle_laws.proofs.LostWords.{lost_words_are_listed}
 use Rattle.cycle_laws.proofs.Kept.{kept_cases, born_is_kept}
 use Rattle.cycle_laws.proofs.PagesOnly.{cells_in_pages}
 use Rattle.cycle_laws.proofs.Targets.{cell_there, key_target}
@@ -67,6 +68,7 @@ module _ {heap : Heap} {graph : Graph} (shows : Shows heap graph) (none : heap.s
       sure = [];
       reached = numbers.list;
       made = length graph.objects;
+      dead = (lost_words_are_listed heap graph shows).0;
     }
 
     -- what belongs to such an object is kept
@@ -134,5 +136,6 @@ cycles_open heap graph shows none unused = (
       λ reached. (numbers shows none unused).all number (reach_below graph number reached) reached,
     );
     counted = refl;
+    dead = (lost_words_are_listed heap graph shows).1;
   },
 )

@@ -23,6 +23,7 @@ use Rattle.cycle_state.specs.Keeping.{IsKept, KeepsClosed}
 pub record JoinsNewCells (old new : Heap) (cycle later : Cycle) (came made : List Cell) : Type 0 where
   pub reached : later.reached ≡ cycle.reached
   pub counted : later.made ≡ cycle.made
+  pub dead : later.dead ≡ cycle.dead
   pub stays : (at : ℕ) → Contains cycle.born at → Contains later.born at
   pub joined : (at : ℕ) → Contains later.born at → Contains cycle.born at ⊎ IsNewPlace old at
   pub new_born : (cell : Cell) → Contains came cell → (IsTrue (is_free_kind cell.layout.kind) → ⊥)

@@ -1,4 +1,5 @@
 pub mod Reached
+pub mod LostWords
 pub mod Openings
 pub mod Changes
 pub mod RestsAgain

@@ -15,10 +15,12 @@ use Rattle.live_cells.specs.Laws.{BelongsToReached}
 use Rattle.mark_world.specs.Cycles.{Cycle}
 use Rattle.cycle_state.specs.Cycles.{IsWorldOf}
 use Rattle.cycle_state.specs.Resting.{Rests}
+use Rattle.cycle_laws.specs.LostWords.{AreLostWords}
 
 -- A cycle opens with a heap that shows a graph. The heap rests in it. The cells that count as reached are those that
 -- belong to objects that can be reached, and these are the published ones. The mutator made none black, and is sure of
--- none. The cycle has the numbers of these objects, and how many objects there are.
+-- none. The cycle has the numbers of these objects, how many objects there are, and the words of pages that belong to
+-- nothing that can be reached.
 pub record Opens (heap : Heap) (graph : Graph) (cycle : Cycle) : Type 0 where
   pub rests : Rests heap cycle
   pub born : (at : ℕ) → Contains cycle.born at ↔ BelongsToReached heap graph at
@@ -27,6 +29,7 @@ pub record Opens (heap : Heap) (graph : Graph) (cycle : Cycle) : Type 0 where
   pub sure : cycle.sure ≡ []
   pub reached : (number : ℕ) → Contains cycle.reached number ↔ IsTrue (is_marked (reach graph) number)
   pub counted : cycle.made ≡ length graph.objects
+  pub dead : AreLostWords heap graph cycle.dead
 
 -- a heap that shows a graph and has no young cell opens one
 abbrev pub CyclesOpen : Type 0

@@ -43,6 +43,7 @@ pub record JoinsPromoted (cycle later : Cycle) (promoted : List ℕ) : Type 0 wh
   pub sure : HasJoined cycle.sure promoted later.sure
   pub reached : later.reached ≡ cycle.reached
   pub counted : later.made ≡ cycle.made
+  pub dead : later.dead ≡ cycle.dead
 
 -- then what is kept stays closed
 abbrev pub ScavengesKeepClosed : Type 0

@@ -1,10 +1,10 @@
 //! Laws of a cycle of marking, in the order of their use.
 ghost use Rattle.cycle_laws.specs.Changes.{ChangesKeepClosed, BindingsKeepClosed, NewObjectsKeepClosed};
-ghost use Rattle.cycle_laws.specs.DeadWords.{LostWordsAreListed, OpensAvoidingDead, ChangesAvoidDead};
-ghost use Rattle.cycle_laws.specs.DeadWords.{BindingsAvoidDead, NewObjectsAvoidDead, ScavengesAvoidDead};
-ghost use Rattle.cycle_laws.specs.DeadWords.{LiveHasNoDeadWord};
+ghost use Rattle.cycle_laws.specs.DeadWords.{OpensAvoidingDead, ChangesAvoidDead, BindingsAvoidDead};
+ghost use Rattle.cycle_laws.specs.DeadWords.{NewObjectsAvoidDead, ScavengesAvoidDead, LiveHasNoDeadWord};
 ghost use Rattle.cycle_laws.specs.Ends.{ColouredIsKept, BlackSlotsLeadOn, BlackSlotsLeadToStarts};
 ghost use Rattle.cycle_laws.specs.Ends.{FreePagesAreWhite};
+ghost use Rattle.cycle_laws.specs.LostWords.{LostWordsAreListed};
 ghost use Rattle.cycle_laws.specs.Openings.{CyclesOpen, FirstWorldsAreFresh};
 ghost use Rattle.cycle_laws.specs.OwnCells.{RunsHaveNoUsedWord, OpensWithNoOwnCell, ChangesAvoidOwnCells};
 ghost use Rattle.cycle_laws.specs.OwnCells.{ScavengesAvoidOwnCells};

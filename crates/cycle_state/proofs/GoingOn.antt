@@ -1,14 +1,16 @@
 -- The mutator's lists only grow, and the cells of free starts read on, through each event and along lists of events.
-use Rattle.std.proofs.Common.{◌≡◌, ℕ, ◌≢◌, ◌∙◌, inl, inr, false, min, Option, Some, Contains, IsTrue}
+use Rattle.std.proofs.Common.{◌≡◌, ℕ, ◌<◌, ◌≢◌, ◌∙◌, inl, inr, true, false, min, Option, Some, Contains, IsTrue}
+use Rattle.std.specs.Prelude.{IsSome, slice_set}
 use Rattle.std.proofs.Common.{List, take_all, length, refl, sym, ap, subst, slice_get, slice_index, length-set, arith}
 use Rattle.std.proofs.lemmas.Bool.{cases_eq}
 use Rattle.std.proofs.lemmas.List.Elements.{All-contains, All-contains_itself}
 use Rattle.tagged_word.specs.declared.layout.Kind.TheVariants as kind
 use Rattle.tagged_word.proofs.Cells.{some_same}
 use Rattle.mark_world.specs.declared.event.Event.TheVariants as event
-use Rattle.mark_world.specs.Pages.{OfTarget, is_free, is_head_of, is_inside, page_end, slots_of, target}
+use Rattle.mark_world.specs.Pages.{EachFree, OfTarget, is_free, is_head_of, is_inside, leaves_alone, page_end}
+use Rattle.mark_world.specs.Pages.{slots_of, target}
 use Rattle.mark_world.specs.Steps.{actor}
-use Rattle.mark_world.specs.Conditions.{MayMain, MayStoreHeader}
+use Rattle.mark_world.specs.Conditions.{MayMain, MayStoreHeader, MayStoreOwned}
 use Rattle.mark_world.specs.AfterEvents.{PossibleStep, after, after_all, after_main, after_step}
 use Rattle.mark_world.specs.AfterEvents.{moment}
 use Rattle.mark_world.specs.Coverage.{cell_of}
@@ -29,6 +31,7 @@ use Rattle.mark_laws.proofs.SafeChanges.{header_widens}
 use Rattle.mark_laws.proofs.SamePages.{SamePages, helper_pages, return_pages, same_cells}
 use Rattle.mark_laws.proofs.Slots.{outside_no_head}
 use Rattle.mark_laws.proofs.SoundRuns.{whole_along}
+use Rattle.mark_laws.proofs.Starts.{value_of}
 use Rattle.mark_laws.proofs.Stores.{header_laid, stored}
 use Rattle.cycle_state.specs.Claims.{ReadsOn, GoesOn}
 use Rattle.cycle_state.specs.ClaimLaws.{GoesOnItself, GoesOnAgain, EventsGoOn, GoesOnAlong, MomentsGoOn, TargetsGoOn}
@@ -229,3 +232,23 @@ targets_go_on world next word goes = (
   grown_target world.old next.old word world.main.born next.main.born goes.old goes.grows.born,
   grown_target world.old next.old word world.main.sure next.main.sure goes.old goes.grows.sure,
 )
+
+-- A word that no helper visits by is still one once another such word was stored: each cell of a free start reads as
+-- before.
+pub owned_still : (world : World) (at word other : ℕ)
+    → EachFree world.main (λ start. IsSome (cell_of world start))
+    → MayStoreOwned world.old world.words world.layouts world.main at
+    → MayStoreOwned world.old world.words world.layouts world.main other
+    → MayStoreOwned world.old (slice_set world.words at word) world.layouts world.main other
+owned_still world at word other reads may next = record {
+  place = subst (λ (n : ℕ). other < n) (sym (length-set world.words at word)) next.place;
+  alone = elim next.alone [
+    | inl behind ↦ inl behind
+    | inr each ↦ inr (λ start free.
+        let (cell, is) = value_of (cell_of world start) (reads start free) in
+        subst (λ (c : Option Reading). leaves_alone start c other ≡ true)
+        (is ∙ sym (store_keeps world.words world.layouts start (min world.old (page_end start)) at word cell is
+        (owned_no_head world at start free cell is may.alone)))
+        (each start free))
+  ];
+}

@@ -26,7 +26,7 @@ use Rattle.eden_copies.proofs.Tiles.{tile_within}
 use Rattle.eden_copies.proofs.Growing.{slot_below}
 
 -- what one of the lists has, all have
-flat_in : {X A : Type 0} (f : X → List A) (xs : List X) (x : X) (a : A) → Contains xs x → Contains (f x) a
+pub flat_in : {X A : Type 0} (f : X → List A) (xs : List X) (x : X) (a : A) → Contains xs x → Contains (f x) a
     → Contains (flat_map f xs) a
 flat_in f [] x a has there = absurd (none_in x has)
 flat_in f (y ∷ ys) x a has there =

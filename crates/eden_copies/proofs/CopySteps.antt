@@ -1,5 +1,5 @@
 -- A worker follows a slot of one of its copies.
-use Rattle.std.proofs.Common.{◌≡◌, ◌∙◌, ℕ, ◌+◌, ◌<◌, ◌≤◌, List, [], ◌∷◌}
+use Rattle.std.proofs.Common.{◌≡◌, ◌∙◌, ℕ, ◌+◌, ◌-◌, ◌<◌, ◌≤◌, Bool, if◌then◌else◌, set, List, [], ◌∷◌}
 use Rattle.std.proofs.Common.{◌++◌, length, take, get_or, refl, sym, ap, subst, arith}
 use Rattle.std.specs.List.{Contains}
 use Rattle.std.proofs.lemmas.List.{take_more, take-append-le, take_all}
@@ -10,8 +10,8 @@ use Rattle.shared_table.specs.Owned.{Own}
 use Rattle.scav_copy.specs.declared.places.Home.{Home}
 use Rattle.claims.specs.Sides.{SeatSide}
 use Rattle.eden_copies.specs.Eden.{Deal, word_at, size_in, slots_in, IsLed, MayCopy, RefersToEden}
-use Rattle.eden_copies.specs.Sides.{WorkerSide, end_of, with_slot}
-use Rattle.eden_copies.specs.Steps.{HasScanned, MayFollow}
+use Rattle.eden_copies.specs.Sides.{WorkerSide, end_of, is_of_survivor, with_slot}
+use Rattle.eden_copies.specs.Steps.{HasFollowed, HasScanned, MayFollow}
 use Rattle.eden_copies.specs.Copied.{GoesOn, IsCopying}
 use Rattle.eden_copies.proofs.KnownCells.{eden_before_marks}
 use Rattle.eden_copies.proofs.Tiles.{words_of, tiles_fill, tile_at}
@@ -24,6 +24,19 @@ pub in_more : (old new : WorkerSide) (before behind : SeatSide) (home : Home) �
 in_more old new before behind home goes has =
     subst (λ (homes : List Home). Contains homes home) (sym goes.copies)
     (Contains-append_left old.copies goes.more home has)
+
+-- a worker that went on, and then put a slot, went on
+goes_by_slot : (own : Own) (old new : WorkerSide) (before behind : SeatSide) (from to now : ℕ)
+    → GoesOn old new before behind → GoesOn old (with_slot own new from to now) before behind
+goes_by_slot own old new before behind from to now goes = record {
+  most = goes.most;
+  start = goes.start;
+  more = goes.more;
+  copies = goes.copies;
+  table = goes.table;
+  round = goes.round;
+  seen = goes.seen;
+}
 
 -- what following a slot leaves
 pub record Scanned (own : Own) (deal : Deal) (front : ℕ) (old new : WorkerSide) (before behind : SeatSide) : Type 0
@@ -76,16 +89,53 @@ module _ (own : Own) (deal : Deal) (home : Home) (offset : ℕ) (worker : Worker
       subst (λ (w : WorkerSide). Scanned own deal next worker w seat behind) (sym has.slot) (record {
         copying = puts_slot own deal home offset has.middle behind step.copying there low next is_next visited has.now
             step.followed;
-        goes = record {
-          most = step.goes.most;
-          start = step.goes.start;
-          more = step.goes.more;
-          copies = step.goes.copies;
-          table = step.goes.table;
-          round = step.goes.round;
-          seen = step.goes.seen;
-        };
+        goes = goes_by_slot own worker has.middle seat behind (home.from + offset) (home.to + offset) has.now step.goes;
       })
+
+-- What is known of a slot of a copy to which a worker has come: it may be followed and left.
+pub record AtSlot (own : Own) (home : Home) (offset : ℕ) (worker : WorkerSide) (seat : SeatSide) : Type 0 where
+  pub there : home.from + offset < marks_start own.space
+  pub inside : home.to + offset < end_of worker
+  pub few : length worker.left < worker.most
+  pub fits : length worker.room ≤ worker.most
+  pub may : Contains (slots_in own home.from) offset → MayFollow own worker seat (word_at own (home.from + offset))
+
+-- so it is where the worker began with the copy
+pub at_slot : (own : Own) (deal : Deal) (home : Home) (offset : ℕ) (first worker : WorkerSide)
+    (before seat : SeatSide) → MayCopy own deal → length own.words ≡ marks_start own.space
+    → first.most ≡ own.space.sizes.young → GoesOn first worker before seat
+    → IsCopying own deal (home.to + offset) worker seat → Contains first.copies home
+    → offset < size_in own home.from → AtSlot own home offset worker seat
+at_slot own deal home offset first worker before seat may counted young goes copying had low =
+    let most : worker.most ≡ own.space.sizes.young = goes.most ∙ young in
+    let among : Contains worker.copies home = in_more first worker before seat home goes had in
+    record {
+      there = word_there own deal home offset worker seat may counted most copying among low;
+      inside = (slot_within own deal home offset worker seat copying among low (home.to + offset + 1) refl).1;
+      few = left_fits own deal home offset worker seat may counted most copying among low;
+      fits = room_fits own deal (home.to + offset) worker seat may counted most copying;
+      may = may_scan own deal home offset worker seat may counted most copying among low;
+    }
+
+-- a slot was followed whose word is known, and it was told whether that refers to a survivor
+pub slot_scanned : (own : Own) (old middle new : WorkerSide) (before behind : SeatSide) (from to word now : ℕ)
+    (survives : Bool) → word_at own from ≡ word → HasFollowed own old middle before behind word now
+    → is_of_survivor own word ≡ survives
+    → new ≡ record middle {
+      room = set middle.room (to - middle.start) now;
+      left = if survives then middle.left ++ to ∷ [] else middle.left;
+    }
+    → HasScanned own old new before behind from to
+slot_scanned own old middle new before behind from to word now survives is followed told made = record {
+  now = now;
+  middle = middle;
+  followed = subst (λ (one : ℕ). HasFollowed own old middle before behind one now) (sym is) followed;
+  slot = made
+      ∙ ap (λ (test : Bool). record middle {
+        room = set middle.room (to - middle.start) now;
+        left = if test then middle.left ++ to ∷ [] else middle.left;
+      }) (sym (ap (is_of_survivor own) is ∙ told));
+}
 
 -- the address behind the first copies, so many
 abbrev pub front_at : Own → WorkerSide → ℕ → ℕ

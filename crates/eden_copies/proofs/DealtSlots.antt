@@ -1,5 +1,5 @@
 -- What following the slots that are dealt leaves of what a worker has done.
-use Rattle.std.proofs.Common.{◌≡◌, ◌≢◌, ◌∙◌, ℕ, ◌+◌, ◌*◌, ◌%◌, ◌<◌, ◌≤◌, inl, inr, List, [], length, map, get_or}
+use Rattle.std.proofs.Common.{◌≡◌, ◌≢◌, ◌∙◌, ℕ, ◌+◌, ◌-◌, ◌*◌, ◌%◌, ◌<◌, ◌≤◌, inl, inr, List, [], length, map, get_or}
 use Rattle.std.proofs.Common.{Some, refl, sym, ap, subst, arith}
 use Rattle.std.specs.List.{Contains, range_with_len, slice_get}
 use Rattle.std.proofs.lemmas.Bool.{cases_lt}
@@ -40,6 +40,15 @@ root_slot space recorded variable inside =
 pub root_there : (space : Space) (variable : ℕ) → variable < space.variables
     → roots_start space + root_words * variable < marks_start space
 root_there space variable inside = omega (arith, layouts_start_is space, marks_start_is space, inside)
+
+-- where a variable stands at the lent words, by what their regions tell
+pub root_found : (own : Own) (told : Space) (variable end slot : ℕ) → told ≡ own.space → variable < end
+    → end ≡ told.variables → slot ≡ roots_start told + root_words * variable
+    → (variable < own.space.variables) × (slot ≡ roots_start own.space + root_words * variable)
+root_found own told variable end slot same below ends at = (
+  omega (arith, below, ends, ap (λ (space : Space). space.variables) same),
+  at ∙ ap (λ (space : Space). roots_start space + root_words * variable) same,
+)
 
 -- a recorded slot stands behind those of the variables
 pub recorded_slot : (space : Space) (recorded : List ℕ) (k slot : ℕ) → k < length recorded
@@ -103,6 +112,27 @@ next_is recorded from count slot split ascends next =
                 (there, ap (λ (n : ℕ). get_or slots n 0) (sym here) ∙ at)
           ]
     ]
+
+-- the next recorded slot, among all slots outside eden
+pub record IsNextOuter (own : Own) (recorded : Recorded) (number slot : ℕ) : Type 0 where
+  pub inside : number - own.space.variables < length recorded.slots
+  pub is : get_or recorded.slots (number - own.space.variables) 0 ≡ slot
+  pub stands : slice_get (outer_slots own.space recorded.slots) number ≡ Some slot
+
+-- it has its number there
+pub next_outer : (own : Own) (recorded : Recorded) (from number slot : ℕ)
+    → AreSplit recorded.slots from (number - own.space.variables) → IsAscending recorded.slots
+    → IsNextRecorded recorded from slot → own.space.variables ≤ number → IsNextOuter own recorded number slot
+next_outer own recorded from number slot split ascends next behind =
+    let count : ℕ = number - own.space.variables in
+    let found = next_is recorded from count slot split ascends next in
+    let here : own.space.variables + count ≡ number = omega (arith, behind) in
+    record {
+      inside = found.0;
+      is = found.1;
+      stands = subst (λ (n : ℕ). slice_get (outer_slots own.space recorded.slots) n ≡ Some slot) here
+          (recorded_slot own.space recorded.slots count slot found.0 found.1);
+    }
 
 -- behind it one more is below the address
 pub split_behind : (slots : List ℕ) (from count slot : ℕ) → AreSplit slots from count → IsAscending slots

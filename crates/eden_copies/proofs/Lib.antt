@@ -6,5 +6,5 @@ mod Stepping
 mod ScannedSlots
 mod CopySteps
 mod DealtSlots
-mod AllTogether
-mod PutTogether
+pub mod AllTogether
+pub mod PutTogether

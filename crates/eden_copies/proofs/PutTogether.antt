@@ -25,7 +25,7 @@ use Rattle.eden_copies.specs.Sides.{end_of, room_word}
 use Rattle.eden_copies.specs.Steps.{cell_claim}
 use Rattle.eden_copies.specs.Copied.{claim_for, AreOfOneEach}
 use Rattle.eden_copies.specs.Together.{Finished, homes_of, claims_of, whole_deal, HaveCopied, AreCopiedOnce}
-use Rattle.eden_copies.specs.PutBack.{fixed_of, in_order, IsOfRoom, ArePartOf, ArePutBack, WorkersAreCopying}
+use Rattle.eden_copies.specs.PutBack.{fixed_of, in_order, ArePartOf, ArePutBack, WorkersAreCopying}
 use Rattle.eden_copies.proofs.Tiles.{tile_within, one_tile}
 use Rattle.eden_copies.proofs.FewWords.{ordered_in}
 use Rattle.eden_copies.proofs.Growing.{slot_below}
@@ -79,7 +79,7 @@ apart_each own (home ∷ homes) apart = (
 )
 
 -- a cell has one of these copies or none
-find_home : (homes : List Home) (cell : ℕ)
+pub find_home : (homes : List Home) (cell : ℕ)
     → ((home : Home) × Contains homes home × (home.from ≡ cell)) ⊎ HasNoHome homes cell
 find_home [] cell = inr (λ home has. absurd (none_in home has))
 find_home (home ∷ homes) cell =
@@ -119,7 +119,7 @@ module _ (own : Own) (cells slots : List ℕ) (rooms : List Room) where
 
   module _ (recorded : List ℕ) (all : List Finished) (words : List ℕ) (laid : IsLaidOut fixed)
       (may : MayCopy own (whole_deal recorded)) (have : HaveCopied own recorded all)
-      (part : ArePartOf own recorded all fixed) (put : ArePutBack own all words) where
+      (part : ArePartOf own recorded all fixed) (put : ArePutBack own all fixed words) where
     once : AreCopiedOnce own recorded all
     once = workers_copy_once own recorded all may have
 
@@ -162,12 +162,6 @@ module _ (own : Own) (cells slots : List ℕ) (rooms : List Room) where
         put.rooms at.one (home.to + offset) at.among
         (record { from = omega (arith, at.from); below = omega (arith, at.ends, low) })
 
-    -- a worker's room lies in rooms
-    in_rooms : (one : Finished) (at : ℕ) → Contains all one → IsOfRoom one.worker at → IsInRooms fixed at
-    in_rooms one at among is =
-        let (room, has, from, to) = part.rooms one among in
-        (room, has, record { from = omega (arith, from, is.from); below = omega (arith, to, is.below) })
-
     -- a cell that was copied is one of the cells
     home_cell : (home : Home) → Contains (homes_of all) home → Contains cells home.from
     home_cell home has = part.cells home.from (once.led home has)
@@ -175,7 +169,7 @@ module _ (own : Own) (cells slots : List ℕ) (rooms : List Room) where
     -- a word that is in no room and no header of a cell that was copied is as before
     unchanged : (at : ℕ) → (IsInRooms fixed at → ⊥) → ((home : Home) → Contains (homes_of all) home → home.from ≢ at)
         → slice_index words at ≡ word_at own at
-    unchanged at apart other = put.others at (λ one among is. apart (in_rooms one at among is)) other
+    unchanged at apart other = put.others at apart other
 
     -- the header of a cell
     header : (cell : ℕ) → Contains cells cell → HasHeader fixed words (in_order (homes_of all)) cell

@@ -6,7 +6,7 @@ use Rattle.shared_table.specs.Owned.{Own}
 use Rattle.cell_layout.specs.Cells.{layouts_in}
 use Rattle.scav_copy.specs.declared.places.Home.{Home}
 use Rattle.scav_copy.specs.declared.places.Room.{Room}
-use Rattle.scav_copy.specs.Places.{Fixed, IsLaidOut}
+use Rattle.scav_copy.specs.Places.{Fixed, IsInRooms, IsLaidOut}
 use Rattle.scav_copy.specs.Copies.{Copying, with_home}
 use Rattle.eden_copies.specs.Eden.{outer_slots, IsLed, MayCopy}
 use Rattle.eden_copies.specs.Sides.{WorkerSide, end_of, room_word}
@@ -37,14 +37,14 @@ pub record ArePartOf (own : Own) (recorded : List ℕ) (all : List Finished) (fi
   pub apart : (one other : Finished) (at : ℕ) → Contains all one → Contains all other → IsOfRoom one.worker at
       → IsOfRoom other.worker at → one ≡ other
 
--- The words after the rooms were put where their words stand, and into the header of each cell that was copied the
--- reference to its copy; the others are as before.
-pub record ArePutBack (own : Own) (all : List Finished) (words : List ℕ) : Type 0 where
+-- The words after the workers' rooms were put where their words stand, and into the header of each cell that was copied
+-- the reference to its copy. Another word of a room that copies may fill may be any; the others are as before.
+pub record ArePutBack (own : Own) (all : List Finished) (fixed : Fixed) (words : List ℕ) : Type 0 where
   pub long : length words ≡ length own.words
   pub rooms : (one : Finished) (at : ℕ) → Contains all one → IsOfRoom one.worker at
       → slice_index words at ≡ room_word one.worker at
   pub headers : (home : Home) → Contains (homes_of all) home → slice_index words home.from ≡ bits_of (Ref home.to)
-  pub others : (at : ℕ) → ((one : Finished) → Contains all one → IsOfRoom one.worker at → ⊥)
+  pub others : (at : ℕ) → (IsInRooms fixed at → ⊥)
       → ((home : Home) → Contains (homes_of all) home → home.from ≢ at)
       → slice_index words at ≡ slice_index own.words at
 
@@ -58,5 +58,6 @@ abbrev pub WorkersAreCopying : Type 0
 WorkersAreCopying =
     (own : Own) (recorded cells slots : List ℕ) (rooms : List Room) (all : List Finished) (words : List ℕ)
     → IsLaidOut (fixed_of own cells slots rooms) → MayCopy own (whole_deal recorded) → HaveCopied own recorded all
-    → ArePartOf own recorded all (fixed_of own cells slots rooms) → ArePutBack own all words
+    → ArePartOf own recorded all (fixed_of own cells slots rooms)
+    → ArePutBack own all (fixed_of own cells slots rooms) words
     → Copying (fixed_of own cells slots rooms) words (in_order (homes_of all))

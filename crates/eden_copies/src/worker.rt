@@ -67,6 +67,20 @@ impl Worker {
         })
     }
 
+    /// How many words its room may have.
+    pub fn most(&self) -> u32
+        ensures { result ≡ self.now.most }
+    {
+        self.most
+    }
+
+    /// The address that the first word of its room stands for.
+    pub fn start(&self) -> u32
+        ensures { result ≡ self.now.start }
+    {
+        self.start
+    }
+
     /// The words of its room.
     pub fn room(&self) -> &[u64]
         ensures { result.now ≡ self.now.room }
@@ -99,7 +113,7 @@ impl Worker {
     }
 
     /// The address behind the last word of its room.
-    pub(crate) fn end(&self) -> u32
+    pub fn end(&self) -> u32
         requires { end_of self.now ≤ u32.MAX }
         ensures { result ≡ end_of self.now }
     {

@@ -1,7 +1,7 @@
 pub mod LiveStands
 pub mod LiveAgain
 mod GrownLists
-mod CellSlots
+pub mod CellSlots
 mod SlotEnds
 mod LastPairs
 mod AddedPairs

@@ -78,13 +78,15 @@ const WRITING: [(&[u8], &[u8]); 9] = [
     (
         b"new x 2\nset x a 1073741823\nshape x\nset x a 1073741824\nshape x\nset x a x\nshape x\n\
          set x a -9223372036854775808\nshape x\nget y x a\nprint y",
-        b"cap 2 a:small\ncap 2 a:wide\ncap 2 a:tagged\ncap 2 a:tagged\n-9223372036854775808\n1----- 1 0\nobjects 1 entries 0\n",
+        b"cap 2 a:small\ncap 2 a:wide\ncap 2 a:tagged\ncap 2 a:tagged\n-9223372036854775808\n\
+          1----- 1 0\nobjects 1 entries 0\n",
     ),
     // A field that is taken out leaves its place.
     (
         b"new x 3\nset x a 1\nset x b 5000000000\nset x c x\ndel x b\nget y x a\nprint y\n\
          get y x b\nprint y\nget y x c\nprint y\nshape x\nset x b 7\nshape x",
-        b"1\nundefined\nobject 0\ncap 3 a:small c:tagged\ncap 3 a:small c:tagged b:small\n1----- 1 0\nobjects 1 entries 0\n",
+        b"1\nundefined\nobject 0\ncap 3 a:small c:tagged\ncap 3 a:small c:tagged b:small\n\
+          1----- 1 0\nobjects 1 entries 0\n",
     ),
     (
         b"new x 0\nnew y 0\nnew z 1\nalike x y\nalike x z\nsame x x\nsame x y\nsame 3 3",

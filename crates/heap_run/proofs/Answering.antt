@@ -80,7 +80,8 @@ reads-comes words input _ (Comes.no_memory begins read) check these wants = tt
 reads-comes words input _ (Comes.read_fault checks sizes asks rose) check these wants = tt
 reads-comes words input _ (Comes.too_long checks sizes asks many) check these wants = tt
 reads-comes words input _ (Comes.no_script checks sizes bytes stop line asks reads is refusal) check these wants = tt
-reads-comes words input _ (Comes.ended checks sizes bytes script kept came asks reads is keeps comes judged need) check these
+reads-comes words input _ (Comes.ended checks sizes bytes script kept came asks reads is keeps comes judged need)
+    check these
     wants =
     reads.none_left
 reads-comes words input _ (Comes.cut_short checks sizes bytes script kept asks reads is keeps line need none due) check
@@ -93,7 +94,8 @@ reads-comes words input _ (Comes.soaked sizes seed forms script kept came asks u
     no_soak words check these sizes seed forms wants asks
 
 -- the status of the end of a script
-opened-ended : (checks : Bool) (script : ScriptText) (heap : Heap) (rows : List (List FreeRun)) (collections : Collections)
+opened-ended : (checks : Bool) (script : ScriptText) (heap : Heap) (rows : List (List FreeRun))
+    (collections : Collections)
     (n : ℕ) (so_far : Told) (came : How) (line : ℕ) → EndsRun checks script heap rows collections n so_far came line
     → Contains (0 ∷ 1 ∷ 3 ∷ sink_fault_status ∷ 8 ∷ []) (status_of (last_line_of came line))
 opened-ended checks script heap rows collections n so_far how.End line comes = (0, lit< tt, refl)
@@ -171,7 +173,8 @@ opened-line words input _ (Comes.no_script checks sizes bytes stop at asks reads
     let same : at ≡ line = cc in
     kept_none (invocation_of words) _
     (subst (λ l. IsKeptAt (status_of l) None) same (opened-refused stop at refusal))
-opened-line words input _ (Comes.ended checks sizes bytes script kept came asks reads is keeps comes judged need) line e =
+opened-line words input _ (Comes.ended checks sizes bytes script kept came asks reads is keeps comes judged need)
+    line e =
     let same : last_line_of came kept.line ≡ line = cc in
     kept_run words checks sizes _ (Some kept) asks
     (subst (λ l. IsKeptAt (status_of l) (Some kept)) same
@@ -182,7 +185,8 @@ opened-line words input _ (Comes.cut_short checks sizes bytes script kept asks r
 opened-line words input _ (Comes.generated seed forms asks unread steady) line e =
     kept_generated words seed forms _ asks
 opened-line words input _ (Comes.generated_in_part seed forms count asks unread steady) line e = cc
-opened-line words input _ (Comes.soaked sizes seed forms script kept came asks unread steady is keeps comes need) line e =
+opened-line words input _ (Comes.soaked sizes seed forms script kept came asks unread steady is keeps comes need)
+    line e =
     let same : soak_line_of came kept.line kept.executed keeps.reached.so_far.bytes ≡ line = cc in
     kept_soak words sizes seed forms _ (Some kept) asks
     (subst (λ l. IsKeptAt (status_of l) (Some kept)) same

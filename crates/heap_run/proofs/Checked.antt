@@ -37,18 +37,19 @@ judged_counts script start space later n main graph counts (found, found_has, la
     (judged.image, judged.is, subst (λ (one : Counts). Judges judged.image (Ok one)) same judged.judges)
 
 -- so whatever a run came to, it is checked as was asked
-pub checked_as_asked : (checks : Bool) (start : HeapState) (space : Space) (inspection later : Inspection Space) (main : Mutator)
-    (script : ScriptText) (image : Heap) (rows : List (List Run)) (collections : Collections) (n : ℕ) (so_far : Told)
-    (came : How) (line : ℕ) → inspection ≡ inspection_for (inspects_for checks) space
+pub checked_as_asked : (checks : Bool) (start : HeapState) (space : Space) (inspection later : Inspection Space)
+    (main : Mutator) (script : ScriptText) (image : Heap) (rows : List (List Run)) (collections : Collections) (n : ℕ)
+    (so_far : Told) (came : How) (line : ℕ) → inspection ≡ inspection_for (inspects_for checks) space
     → JudgesEnd ChecksImage script start inspection later n main so_far.graph collections
     → EndsRun checks script image rows collections n so_far came line → IsChecked checks (heap_of main) came
-checked_as_asked false start space inspection later main script image rows collections n so_far came line is ends comes = tt
-checked_as_asked true start space inspection later main script image rows collections n so_far (how.Counted counts) line is
-    ends comes =
+checked_as_asked false start space inspection later main script image rows collections n so_far came line is ends
+    comes = tt
+checked_as_asked true start space inspection later main script image rows collections n so_far (how.Counted counts)
+    line is ends comes =
     let (counted, none, final, ended, has) = comes in
     let there = subst (λ (one : Inspection Space). JudgesEnd ChecksImage script start one later n main so_far.graph
     collections) is ends in
     judged_counts script start space later n main so_far.graph counts
-    (subst (λ (one : Collections). JudgesEnd ChecksImage script start (Checks space) later n main so_far.graph one) final
-    there) has
+    (subst (λ (one : Collections). JudgesEnd ChecksImage script start (Checks space) later n main so_far.graph one)
+    final there) has
 checked_as_asked true start space inspection later main script image rows collections n so_far _ line is ends comes = tt

@@ -1,5 +1,6 @@
 -- What a soak comes to.
-use Rattle.std.proofs.Common.{◌≡◌, ◌≢◌, ◌⊎◌, ℕ, List, [], inl, inr, Option, Some, None, Ok, refl, sym, subst, true, arith}
+use Rattle.std.proofs.Common.{◌≡◌, ◌≢◌, ◌⊎◌, ℕ, List, [], inl, inr, Option, Some, None, Ok, refl, sym, subst, true}
+use Rattle.std.proofs.Common.{arith}
 use Rattle.script_text.specs.Scripts.{ScriptText}
 use Rattle.script_text.specs.Grammar.{reading}
 use Rattle.script_gen.specs.Generated.{generated}
@@ -44,7 +45,8 @@ record ComesToEnd (script : ScriptText) (heap : Heap) (sums : Sums) (how : How) 
 
 -- a tally never fails
 comes_to_end : (script : ScriptText) (heap : Heap) (sums : Sums) (how : How) (line n : ℕ)
-    → (f : FinishesImaged true script heap (finished_by how line n) (HasSums (record { bytes = 0; total = 0 })) (HasSums sums)
+    → (f : FinishesImaged true script heap (finished_by how line n) (HasSums (record { bytes = 0; total = 0 }))
+    (HasSums sums)
     0 0) → ComesToEnd script heap sums how line n f
 comes_to_end script heap sums End line n f = record { comes = f.writes.0; summed = sums_of f.writes.1 }
 comes_to_end script heap sums (Counted counts) line n f = record { comes = f.writes.0; summed = sums_of f.writes.1 }
@@ -82,8 +84,8 @@ pub Soaks-finished : (sizes : Sizes) (seed forms : ℕ) (script : ScriptText) (i
     → Concludes last old new faults_old faults_new status
     → (status ≡ sink_fault_status) ⊎ (status ≢ sink_fault_status)
     → Soaks sizes seed forms old new faults_old faults_new (ended_by image how line n status)
-Soaks-finished sizes seed forms script image sums how line n status last old new faults_old faults_new is keepable f tells
-    concluded decided =
+Soaks-finished sizes seed forms script image sums how line n status last old new faults_old faults_new is keepable f
+    tells concluded decided =
     let ends = comes_to_end script (image_heap image) sums how line n f in
     let kept = kept_by image how line n in
     let told = soak_line_of how line n f.reached.so_far.bytes in
@@ -93,7 +95,8 @@ Soaks-finished sizes seed forms script image sums how line n status last old new
       comes = λ words input asks unread steady.
           Comes.soaked sizes seed forms script kept how asks unread steady is
           (keeps how line n keepable f.reached f.led) ends.comes refl;
-      taken = subst (λ one. Taken old new faults_old faults_new (record { told = []; last = Some one; kept = Some kept })
+      taken = subst (λ one. Taken old new faults_old faults_new
+          (record { told = []; last = Some one; kept = Some kept })
           status) (tells f.reached.so_far.bytes ends.summed)
           (line_taken last (Some kept) old new faults_old faults_new status concluded decided);
     }

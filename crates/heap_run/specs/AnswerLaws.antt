@@ -1,6 +1,7 @@
 -- What follows from what a run comes to: of which script a heap is kept, what is read then, at which status, and what
 -- a full heap lacks.
-use Rattle.std.specs.Prelude.{◌≡◌, ◌⊎◌, ℕ, Bool, List, [], ◌∷◌, Option, Some, None, IfSome, MatchOption, Contains, IsTrue}
+use Rattle.std.specs.Prelude.{◌≡◌, ◌⊎◌, ℕ, Bool, List, [], ◌∷◌, Option, Some, None, IfSome, MatchOption, Contains}
+use Rattle.std.specs.Prelude.{IsTrue}
 use Rattle.std.specs.Prelude.{Result, Ok, Err}
 use Rattle.heap_model.specs.Types.{Sizes, Run}
 use Rattle.heap_model.specs.Heaps.{Heap}
@@ -40,8 +41,8 @@ IsKeptBy asked status kept = IsKeptAt status kept
 abbrev pub IsKeptFor : List (List ℕ) → ℕ → Option Kept → Type 0
 IsKeptFor words status kept = IsKeptBy (invocation_of words) status kept
 
--- These bytes are the script that the words ask to be run on a heap of these sizes: all that the source had left, or the
--- generated script of a seed.
+-- These bytes are the script that the words ask to be run on a heap of these sizes: all that the source had left, or
+-- the generated script of a seed.
 abbrev pub IsScriptFor : List (List ℕ) → Option (List ℕ) → Sizes → List ℕ → Type 0
 IsScriptFor words left sizes bytes =
     ((checks : Bool) × AsksFor words (asked_run checks sizes) × IsInput left bytes)
@@ -79,7 +80,8 @@ abbrev pub FullHasNoRoom : Type 0
 FullHasNoRoom =
     (counted : Bool) (sizes : Sizes) (script : ScriptText) (kept : Kept) (line need : ℕ)
     (keeps : IsKeptHeapOf sizes script kept)
-    → EndsRun counted script (image_heap kept.image) keeps.last.rows keeps.collections kept.executed keeps.reached.so_far
+    → EndsRun counted script (image_heap kept.image) keeps.last.rows keeps.collections kept.executed
+    keeps.reached.so_far
     (HeapFull need) line
     → HasNoRoom (image_heap kept.image) keeps.last.rows need
 

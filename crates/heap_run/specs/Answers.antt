@@ -100,7 +100,8 @@ soak_line_of came line executed bytes = last_line_of came line
 abbrev pub ReadsNoneOrAll : List (List ℕ) → Input → Type 0
 ReadsNoneOrAll words input =
     ((input.after ≡ input.before) × NoReadFailed input)
-    ⊎ ((checks : Bool) × (sizes : Sizes) × (bytes : List ℕ) × AsksFor words (asked_run checks sizes) × ReadsAll input bytes)
+    ⊎ ((checks : Bool) × (sizes : Sizes) × (bytes : List ℕ) × AsksFor words (asked_run checks sizes)
+    × ReadsAll input bytes)
 
 -- What is told before the last line, the last line where the run comes to one, and the heap that is kept.
 pub record Answer : Type 0 where
@@ -113,8 +114,8 @@ abbrev pub unopened : LastLine → Answer
 unopened line = record { told = []; last = Some line; kept = None }
 
 -- The kept heap of a script that was run with these sizes: its regions are those of the sizes and of the script's
--- variables, and it shows the graph after the executed lines. It is an image of the heap to which these lines led, which
--- spent the words that they needed, of eden and of free runs. So all words that no cell uses are 0.
+-- variables, and it shows the graph after the executed lines. It is an image of the heap to which these lines led,
+-- which spent the words that they needed, of eden and of free runs. So all words that no cell uses are 0.
 pub record IsKeptHeapOf (sizes : Sizes) (script : ScriptText) (kept : Kept) : Type 0 where
   pub regions : kept.image.regions ≡ record { sizes = sizes; variables = length script.variables }
   pub reached : RanTo script (image_heap kept.image) kept.executed
@@ -147,8 +148,8 @@ pub data Comes (words : List (List ℕ)) (input : Input) : Answer → Type 0 whe
       → Comes words input (unopened last.SourceTooLong)
   -- the source is no script
   no_script : (checks : Bool) (sizes : Sizes) (bytes : List ℕ) (stop : BadScript) (line : LastLine)
-      → AsksFor words (asked_run checks sizes) → ReadsAll input bytes → reading bytes ≡ Err stop → refusal_of stop ≡ Some line
-      → Comes words input (unopened line)
+      → AsksFor words (asked_run checks sizes) → ReadsAll input bytes → reading bytes ≡ Err stop
+      → refusal_of stop ≡ Some line → Comes words input (unopened line)
   -- the source is a script, and its run, which is checked or not, came to an end
   ended : (checks : Bool) (sizes : Sizes) (bytes : List ℕ) (script : ScriptText) (kept : Kept) (came : How)
       → AsksFor words (asked_run checks sizes) → ReadsAll input bytes → reading bytes ≡ Ok script

@@ -90,8 +90,6 @@ impl Opened {
         ensures shows { (graph : Graph) × HeapShows result.heap graph }
         ensures space { result.heap.main.seat.space ≡ self.heap.main.seat.space }
     {
-        // Tells that the lines name what the script has.
-        let _lines = script.lines();
         let Opened {
             mut heap,
             mut inspection,

@@ -24,7 +24,8 @@ module _ {names : List (List ℕ)} {old new : HeapState} {graph : Graph} where
       → new.collected ≡ old.collected → NotesAsked names old new graph command.Scavenge []
   asked_scavenge scavenges keeps shows noted = record {
     carries = CarriesAsked.scavenges refl scavenges keeps
-        (writing_carried names command.Scavenge [] refl (keeps.shows graph shows) refl (λ rooms. (refl, λ number. refl)));
+        (writing_carried names command.Scavenge [] refl (keeps.shows graph shows) refl
+        (λ rooms. (refl, λ number. refl)));
     noted = noted;
   }
 
@@ -121,7 +122,8 @@ cycle_stays in_cycle command.Census apart = absurd (false≢true (sym apart))
 cycle_stays in_cycle _ apart = refl
 
 -- so it leaves all beside the mutator's side
-pub rest_stays : (rest : Rest) (one : Command) → IsApart one → with_cycle rest (cycle_after_command rest.in_cycle one) ≡ rest
+pub rest_stays : (rest : Rest) (one : Command) → IsApart one
+    → with_cycle rest (cycle_after_command rest.in_cycle one) ≡ rest
 rest_stays rest one apart = ap (with_cycle rest) (cycle_stays rest.in_cycle one apart)
 
 -- where a cycle is as it was, so is all beside the mutator's side

@@ -1,5 +1,6 @@
 -- A command that is executed.
-use Rattle.std.proofs.Common.{◌≡◌, ◌∙◌, ℕ, suc, ◌+◌, ◌-◌, ◌≤◌, List, [], length, drop, false, Some, Ok, refl, sym, subst}
+use Rattle.std.proofs.Common.{◌≡◌, ◌∙◌, ℕ, suc, ◌+◌, ◌-◌, ◌≤◌, List, [], length, drop, false, Some, Ok, refl, sym}
+use Rattle.std.proofs.Common.{subst}
 use Rattle.std.proofs.Common.{arith}
 use Rattle.std.proofs.lemmas.List.Elements.{All-get_or}
 use Rattle.object_graph.specs.Graphs.{Graph}
@@ -61,7 +62,8 @@ module _ {script : ScriptText} {heap : HeapState} {objects : ℕ} {out taken ts 
   stays_command = same ∙ sym (rest_stays heap.rest command tries.apart)
 
   -- it came through
-  abbrev carries_command : CarriesLine script.fields heap.rest.in_cycle heap.main after.main r.running.reached.so_far.graph
+  abbrev carries_command : CarriesLine script.fields heap.rest.in_cycle heap.main after.main
+      r.running.reached.so_far.graph
       (Some command) [] (Ok tt)
   carries_command =
       CarriesCommand.apart tries.apart

@@ -48,10 +48,12 @@ Finishes-cut counted script heap waiting (Counted counts) line n need old new fa
 Finishes-cut counted script heap waiting (Flawed flaw) line n need old new faults_old faults_new is p = absurd (cc)
 
 -- a run that paused at an end: what it came to, what was handed on, and that no write failed
-pub record PausedAt (counted : Bool) (script : ScriptText) (heap : HeapState) (waiting : List ℕ) (how : How) (line n : ℕ)
+pub record PausedAt (counted : Bool) (script : ScriptText) (heap : HeapState) (waiting : List ℕ) (how : How)
+    (line n : ℕ)
     (old mid : List ℕ → Type 0) (faults_old faults_mid : ℕ)
     (paused : Pauses counted script heap waiting (finished_by how line n) old mid faults_old faults_mid) : Type 0 where
-  pub comes : EndsRun counted script (heap_of heap.main) heap.main.free paused.collections n paused.reached.so_far how line
+  pub comes : EndsRun counted script (heap_of heap.main) heap.main.free paused.collections n paused.reached.so_far how
+      line
   pub handed : Handed old mid waiting paused.reached.so_far.bytes
   pub steady : faults_mid ≡ faults_old
 
@@ -75,7 +77,8 @@ paused_at counted script heap waiting (Counted counts) line n old mid faults_old
 paused_at counted script heap waiting (Flawed flaw) line n old mid faults_old faults_mid other p = absurd (p.halts.0)
 
 -- so the run finishes where what it told was written
-pub writes_at : (counted : Bool) (script : ScriptText) (heap : Heap) (rows : List (List Run)) (collections : Collections)
+pub writes_at : (counted : Bool) (script : ScriptText) (heap : Heap) (rows : List (List Run))
+    (collections : Collections)
     (how : How) (line n : ℕ) (so_far : Told) (old new : List ℕ → Type 0) (faults_old faults_new : ℕ)
     → EndsRun counted script heap rows collections n so_far how line → Appends old new so_far.bytes
     → faults_new ≡ faults_old

@@ -142,7 +142,8 @@ module _ {J : Type 0} (Judged : Answering J) (regions : J → Space) (start : He
   -- what is left was judged last of all, and so were the counts of what can be reached
   end_judged : (judge next : J) (counts : Counts) (graph : Graph) (collections : Collections)
       → HasInspected Judged script start before false n heap (Checks judge) None
-      → CollectsAll heap.main after.main graph → Judged judge next after.main (Ok counts) → HasCounts graph counts → collections ≡ finally_collected
+      → CollectsAll heap.main after.main graph → Judged judge next after.main (Ok counts) → HasCounts graph counts
+      → collections ≡ finally_collected
       → JudgesEnd Judged script start before (Checks next) n after.main graph collections
   end_judged judge next counts graph collections begun collects judged has is =
       let (first, from) = judged_first (Checks judge) judge refl begun in

@@ -1,5 +1,6 @@
 -- A `repeat` or an `end` that is executed.
-use Rattle.std.proofs.Common.{◌≡◌, ◌∙◌, ℕ, suc, ◌+◌, ◌-◌, ◌≤◌, List, [], length, drop, false, Option, Ok, refl, sym, ap, subst}
+use Rattle.std.proofs.Common.{◌≡◌, ◌∙◌, ℕ, suc, ◌+◌, ◌-◌, ◌≤◌, List, [], length, drop, false, Option, Ok, refl, sym, ap}
+use Rattle.std.proofs.Common.{subst}
 use Rattle.std.proofs.Common.{add-zero, arith}
 use Rattle.std.proofs.lemmas.List.{length-drop}
 use Rattle.heap_model.specs.Types.{Command}
@@ -18,7 +19,8 @@ use Rattle.heap_script.proofs.LinesRun.{RunsLines-line, passes_line, holds_line}
 use Rattle.heap_script.proofs.Asking.{rest_without}
 
 module _ {script : ScriptText} {heap : HeapState} {objects : ℕ} {out taken ts : List ℕ} {rest : List Line}
-    {spare last : ℕ} (r : RunsLines script heap objects out taken ts rest spare last) {what : What} (begins : Begins rest what)
+    {spare last : ℕ} (r : RunsLines script heap objects out taken ts rest spare last) {what : What}
+    (begins : Begins rest what)
     {lines : List Line} (same : lines ≡ script.lines) where
   -- it is one of the lines
   pub some_jump : (1 ≤ length rest) × (length rest ≤ length lines)

@@ -29,9 +29,9 @@ abbrev pub cycle_after_line : Bool → Option Command → Bool
 cycle_after_line in_cycle None = in_cycle
 cycle_after_line in_cycle (Some command) = cycle_after_command in_cycle command
 
--- What the cycle began with that is open behind a line, if one is, by what that before it began with, and by the heap and
--- the graph behind the line. `mark` opens one where none is open. `finish`, `gc` and `census` end it. The lines alone tell
--- whether a cycle is open: a full collection that is forced between two of them ends none.
+-- What the cycle began with that is open behind a line, if one is, by what that before it began with, and by the heap
+-- and the graph behind the line. `mark` opens one where none is open. `finish`, `gc` and `census` end it. The lines
+-- alone tell whether a cycle is open: a full collection that is forced between two of them ends none.
 abbrev pub opened_after : Option Opening → Option Command → Heap → Graph → Option Opening
 opened_after opened (Some Mark) heap graph = Some (unwrap_or opened (record { heap = heap; graph = graph }))
 opened_after opened (Some Finish) heap graph = None

@@ -41,8 +41,8 @@ abbrev pub made_by : Option Command → ℕ
 made_by None = 0
 made_by (Some command) = objects_made command
 
--- a line that runs a command does with the heap what the command does, once room is made for it if need be, and one that
--- runs none does nothing
+-- a line that runs a command does with the heap what the command does, once room is made for it if need be, and one
+-- that runs none does nothing
 abbrev pub CarriesLine : List (List ℕ) → Bool → Mutator → Mutator → Graph → Option Command → List ℕ
     → Result (Unit {0}) Stop → Type 0
 CarriesLine names in_cycle old new graph None text result = (new ≡ old) × (text ≡ []) × (result ≡ Ok tt)

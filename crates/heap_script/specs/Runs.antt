@@ -29,8 +29,8 @@ use Rattle.heap_script.specs.Reached.{left_after, RanTo, EndsAs}
 use Rattle.heap_script.specs.Spending.{HoldsOfNeed, Spends}
 
 -- The heap, which shows a graph and whose pages have these free runs, is full for so many words: it keeps exactly what
--- can be reached, and they fit nowhere beside that. Eden is empty, each word of a page that is not kept is in a free run,
--- and each young cell is longer than each free run.
+-- can be reached, and they fit nowhere beside that. Eden is empty, each word of a page that is not kept is in a free
+-- run, and each young cell is longer than each free run.
 pub record IsFull (heap : Heap) (rows : List (List Run)) (graph : Graph) (need : ℕ) : Type 0 where
   pub exact : Exact heap graph
   pub full : Fits heap need → ⊥
@@ -51,8 +51,8 @@ pub record FullAt (script : ScriptText) (heap : Heap) (rows : List (List Run)) (
   pub full : IsFull heap rows so_far.graph need
   pub collected : collections ≡ fully_collected
 
--- `weakfull` comes after a full collection, which came since the map was full of pairs; any other fault comes before the
--- heap is collected for its line.
+-- `weakfull` comes after a full collection, which came since the map was full of pairs; any other fault comes before
+-- the heap is collected for its line.
 abbrev pub FaultsBehind : FaultWord → Collections → Type 0
 FaultsBehind word collections =
     ((word ≢ WeakFull) × (collections ≡ uncollected)) ⊎ ((word ≡ WeakFull) × (collections ≡ fully_collected))

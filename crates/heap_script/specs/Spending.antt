@@ -57,11 +57,11 @@ pub record Allocates (old new : Stage) (graph after : Graph) (collections : Coll
   pub uses : (rooms : ℕ → Room) → HasRooms old.heap graph rooms
       → UsesNeed old new graph after collections command rooms
 
--- What is told of a scavenge, which promotes survivors, or all that lives: the regions stay, objects have the rooms that
--- they had, eden is empty, the survivors are no more than survivors and used words before, of young cells only what is
--- reached is kept, what came to pages is free, or is reached from variables and from cells of pages that stood there
--- before, each cell of a page stays in its place, words of free runs went to cells that were promoted alone, and the
--- runs that are left are the backs of those that stood, and neither overlap nor touch. A young cell that was to be
+-- What is told of a scavenge, which promotes survivors, or all that lives: the regions stay, objects have the rooms
+-- that they had, eden is empty, the survivors are no more than survivors and used words before, of young cells only
+-- what is reached is kept, what came to pages is free, or is reached from variables and from cells of pages that stood
+-- there before, each cell of a page stays in its place, words of free runs went to cells that were promoted alone, and
+-- the runs that are left are the backs of those that stood, and neither overlap nor touch. A young cell that was to be
 -- promoted and stays came to a page, or is longer than each run that is left, and no other one came to a page.
 pub record IsCollected (old new : Stage) (all : Bool) (graph : Graph) : Type 0 where
   pub space : new.heap.space ≡ old.heap.space

@@ -1,5 +1,5 @@
-//! The commands that neither write nor collect the heap, each with its one body. Those that write stand in `execute`, and
-//! the collector's in `collecting`.
+//! The commands that neither write nor collect the heap, each with its one body. Those that write stand in `execute`,
+//! and the collector's in `collecting`.
 ghost use Rattle.std.specs.Prelude.{◌≡◌, ◌<◌, length, true, false, IfSome, IsNone, Result};
 ghost use Rattle.object_graph.specs.Graphs.{Graph};
 ghost use Rattle.object_graph.specs.Run.{lines_most};

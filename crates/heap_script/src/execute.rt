@@ -1,5 +1,5 @@
-//! One line of a script on the heap, whatever it does. What each command does stands in `commands` and `collecting`, what
-//! is done where one stops in `making_room`, and which line comes next in `interpreter` and `loop_counters`.
+//! One line of a script on the heap, whatever it does. What each command does stands in `commands` and `collecting`,
+//! what is done where one stops in `making_room`, and which line comes next in `interpreter` and `loop_counters`.
 ghost use Rattle.std.specs.Prelude.{◌≡◌, ◌+◌, ◌<◌, ◌≤◌, ◌^◌};
 ghost use Rattle.std.specs.Prelude.{ℕ, List, ◌++◌, length, if◌then◌else◌};
 ghost use Rattle.std.specs.Prelude.{false, is_ok, OnOk, OnErr, IfOk};
@@ -70,8 +70,8 @@ pub(crate) fn execute_line(
     }
 }
 
-/// Carries out a command that is none of the collector's. Where it stops since there is no room for it, or since its weak
-/// map is full of pairs, room is made for it, and then it is tried again.
+/// Carries out a command that is none of the collector's. Where it stops since there is no room for it, or since its
+/// weak map is full of pairs, room is made for it, and then it is tried again.
 #[inline(always)]
 fn carry_out(
     heap: &mut Heap,

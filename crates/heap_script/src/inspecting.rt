@@ -1,6 +1,6 @@
-//! Inspecting the heap of a run: after each line for which it was fully collected, and at its end. No flaw is ever found
-//! where the program is built as it is proved; so these judgements are of the build, and of the machine. What becomes of
-//! a flaw is proved of each judge, whether its answers are right or not.
+//! Inspecting the heap of a run: after each line for which it was fully collected, and at its end. No flaw is ever
+//! found where the program is built as it is proved; so these judgements are of the build, and of the machine. What
+//! becomes of a flaw is proved of each judge, whether its answers are right or not.
 ghost use Rattle.std.specs.Prelude.{◌≡◌, IfOk, false};
 ghost use Rattle.object_graph.specs.Graphs.{Graph};
 ghost use Rattle.write_barrier.specs.MutatorState.{heap_of};
@@ -155,8 +155,8 @@ pub(crate) fn flaw_behind<J: Judge>(heap: &mut Heap, inspection: &mut Inspection
 }
 
 impl Inspector {
-    /// An inspector of heaps over these regions. It takes the memory for an image, and three bytes for each of its words;
-    /// later calls take none.
+    /// An inspector of heaps over these regions. It takes the memory for an image, and three bytes for each of its
+    /// words; later calls take none.
     pub fn new(alloc: Global, regions: Regions) -> Result<Inspector, NoMemory>
         ensures { IfOk result (λ inspector. inspector ≡ regions) }
     {

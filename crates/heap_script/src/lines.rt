@@ -1,5 +1,5 @@
-//! Lines that are executed one after another, as long as none of them collects the heap, writes or stops. What ends them
-//! changes nothing, and is executed by `execute_line`, which makes room for it and knows why it stops.
+//! Lines that are executed one after another, as long as none of them collects the heap, writes or stops. What ends
+//! them changes nothing, and is executed by `execute_line`, which makes room for it and knows why it stops.
 ghost use Rattle.std.specs.Prelude.{◌≡◌, ◌+◌, ◌-◌, ◌<◌, ◌≤◌, ℕ, List, [], length, drop, false, is_ok, Ok};
 ghost use Rattle.std.specs.Prelude.{IsTrue, IfSome};
 ghost use Rattle.object_graph.specs.Run.{lines_most};
@@ -26,9 +26,9 @@ pub(crate) struct Reached {
     pub(crate) executed: u64,
 }
 
-/// Executes lines from a place on, as long as none collects the heap, writes or stops, and as many as the pace allows. No
-/// line is executed on an output that is full, which is handed on before the next one; since none writes, it is asked
-/// for once.
+/// Executes lines from a place on, as long as none collects the heap, writes or stops, and as many as the pace allows.
+/// No line is executed on an output that is full, which is handed on before the next one; since none writes, it is
+/// asked for once.
 #[inline(never)]
 pub(crate) fn run_lines<P: Pace>(
     heap: &mut Heap,

@@ -39,8 +39,8 @@ impl LoopCounters {
         }
     }
 
-    /// Carries out the `repeat` or the `end` at this place. The run goes on after the line whose place it returns: this one,
-    /// or the other end of the block.
+    /// Carries out the `repeat` or the `end` at this place. The run goes on after the line whose place it returns: this
+    /// one, or the other end of the block.
     #[inline(always)]
     pub(crate) fn jump(&mut self, at: usize, what: &What) -> usize
         requires small { at < 2 ^ 63 }

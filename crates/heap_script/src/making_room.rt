@@ -1,5 +1,5 @@
-//! Making room for a command that stopped since there was none, or since its weak map is full of pairs. `carry_out` tries
-//! the command again then.
+//! Making room for a command that stopped since there was none, or since its weak map is full of pairs. `carry_out`
+//! tries the command again then.
 ghost use Rattle.std.specs.Prelude.{◌≡◌, ◌≢◌, ◌≤◌, Some, true};
 ghost use Rattle.tagged_word.specs.Cells.{cell_words_most};
 ghost use Rattle.object_graph.specs.Graphs.{Graph};

@@ -1,6 +1,7 @@
 -- The shared table agrees with the own words after a word was put.
 use Rattle.std.proofs.Common.{◌≡◌, ℕ, ◌+◌, ◌<◌, List, length-set, take, slice_set, refl, sym, ap}
-use Rattle.std.proofs.Common.{subst, ◌∙◌, arith, Option, Some, None, IfSome}
+use Rattle.std.proofs.Common.{subst, ◌∙◌, arith, Option, Some, None, IfSome, IsTrue}
+use Rattle.std.specs.Prelude.{is_some}
 use Rattle.std.proofs.lemmas.List.{length-replicate, take-replicate}
 use Rattle.tagged_word.specs.Shapes.{shapes_most}
 use Rattle.page_space.specs.Extents.{Space, eden_start, layouts_start, marks_start}
@@ -11,8 +12,7 @@ use Rattle.shared_table.specs.Spots.{with_spot}
 use Rattle.shared_table.specs.Worlds.{beginning}
 use Rattle.shared_table.specs.Owned.{Own, zeros}
 use Rattle.heap_table.specs.Seats.{counts_of}
-use Rattle.heap_table.specs.Sharing.{Agrees, shared_put}
-use Rattle.heap_table.proofs.PutCases.{put_cases}
+use Rattle.heap_table.specs.Sharing.{Agrees}
 use Rattle.shared_table.proofs.PageEnds.{pages_before_layouts, pages_before_marks}
 use Rattle.heap_table.proofs.SharedWords.{pages-set_within, pages-set_behind}
 
@@ -29,11 +29,11 @@ same_pages_agree own main words agrees same =
 
 -- so, where there is a shared table, it agrees when words are put behind the pages
 pub own_alone_agrees : (own now : Own) (shared : Option Side) (words : List ℕ) → now ≡ record own { words = words }
-    → take (eden_start own.space) words ≡ take (eden_start own.space) own.words
+    → (IsTrue (is_some shared) → take (eden_start own.space) words ≡ take (eden_start own.space) own.words)
     → IfSome shared (λ side. Agrees own side.main) → IfSome shared (λ side. Agrees now side.main)
 own_alone_agrees own now None words is same agrees = tt
 own_alone_agrees own now (Some side) words is same agrees =
-    subst (λ (one : Own). Agrees one side.main) (sym is) (same_pages_agree own side.main words agrees same)
+    subst (λ (one : Own). Agrees one side.main) (sym is) (same_pages_agree own side.main words agrees (same refl))
 
 module _ (own : Own) (main : Overview) (agrees : Agrees own main) (word : ℕ) where
   -- a word of a page goes to both
@@ -56,14 +56,6 @@ module _ (own : Own) (main : Overview) (agrees : Agrees own main) (word : ℕ) w
         (omega (arith, pages_before_layouts own.space)));
     layouts = length-set main.layouts shape word ∙ agrees.layouts;
   }
-
-  -- a word that is put goes to the shared table if it is one of a page
-  pub put_agrees : (a : ℕ) → Agrees (own_with own a word) (shared_put main a word)
-  put_agrees a =
-      put_cases (Agrees (own_with own a word)) main a word
-      (λ below. page_agrees a (omega (arith, below, agrees.old)))
-      (λ behind. same_pages_agree own main (slice_set own.words a word) agrees
-      (pages-set_behind own.space own.words a word (omega (arith, behind, agrees.old))))
 
 -- words of 0 agree
 pub zeros_agree : (space : Space) → Agrees (zeros space) (beginning (counts_of space))

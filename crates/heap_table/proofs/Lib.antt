@@ -3,7 +3,6 @@ pub mod SharedWords
 pub mod Agreeing
 mod PutSeats
 mod OwnedSteps
-mod PutCases
 mod SharedStretches
 mod ChangedStretches
 pub mod SeatSteps

@@ -1,6 +1,5 @@
 -- Steps of marking that change a word which the seat knows, and nothing that it knows besides.
 use Rattle.std.proofs.Common.{◌≡◌, ℕ, ◌+◌, Option, Some, sym, ◌∙◌, ap}
-use Rattle.std.specs.Prelude.{slice_set}
 use Rattle.page_space.specs.Extents.{layouts_start}
 use Rattle.mark_world.specs.declared.event.Event.TheVariants as event
 use Rattle.shared_table.specs.Seats.{Side}
@@ -14,21 +13,7 @@ pub beside_is : (inside : Inside) (seat : Seat) (side : Side) → seat_of inside
     → seat.shared ≡ Some (beside_in side.table side.main)
 beside_is inside seat side view is = ap (λ (one : Seat). one.shared) (sym view) ∙ ap besides is
 
--- a word of a page is put
-pub owned_put : (seat : Seat) (beside : Beside) (a word : ℕ) → seat.shared ≡ Some beside
-    → stored seat (event.StoreOwned a word) a word ≡ record seat { table = slice_set seat.table a word }
-owned_put seat beside a word is =
-    ap (λ (shared : Option Beside). stored (record seat { shared = shared }) (event.StoreOwned a word) a word) is
-    ∙ sym (ap (λ (shared : Option Beside). record seat { table = slice_set seat.table a word; shared = shared }) is)
-
--- a header is
-pub header_put : (seat : Seat) (beside : Beside) (a word : ℕ) → seat.shared ≡ Some beside
-    → stored seat (event.StoreHeader a word) a word ≡ record seat { table = slice_set seat.table a word }
-header_put seat beside a word is =
-    ap (λ (shared : Option Beside). stored (record seat { shared = shared }) (event.StoreHeader a word) a word) is
-    ∙ sym (ap (λ (shared : Option Beside). record seat { table = slice_set seat.table a word; shared = shared }) is)
-
--- a layout word is
+-- a layout word is put
 pub layout_put : (seat : Seat) (beside : Beside) (shape word : ℕ) → seat.shared ≡ Some beside
     → stored seat (event.AddLayout shape word) (layouts_start seat.space + shape) word ≡ with_layout seat shape word
 layout_put seat beside shape word is =

@@ -1,26 +1,29 @@
 -- A seat that puts a word agrees with its shared table afterwards.
-use Rattle.std.proofs.Common.{◌≡◌, ℕ, ◌+◌, ◌<◌, Some, IfSome, sym, subst}
+use Rattle.std.proofs.Common.{◌≡◌, ℕ, ◌+◌, ◌<◌, ◌≤◌, Option, Some, None, IfSome, IsTrue, refl, sym, subst, ◌∙◌}
+use Rattle.std.specs.Prelude.{is_some}
 use Rattle.page_space.specs.Extents.{eden_start, layouts_start}
 use Rattle.mark_laws.specs.Types.{MainView, Spot}
 use Rattle.shared_table.specs.Seats.{Side}
 use Rattle.shared_table.specs.Spots.{with_spot}
 use Rattle.heap_table.specs.declared.main_seat.MainSeat.TheInside.{Inside}
 use Rattle.shared_table.specs.Owned.{Own}
-use Rattle.heap_table.specs.Seated.{IsSeated}
-use Rattle.heap_table.specs.Sharing.{Agrees, shared_put}
-use Rattle.heap_table.proofs.Agreeing.{own_with, page_agrees, layout_agrees, put_agrees}
+use Rattle.heap_table.specs.Seats.{Seat}
+use Rattle.heap_table.specs.Seated.{IsSeated, besides, seat_of}
+use Rattle.heap_table.specs.Sharing.{Agrees}
+use Rattle.heap_table.proofs.Agreeing.{own_with, page_agrees, layout_agrees}
 
 -- where there is a shared table, it agrees
 pub agreed : (seat : Inside) (side : Side) → seat.shared ≡ Some side → IsSeated seat → Agrees seat.own side.main
 agreed seat side is seated = subst (λ shared. IfSome shared (λ one. Agrees seat.own one.main)) is seated.agrees
 
--- a word was put, in the shared table too if it is one of a page
+-- a word of a page was put in the shared table too
 pub both_agree : (own now : Own) (side new : Side) (a word : ℕ) → Agrees own side.main → now ≡ own_with own a word
-    → new ≡ record side { main = shared_put side.main a word } → Agrees now new.main
-both_agree own now side new a word agrees put shared =
+    → new ≡ record side { main = with_spot side.main (Spot.Heap a) word } → a < eden_start own.space
+    → Agrees now new.main
+both_agree own now side new a word agrees put shared below =
     subst (λ (one : Own). Agrees one new.main) (sym put)
     (subst (λ (one : Side). Agrees (own_with own a word) one.main) (sym shared)
-    (put_agrees own side.main agrees word a))
+    (page_agrees own side.main agrees word a below))
 
 -- a word of a page was stored by a step of marking
 pub stored_agree : (own now : Own) (side new : Side) (a word : ℕ) (view : MainView) → Agrees own side.main
@@ -43,3 +46,16 @@ added_agree own now side new shape word view agrees put added =
     subst (λ (one : Own). Agrees one new.main) (sym put)
     (subst (λ (one : Side). Agrees (own_with own (layouts_start own.space + shape) word) one.main) (sym added)
     (record { old = both.old; words = both.words; layouts = both.layouts }))
+
+-- there is a shared table where something is known of it
+besides_some : (shared : Option Side) → is_some (besides shared) ≡ is_some shared
+besides_some (Some side) = refl
+besides_some None = refl
+
+-- a word that is put among the own ones alone is behind the pages where there is a shared table
+pub behind_pages : (inside : Inside) (seat : Seat) (a : ℕ) → seat_of inside ≡ seat
+    → (IsTrue (is_some seat.shared) → eden_start seat.space ≤ a)
+    → IsTrue (is_some inside.shared) → eden_start inside.own.space ≤ a
+behind_pages inside seat a view behind some =
+    subst (λ (one : Seat). IsTrue (is_some one.shared) → eden_start one.space ≤ a) (sym view) behind
+    (besides_some inside.shared ∙ some)

@@ -1,11 +1,14 @@
 -- What a seat with a shared table shows, before and after a step.
-use Rattle.std.proofs.Common.{◌≡◌, ℕ, List, Some, sym, ap, ◌∙◌}
+use Rattle.std.proofs.Common.{◌≡◌, ℕ, List, Option, Some, sym, ap, ◌∙◌}
 use Rattle.shared_table.specs.declared.overview.Overview.{Overview}
 use Rattle.shared_table.specs.Seats.{Side}
 use Rattle.shared_table.specs.Owned.{Own}
+use Rattle.heap_table.specs.declared.main_seat.MainSeat.TheInside.{Inside}
+use Rattle.heap_table.specs.Seated.{IsSeated, seat_of}
 use Rattle.heap_table.specs.Seats.{Seat, beside_in}
 use Rattle.heap_table.specs.Overviews.{overview, knowing}
 use Rattle.heap_table.specs.Sharing.{Agrees}
+use Rattle.heap_table.proofs.PutSeats.{agreed}
 
 -- what a seat with a shared table shows
 abbrev pub shown : Own → Side → Seat
@@ -35,3 +38,11 @@ module _ (own : Own) (side : Side) (seat : Seat) (shows : shown own side ≡ sea
       ap (λ (one : Side). shown (record own { words = words }) one) is
       ∙ ap (λ (s : Seat). knowing s words (f side.main)) shows
       ∙ ap (λ (main : Overview). knowing seat words (f main)) (sym overview_is)
+
+-- what a seat with a shared table knows is what the main seat of that table knows
+pub side_overview : (inside : Inside) (seat : Seat) (side : Side) → seat_of inside ≡ seat → inside.shared ≡ Some side
+    → IsSeated inside → overview seat ≡ side.main
+side_overview inside seat side view is seated =
+    overview_is inside.own side seat
+    (sym (ap (λ (one : Option Side). seat_of (record inside { shared = one })) is) ∙ view)
+    (agreed inside side is seated)

@@ -31,17 +31,19 @@ overview seat = record {
   view = (known seat.shared).view;
   reached = (known seat.shared).reached;
   made = (known seat.shared).made;
+  dead = (known seat.shared).dead;
   out = (known seat.shared).out;
   lent = (known seat.shared).lent;
 }
 
 -- What commands know of the cycle that the seat is in. Where there is no shared table no cycle is ever open.
 abbrev pub cycle_in : Seat → Cycle
-cycle_in seat = cycle_of (overview seat).view (overview seat).reached (overview seat).made
+cycle_in seat =
+    cycle_of (overview seat).view (overview seat).reached (overview seat).made (overview seat).dead
 
 -- what they know before any cycle is opened
 abbrev pub unopened : Cycle
-unopened = cycle_of no_cycle [] 0
+unopened = cycle_of no_cycle [] 0 []
 
 -- the seat with these words of its own, and with this knowledge of the shared table
 abbrev pub knowing : Seat → List ℕ → Overview → Seat

@@ -24,6 +24,7 @@ pub record Beside : Type 0 where
   pub view : MainView
   pub reached : List ℕ
   pub made : ℕ
+  pub dead : List ℕ
   pub out : ℕ
   pub lent : ℕ
 
@@ -53,6 +54,7 @@ beside_in id main = record {
   view = main.view;
   reached = main.reached;
   made = main.made;
+  dead = main.dead;
   out = main.out;
   lent = main.lent;
 }

@@ -1,11 +1,9 @@
 -- What the shared table has after words were put among the own ones.
-use Rattle.std.specs.Prelude.{◌≡◌, ℕ, ◌<◌, ◌≤◌, ◌⊎◌, nat_lt, if◌then◌else◌, length, take, slice_index}
+use Rattle.std.specs.Prelude.{◌≡◌, ℕ, ◌<◌, ◌≤◌, ◌⊎◌, length, take, slice_index}
 use Rattle.tagged_word.specs.Shapes.{shapes_most}
 use Rattle.page_space.specs.Extents.{eden_start}
-use Rattle.mark_laws.specs.Types.{Spot}
 use Rattle.shared_table.specs.declared.overview.Overview.{Overview}
 use Rattle.shared_table.specs.Seats.{Side}
-use Rattle.shared_table.specs.Spots.{with_spot}
 use Rattle.shared_table.specs.Owned.{Own}
 
 -- the shared table has the own words of the pages, and a layout word for each shape that there may be
@@ -13,10 +11,6 @@ pub record Agrees (own : Own) (main : Overview) : Type 0 where
   pub old : main.old ≡ eden_start own.space
   pub words : main.words ≡ take (eden_start own.space) own.words
   pub layouts : length main.layouts ≡ shapes_most
-
--- a word of a page is put in the shared table, and no other
-abbrev pub shared_put : Overview → ℕ → ℕ → Overview
-shared_put main a word = if nat_lt a main.old then with_spot main (Spot.Heap a) word else main
 
 -- the address is not among those from one on up to another
 abbrev pub IsOutside : ℕ → ℕ → ℕ → Type 0

@@ -6,6 +6,7 @@
 //! its pages. Its layout words are known by themselves.
 #![tactic(auto)]
 
+mod board;
 mod copies;
 mod cycles;
 mod lending;

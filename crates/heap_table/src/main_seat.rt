@@ -1,7 +1,7 @@
 //! The seat of the thread that runs commands: how it is opened, and single words. Stretches of words are in `copies`,
 //! steps of marking in `marking`.
 ghost use Rattle.std.specs.Prelude.{◌≡◌, ◌+◌, ◌<◌, ◌≤◌, length, slice_get, slice_set};
-ghost use Rattle.std.specs.Prelude.{IfOk, Some, is_some, true};
+ghost use Rattle.std.specs.Prelude.{IfOk, IsTrue, Some, is_some, true};
 ghost use Rattle.tagged_word.specs.Shapes.{shapes_most};
 ghost use Rattle.page_space.specs.Extents.{Space, eden_start, marks_start};
 ghost use Rattle.shared_table.specs.declared.phase.Phase.TheVariants.{Mark};
@@ -9,7 +9,6 @@ ghost use Rattle.shared_table.specs.Owned.{zeros};
 ghost use Rattle.heap_table.specs.Seats.{IsFresh, heap_words, with_layout, RestStays};
 ghost use Rattle.heap_table.specs.Staying.{rest_stays_itself, rest_stays_again};
 
-use crate::sharing::share;
 use page_space::{PAGE_WORDS, Regions};
 use shared_table::{Counts, MainSide, OwnWords, Phase, SharedTable};
 use std::alloc::Global;
@@ -123,21 +122,6 @@ impl MainSeat {
         self.own.word(a)
     }
 
-    /// Puts a word at an address before the marks, while no cycle is open or while it waits. No other word changes.
-    #[inline(always)]
-    pub fn put(&mut self, a: u32, word: u64)
-        requires idle { self.old.phase ≡ Mark → ⊥ }
-        requires within { a < marks_start self.old.space }
-        ensures put { self.new ≡ record self.old { table = slice_set self.old.table a word } }
-        ensures heap { heap_words self.new ≡ slice_set (heap_words self.old) a word }
-        ensures rest { RestStays self.old self.new }
-    {
-        self.own.put(a, word);
-        if let Some(side) = &mut self.shared {
-            share(side, a, word);
-        }
-    }
-
     /// The word at an offset of a cell, before the marks. The sum is taken in 64 bits, which it fits
     /// whatever the two are.
     #[inline(always)]
@@ -148,29 +132,11 @@ impl MainSeat {
         self.own.slot(cell, offset)
     }
 
-    /// Puts a word at an offset of a cell, before the marks, while no cycle is open or while it waits. No other word
+    /// Puts a word among the own ones alone, behind the pages or where there is no shared table. No other word
     /// changes.
     #[inline(always)]
-    pub fn put_slot(&mut self, cell: u32, offset: u32, word: u64)
-        requires idle { self.old.phase ≡ Mark → ⊥ }
-        requires within { cell + offset < marks_start self.old.space }
-        ensures put { let table = slice_set self.old.table (cell + offset) word in
-            self.new ≡ record self.old { table = table } }
-        ensures heap { heap_words self.new ≡ slice_set (heap_words self.old) (cell + offset) word }
-        ensures rest { RestStays self.old self.new }
-    {
-        self.own.put_slot(cell, offset, word);
-        if let Some(side) = &mut self.shared {
-            // The sum fits, since there is a word for each address.
-            self.own.words_fit();
-            share(side, cell + offset, word);
-        }
-    }
-
-    /// Puts a word behind the pages, among the own ones alone. No other word changes.
-    #[inline(always)]
     pub fn put_own(&mut self, a: u32, word: u64)
-        requires own { eden_start self.old.space ≤ a }
+        requires own { IsTrue (is_some self.old.shared) → eden_start self.old.space ≤ a }
         requires within { a < marks_start self.old.space }
         ensures put { self.new ≡ record self.old { table = slice_set self.old.table a word } }
         ensures heap { heap_words self.new ≡ slice_set (heap_words self.old) a word }
@@ -179,7 +145,7 @@ impl MainSeat {
         self.own.put(a, word);
     }
 
-    /// The same at an offset of a cell.
+    /// Puts a word behind the pages at an offset of a cell, among the own ones alone. No other word changes.
     #[inline(always)]
     pub fn put_own_slot(&mut self, cell: u32, offset: u32, word: u64)
         requires own { eden_start self.old.space ≤ cell + offset }

@@ -1,12 +1,14 @@
 //! The steps of the main seat in an open cycle, each one event of marking on the shared table. A word that is stored
-//! goes to the own words too.
-ghost use Rattle.std.specs.Prelude.{◌≡◌, ◌+◌, ◌<◌, true, Contains, IfSome, IsTrue, is_some, length, slice_index, slice_set};
+//! goes to the own words too. `store_header` and `store_owned` put words of pages in each phase.
+ghost use Rattle.std.specs.Prelude.{◌≡◌, ◌+◌, ◌<◌, ◌⊎◌, true, Contains, IfSome, IsTrue, is_some, length, slice_index};
+ghost use Rattle.std.specs.Prelude.{slice_set};
 ghost use Rattle.tagged_word.specs.Readings.{reference_in};
 ghost use Rattle.tagged_word.specs.Shapes.{shapes_most};
 ghost use Rattle.page_space.specs.Extents.{eden_start, layouts_start};
 ghost use Rattle.mark_laws.specs.PageWords.{MainSound};
 ghost use Rattle.mark_laws.specs.Runs.{IsSoundAndBorn};
 ghost use Rattle.mark_world.specs.declared.event.Event.TheVariants as event;
+ghost use Rattle.mark_world.specs.Soundness.{AreIn};
 ghost use Rattle.mark_world.specs.Steps.{black};
 ghost use Rattle.shared_table.specs.declared.colour.Colour.TheVariants.{Black};
 ghost use Rattle.shared_table.specs.declared.phase.Phase.TheVariants.{Mark};
@@ -17,6 +19,7 @@ ghost use Rattle.heap_table.specs.Overviews.{MayStep, overview, stepped, stored}
 ghost use Rattle.heap_table.specs.Seats.{with_layout};
 
 use crate::main_seat::MainSeat;
+use crate::sharing::share;
 use shared_table::Colour;
 
 impl MainSeat {
@@ -35,36 +38,28 @@ impl MainSeat {
         side.store_slot(a, word);
     }
 
-    /// Stores a word of a page where no helper reads one that it visits by.
-    #[inline(always)]
-    pub fn store_owned(&mut self, a: u32, word: u64)
-        requires mark { self.old.phase ≡ Mark }
-        requires within { a < eden_start self.old.space }
-        requires may { MayStep self.old (event.StoreOwned a word) }
-        ensures stored { self.new ≡ stored self.old (event.StoreOwned a word) a word }
-        ensures put { self.new ≡ record self.old { table = slice_set self.old.table a word } }
-    {
-        self.own.put_in_page(a, word);
-        let Some(side) = &mut self.shared else {
-            unreachable!()
-        };
-        side.store_owned(a, word);
-    }
-
-    /// Changes the header of a plain cell of a page.
+    /// Puts a word of a page. In an open cycle no helper may visit by it, or it is a header that changes safely.
     #[inline(always)]
     pub fn store_header(&mut self, a: u32, word: u64)
-        requires mark { self.old.phase ≡ Mark }
         requires within { a < eden_start self.old.space }
-        requires may { MayStep self.old (event.StoreHeader a word) }
-        ensures stored { self.new ≡ stored self.old (event.StoreHeader a word) a word }
+        requires may { let seat = self.old in
+            seat.phase ≡ Mark → MayStep seat (event.StoreHeader a word) ⊎ MayStep seat (event.StoreOwned a word) }
         ensures put { self.new ≡ record self.old { table = slice_set self.old.table a word } }
     {
         self.own.put_in_page(a, word);
-        let Some(side) = &mut self.shared else {
-            unreachable!()
-        };
-        side.store_header(a, word);
+        if let Some(side) = &mut self.shared {
+            share(side, a, word);
+        }
+    }
+
+    /// Puts a word of a page. In an open cycle no helper may visit by it.
+    #[inline(always)]
+    pub fn store_owned(&mut self, a: u32, word: u64)
+        requires within { a < eden_start self.old.space }
+        requires may { self.old.phase ≡ Mark → MayStep self.old (event.StoreOwned a word) }
+        ensures put { self.new ≡ record self.old { table = slice_set self.old.table a word } }
+    {
+        self.store_header(a, word);
     }
 
     /// Puts a new layout word in its place.
@@ -185,11 +180,13 @@ impl MainSeat {
         let _counts = side.counts();
     }
 
-    /// The mutator's view is as it is in a sound world. The call says so, by one load, and does nothing else.
+    /// The mutator's view is as it is in a sound world, and the cells that wait with it are born. The call says so, by
+    /// one load, and does nothing else.
     pub fn sound(&mut self)
         requires mark { self.old.phase ≡ Mark }
         ensures same { self.new ≡ self.old }
         ensures sound { let main = overview self.old in MainSound main.old main.words main.layouts main.view }
+        ensures grey { let view = (overview self.old).view in AreIn view.born view.grey }
     {
         let Some(side) = &mut self.shared else {
             unreachable!()

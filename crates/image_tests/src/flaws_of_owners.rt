@@ -1,11 +1,12 @@
-//! Images in which a store, a table or a box is named twice, or with flaws of several parts or cells: the first one.
+//! Images in which a store, a table or a box is named twice, or a table by nothing, or with flaws of several parts or
+//! cells: the first one.
 use crate::first_flaws::Group;
 use crate::images::Change::{Survivors, Used, Word, Words};
-use crate::worked::{APART, USUAL};
+use crate::worked::{APART, OUTGROWN, USUAL};
 use crate::worked_ends::SPREAD;
 
-/// Stores, tables and boxes that two slots name.
-pub(crate) const OWNERS: [Group; 2] = [
+/// Stores, tables and boxes that two slots name, and a table that none does.
+pub(crate) const OWNERS: [Group; 3] = [
     (
         &APART,
         &[
@@ -50,6 +51,36 @@ pub(crate) const OWNERS: [Group; 2] = [
             (
                 &[Word(6_408, 3), Word(6_409, 0), Word(6, 25_657)],
                 "objects 7 entries 3",
+            ),
+        ],
+    ),
+    (
+        &OUTGROWN,
+        &[
+            (&[], "objects 3 entries 2"),
+            // The pair of number 5 is cleared in the map's table alone, and then the list is made free.
+            (
+                &[
+                    Word(2, 1),
+                    Word(13, 7),
+                    Word(14, 7),
+                    Word(22, 30),
+                    Word(23, 3),
+                ],
+                "7 89 3",
+            ),
+            // The outgrown table is made free with the list.
+            (
+                &[
+                    Word(2, 1),
+                    Word(13, 7),
+                    Word(14, 7),
+                    Word(22, 30),
+                    Word(23, 3),
+                    Word(3, 30),
+                    Word(4, 6),
+                ],
+                "objects 2 entries 1",
             ),
         ],
     ),

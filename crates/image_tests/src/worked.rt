@@ -266,3 +266,26 @@ pub(crate) const OLD: Worked = Worked {
         (2_240, &[1, 0]),
     ],
 };
+
+/// A weak map that outgrew its first table, which nothing names any more. In the one page:
+///
+/// | At | What stands there |
+/// |---|---|
+/// | 0 | the weak map, number 0, with the table at 9 |
+/// | 3 | the outgrown table of 2 pairs: from 5 on number 4 and 5, number 5 and 6 |
+/// | 9 | a table of 4 pairs: from 11 on the same, and two free pairs |
+/// | 19 | an empty list, number 4 |
+/// | 22 | an empty list, number 5 |
+/// | 25 | a gap of 2,023 words |
+///
+/// The root refers to number 0.
+pub(crate) const OUTGROWN: Worked = Worked {
+    used: 0,
+    stretches: &[
+        (0, &[10, 37, 2, 18, 2, 77, 10, 89, 12]),
+        (9, &[18, 4, 77, 10, 89, 12, 7, 7, 7, 7]),
+        (19, &[17_179_869_190, 3, 0, 21_474_836_486, 3, 0, 30, 2_023]),
+        (2_240, &[1, 0]),
+    ],
+    ..OLD
+};

@@ -1,17 +1,14 @@
 -- What a seat, its list and its debts are once a cell was made black.
-use Rattle.std.proofs.Common.{◌≡◌, ◌≢◌, inl, inr, ◌≤◌, ◌<◌, ◌+◌, ℕ, Bool, true, IsTrue, IsSome, List, []}
-use Rattle.std.proofs.Common.{◌∷◌, length, Some, All, Contains, if◌then◌else◌, slice_index}
+use Rattle.std.proofs.Common.{◌≡◌, ◌≢◌, inl, inr, ◌+◌, ℕ, Bool, true, IsTrue, IsSome, List, []}
+use Rattle.std.proofs.Common.{Some, All, Contains, if◌then◌else◌, slice_index}
 use Rattle.std.proofs.Common.{eq-eqb, refl, sym, ap, subst, ◌∙◌, arith}
 use Rattle.std.proofs.lemmas.List.Elements.{All-contains}
-use Rattle.std.proofs.lemmas.List.{get_or-set_same}
 use Rattle.tagged_word.specs.declared.reading.Reading.{Reading}
-use Rattle.tagged_word.proofs.Members.{in_later, in_map, map_from}
+use Rattle.tagged_word.proofs.Members.{in_map, map_from}
 use Rattle.page_space.specs.Extents.{eden_start}
 use Rattle.cell_layout.specs.declared.cell.Cell.{Cell}
 use Rattle.cell_layout.specs.Cells.{layouts_in, reading_of}
 use Rattle.cell_list.specs.Listing.{Listing}
-use Rattle.core_parts.specs.Lists.{left}
-use Rattle.core_parts.proofs.Leaving.{left_from, left_out}
 use Rattle.core_parts.proofs.Tested.{not_equal}
 use Rattle.mark_laws.specs.PageWords.{HasMainSound}
 use Rattle.mark_laws.specs.Types.{MainView}
@@ -26,13 +23,10 @@ use Rattle.mark_world.specs.Steps.{black, free_slot_words, words_in_slots}
 use Rattle.shared_table.specs.declared.colour.Colour.{Colour}
 use Rattle.shared_table.specs.Colours.{number_of}
 use Rattle.shared_table.specs.Worlds.{world_at_home}
-use Rattle.shared_table.proofs.ColourNumbers.{black_most}
-use Rattle.heap_table.specs.Overviews.{cycle_in, overview, stepped}
+use Rattle.heap_table.specs.Overviews.{overview, stepped}
 use Rattle.heap_table.specs.Seats.{Seat}
-use Rattle.mark_barrier.specs.CycleSteps.{made_black}
 use Rattle.mark_barrier.specs.Owing.{EachTarget, IsToCome, Owes, own_cell, page_words_of, slot_word}
-use Rattle.mark_barrier.specs.Paid.{IsBlackened, ListsGrey, ListsOthers, StepsTo}
-use Rattle.mark_barrier.proofs.Darker.{darkens_at, untaken}
+use Rattle.mark_barrier.specs.Paid.{IsBlackened, ListsGrey, ListsAllBut, StepsTo}
 
 module _ (seat : Seat) (at : ℕ) (colour : Colour) where
   abbrev main : MainView
@@ -41,41 +35,9 @@ module _ (seat : Seat) (at : ℕ) (colour : Colour) where
   abbrev blackened_seat : Seat
   blackened_seat = stepped seat (event.Blacken at) (number_of colour)
 
-  -- a cell is made black
-  pub black_steps : ((overview seat).home ≡ true → number_of colour ≡ slice_index (overview seat).colours at)
-      → StepsTo seat blackened_seat seat.table
-      (made_black (overview seat).old (overview seat).words (overview seat).layouts (cycle_in seat) at)
-  black_steps is = record {
-    space = refl;
-    phase = refl;
-    table = refl;
-    cycle = refl;
-    id = refl;
-    shared = refl;
-    layouts = refl;
-    home = refl;
-    out = refl;
-    lent = refl;
-    board = untaken (overview seat).board;
-    darkens = λ home. darkens_at (overview seat).colours at black
-        (subst (λ (c : ℕ). c ≤ black) (is home) (black_most colour)) (λ was. refl);
-  }
-
-  -- it is black then
-  pub black_colours : at < length (overview seat).colours → IsBlackened blackened_seat at
-  black_colours within home = get_or-set_same (overview seat).colours at black 0 within
-
   -- it waits no more
-  pub black_lists : (listing : Listing) → ListsOthers seat listing at → ListsGrey blackened_seat listing
-  black_lists listing lists = record {
-    mark = lists.mark;
-    bound = lists.bound;
-    listed = all_from (Contains listing.addresses) (left main.grey at) (λ one waits.
-        in_later at listing.addresses one (λ same. left_out main.grey at (subst (Contains (left main.grey at))
-        (sym same) waits)) (All-contains (Contains (at ∷ listing.addresses)) main.grey one lists.listed
-        (left_from main.grey at one waits)));
-    born = lists.born;
-  }
+  pub black_lists : (listing : Listing) → ListsAllBut seat listing at → ListsGrey blackened_seat listing
+  black_lists listing lists = record { bound = lists.bound; listed = lists.listed; born = lists.born }
 
   -- where it was black nothing more is owed
   pub black_owed : number_of colour ≡ black → (overview blackened_seat).view.owed ≡ main.owed
@@ -96,8 +58,8 @@ module _ (seat : Seat) (at : ℕ) (colour : Colour) where
 pub blackened_later : (seat later : Seat) (at : ℕ) (words : List ℕ) (cycle : Cycle) → IsBlackened seat at
     → StepsTo seat later words cycle → IsBlackened later at
 blackened_later seat later at words cycle is steps home =
-    let before : (overview seat).home ≡ true = sym steps.home ∙ home in
-    (steps.darkens before).stays at (is before)
+    let before : (overview seat).home ≡ true = sym steps.moves.home ∙ home in
+    (steps.moves.darkens before).stays at (is before)
 
 module _ (seat : Seat) (at : ℕ) (sound : HasMainSound (world_at_home (overview seat)))
     (is_born : Contains (overview seat).view.born at) (mine : Contains (overview seat).view.mine at → ⊥) where

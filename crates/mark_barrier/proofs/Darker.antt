@@ -1,8 +1,8 @@
 -- How colours and the board change: colours darken, and cells are taken from the board.
 use Rattle.std.proofs.Common.{◌≡◌, ◌≢◌, ◌≤◌, ◌<◌, ◌+◌, ◌==◌, inl, inr, ℕ, Bool, cond, List, length}
 use Rattle.std.proofs.Common.{count_by, slice_index, slice_set, refl, sym, ap, ◌∙◌, arith, eq-eqb}
-use Rattle.std.proofs.lemmas.Bool.{cases_eq}
-use Rattle.std.proofs.lemmas.List.{get_or-set_other, get_or-set_same, length-set}
+use Rattle.std.proofs.lemmas.Bool.{cases_eq, cases_lt}
+use Rattle.std.proofs.lemmas.List.{get_or_past, get_or-set_other, get_or-set_same, length-set}
 use Rattle.std.proofs.lemmas.List.Sums.{sum_by-set}
 use Rattle.core_parts.proofs.Tested.{not_equal}
 use Rattle.mark_world.specs.Steps.{black, shaded, white}
@@ -49,6 +49,23 @@ shaded_black found is = ap (λ (c : ℕ). shaded c) is
 -- nothing is taken from the board where nothing changed
 pub untaken : (board : List ℕ) → IsTakenFrom board board
 untaken board = record { count = refl; place = λ k. inl refl }
+
+-- no cell is at a place that was taken from, nor past the board
+emptied : (board : List ℕ) (place k : ℕ) → k ≡ place → slice_index (slice_set board place 0) k ≡ 0
+emptied board place k same = elim (cases_lt place (length board)) [
+  | inl within ↦ ap (λ (a : ℕ). slice_index (slice_set board place 0) a) same ∙ get_or-set_same board place 0 0 within
+  | inr past ↦ get_or_past (slice_set board place 0) k 0 (omega (arith, past, same, length-set board place 0))
+]
+
+-- a place was taken from
+pub taken_at : (board : List ℕ) (place : ℕ) → IsTakenFrom board (slice_set board place 0)
+taken_at board place = record {
+  count = length-set board place 0;
+  place = λ k. elim (cases_eq k place) [
+    | inl same ↦ inr (emptied board place k same)
+    | inr other ↦ inl (get_or-set_other board place k 0 0 other)
+  ];
+}
 
 -- what is taken twice is taken
 pub taken_twice : (first second third : List ℕ) → IsTakenFrom first second → IsTakenFrom second third

@@ -6,3 +6,6 @@ pub mod Blackened
 pub mod ReadCells
 pub mod LeftToDo
 pub mod Scanned
+pub mod Settling
+pub mod Returned
+pub mod Dropped

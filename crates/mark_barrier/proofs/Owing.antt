@@ -18,7 +18,7 @@ use Rattle.mark_world.specs.Cycles.{Cycle}
 use Rattle.mark_world.specs.Pages.{OfTarget, page_end, slots_of, target}
 use Rattle.heap_table.specs.Overviews.{cycle_in, overview}
 use Rattle.heap_table.specs.Seats.{Seat}
-use Rattle.mark_barrier.specs.CycleSteps.{surer}
+use Rattle.mark_barrier.specs.CycleSteps.{sure_of_target}
 use Rattle.mark_barrier.specs.Owing.{IsToCome, Owes, OwesSlots, page_words_of, slot_word}
 use Rattle.mark_barrier.specs.Paid.{left_by, without_target}
 
@@ -29,9 +29,9 @@ joined_again list (Some at) there =
     joined_cases (λ (xs : List ℕ). xs ≡ list) list at (λ is. refl) (λ out. absurd (out there))
 
 -- a cycle stays where the mutator is already sure of a target
-pub surer_again : (old : ℕ) (cycle : Cycle) (word : ℕ) → OfTarget old word (Contains cycle.sure)
-    → surer old cycle word ≡ cycle
-surer_again old cycle word there =
+pub sure_again : (old : ℕ) (cycle : Cycle) (word : ℕ) → OfTarget old word (Contains cycle.sure)
+    → sure_of_target old cycle word ≡ cycle
+sure_again old cycle word there =
     ap (λ (list : List ℕ). record cycle { sure = list }) (joined_again cycle.sure (target old word) there)
 
 -- what a list without a target has it had before, and that is not the target

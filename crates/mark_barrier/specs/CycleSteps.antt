@@ -12,8 +12,8 @@ abbrev pub sure_of : Cycle → ℕ → Cycle
 sure_of cycle at = record cycle { sure = joined cycle.sure at }
 
 -- the mutator is sure of the target of a word, if it has one
-abbrev pub surer : ℕ → Cycle → ℕ → Cycle
-surer old cycle word = record cycle { sure = joined_by cycle.sure (target old word) }
+abbrev pub sure_of_target : ℕ → Cycle → ℕ → Cycle
+sure_of_target old cycle word = record cycle { sure = joined_by cycle.sure (target old word) }
 
 -- The mutator has made a cell black: it is sure of the targets of the cell's tagged slots, if that was a free start.
 abbrev pub made_black : ℕ → List ℕ → List ℕ → Cycle → ℕ → Cycle

@@ -2,4 +2,3 @@ pub mod Model
 pub mod CycleSteps
 pub mod Paid
 pub mod Owing
-pub mod Lending

@@ -1,31 +1,32 @@
 -- What holds between the whole steps of the mutator, and what such a step leaves.
-use Rattle.std.specs.Prelude.{◌≡◌, ◌≢◌, ◌⊎◌, ℕ, ◌+◌, ◌≤◌, ◌==◌, true, IsTrue, is_some, List, [], ◌∷◌, length}
-use Rattle.std.specs.Prelude.{slice_index, Option, Some, None, count_by}
+use Rattle.std.specs.Prelude.{◌≡◌, ◌≢◌, ◌⊎◌, ◌↔◌, ℕ, ◌+◌, ◌≤◌, ◌==◌, true, IsTrue, is_some, List, [], Contains}
+use Rattle.std.specs.Prelude.{length, replicate, slice_index, slice_set, Option, Some, None, count_by}
 use Rattle.page_space.specs.Extents.{eden_start}
-use Rattle.cell_list.specs.Listing.{Listing}
+use Rattle.cell_list.specs.Listing.{Listing, pushed}
+use Rattle.core_parts.specs.declared.note.Note.TheVariants.{Gave, Took}
+use Rattle.core_parts.specs.Boards.{empty_board, given_word, giver_left, taker_joined}
 use Rattle.core_parts.specs.Lists.{left}
 use Rattle.mark_laws.specs.Growing.{Grows}
+use Rattle.mark_world.specs.BetweenCommands.{Settled}
 use Rattle.mark_world.specs.Cycles.{Cycle}
 use Rattle.mark_world.specs.Pages.{target}
 use Rattle.mark_world.specs.Soundness.{AreIn}
-use Rattle.mark_world.specs.Steps.{black, white}
-use Rattle.shared_table.specs.declared.phase.Phase.TheVariants.{Mark}
-use Rattle.heap_table.specs.Overviews.{cycle_in, known, overview}
+use Rattle.mark_world.specs.Steps.{black, noted, white}
+use Rattle.shared_table.specs.declared.phase.Phase.TheVariants.{Quiet}
+use Rattle.shared_table.specs.Worlds.{world_at_home}
+use Rattle.heap_table.specs.Overviews.{cycle_in, known, overview, unopened}
 use Rattle.heap_table.specs.Seats.{Seat}
 
--- A cycle is open. Each grey cell that waits with the mutator is listed, and each listed cell is a born one. A listed
--- cell may be black by now.
+-- Listed are just the cells that wait with the mutator, and each is born.
 pub record ListsGrey (seat : Seat) (grey : Listing) : Type 0 where
-  pub mark : seat.phase ≡ Mark
   pub bound : grey.bound ≡ eden_start seat.space
-  pub listed : AreIn grey.addresses (overview seat).view.grey
+  pub listed : (at : ℕ) → Contains grey.addresses at ↔ Contains (overview seat).view.grey at
   pub born : AreIn (overview seat).view.born grey.addresses
 
--- the same, but that the list need not have one cell that waits
-pub record ListsOthers (seat : Seat) (grey : Listing) (cell : ℕ) : Type 0 where
-  pub mark : seat.phase ≡ Mark
+-- Listed are just the others of them than one cell, and each is born.
+pub record ListsAllBut (seat : Seat) (grey : Listing) (cell : ℕ) : Type 0 where
   pub bound : grey.bound ≡ eden_start seat.space
-  pub listed : AreIn (cell ∷ grey.addresses) (overview seat).view.grey
+  pub listed : (at : ℕ) → Contains grey.addresses at ↔ Contains (left (overview seat).view.grey cell) at
   pub born : AreIn (overview seat).view.born grey.addresses
 
 -- Grey cells that wait with the mutator are listed, and it owes nothing.
@@ -45,9 +46,9 @@ pub record IsTakenFrom (before after : List ℕ) : Type 0 where
   pub place : (k : ℕ) → (slice_index after k ≡ slice_index before k) ⊎ (slice_index after k ≡ 0)
 
 -- The seat has these own words then, and its cycle is this one. The layout words that helpers read, and how many seats
--- are out, stay. Cells may be taken from the board, and none is given to it. Where colours are at home, none is less
--- than before. What else changes hangs on what steps found: colours, what waits with the mutator, and its log.
-pub record StepsTo (old new : Seat) (words : List ℕ) (its_cycle : Cycle) : Type 0 where
+-- are out, stay. Where colours are at home, none is less than before. What else changes hangs on what steps found:
+-- colours, the board, what waits with the mutator, and its log.
+pub record MovesTo (old new : Seat) (words : List ℕ) (its_cycle : Cycle) : Type 0 where
   pub space : new.space ≡ old.space
   pub phase : new.phase ≡ old.phase
   pub table : new.table ≡ words
@@ -58,15 +59,66 @@ pub record StepsTo (old new : Seat) (words : List ℕ) (its_cycle : Cycle) : Typ
   pub home : (overview new).home ≡ (overview old).home
   pub out : (overview new).out ≡ (overview old).out
   pub lent : (overview new).lent ≡ (overview old).lent
-  pub board : IsTakenFrom (overview old).board (overview new).board
   pub darkens : (overview old).home ≡ true → Darkens (overview old).colours (overview new).colours
 
+-- The same, and no cell is given to the board.
+pub record StepsTo (old new : Seat) (words : List ℕ) (its_cycle : Cycle) : Type 0 where
+  pub moves : MovesTo old new words its_cycle
+  pub board : IsTakenFrom (overview old).board (overview new).board
+
+-- A place of the board was taken from, by one step that found a word there. The cell that it refers to, if any, waits
+-- with the mutator then.
+pub record Takes (old new : Seat) (place : ℕ) : Type 0 where
+  pub found : ℕ
+  pub there : (overview old).home ≡ true → found ≡ slice_index (overview old).board place
+  pub board : (overview new).board ≡ slice_set (overview old).board place 0
+  pub log : (overview new).view.log ≡ noted (overview old).view.log (Took place found)
+  pub grey : (overview new).view.grey ≡ taker_joined (overview old).view.grey found
+
+-- A cell was given to a place of the board, by one step that found a word there. Where that was not 0, the place keeps
+-- it, and the cell waits with the mutator still.
+pub record IsGivenTo (old new : Seat) (place at : ℕ) : Type 0 where
+  pub found : ℕ
+  pub there : (overview old).home ≡ true → found ≡ slice_index (overview old).board place
+  pub board : (overview new).board ≡ slice_set (overview old).board place (given_word found at)
+  pub log : (overview new).view.log ≡ noted (overview old).view.log (Gave place found)
+  pub grey : (overview new).view.grey ≡ giver_left (overview old).view.grey found at
+
+-- the cell that was listed last was given
+pub record GivesLast (old new : Seat) (listed : Listing) (place : ℕ) : Type 0 where
+  pub at : ℕ
+  pub rest : Listing
+  pub last : listed ≡ pushed rest at
+  pub given : IsGivenTo old new place at
+
+-- the last listed cell was given; with none listed nothing happens
+abbrev pub Gives : Seat → Seat → Listing → ℕ → Type 0
+Gives old new listed place = ((listed.addresses ≡ []) × (new ≡ old)) ⊎ GivesLast old new listed place
+
 -- Cells that waited were made black: own words, published and born cells, and what was found at the opening, are as
--- before. Cells have joined those that the mutator made black, and those that it is sure of.
+-- before. Cells have joined those that the mutator made black, and those that it is sure of. Where its part was done it
+-- is done: it is sure of each target of a tagged slot of a cell that it made black.
 pub record Scans (old new : Seat) : Type 0 where
   pub steps : StepsTo old new old.table (cycle_in new)
   pub cycle : cycle_in new ≡ record (cycle_in old) { mine = (cycle_in new).mine; sure = (cycle_in new).sure }
   pub grows : Grows (overview old).view (overview new).view
+  pub settled : Settled (world_at_home (overview old)) → Settled (world_at_home (overview new))
+
+-- The cycle is closed: colours are white, no cell is on the board, and the seat knows of no cycle. Its own words, the
+-- layout words that helpers read, and how many seats were lent, stay.
+pub record IsDropped (old new : Seat) : Type 0 where
+  pub space : new.space ≡ old.space
+  pub phase : new.phase ≡ Quiet
+  pub table : new.table ≡ old.table
+  pub id : (known new.shared).id ≡ (known old.shared).id
+  pub shared : IsTrue (is_some new.shared)
+  pub layouts : (overview new).layouts ≡ (overview old).layouts
+  pub home : (overview new).home ≡ (overview old).home
+  pub out : (overview new).out ≡ (overview old).out
+  pub lent : (overview new).lent ≡ (overview old).lent
+  pub colours : (overview new).colours ≡ replicate (eden_start old.space) white
+  pub board : (overview new).board ≡ empty_board
+  pub cycle : cycle_in new ≡ unopened
 
 -- how many cells are white, of those whose colours are known, and how many are listed
 abbrev pub left_to_do : Seat → Listing → ℕ

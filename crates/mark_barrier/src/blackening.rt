@@ -2,10 +2,13 @@
 ghost use Rattle.std.specs.Prelude.{◌≡◌, [], Contains, IsSome, Some};
 ghost use Rattle.page_space.specs.Extents.{eden_start};
 ghost use Rattle.cell_layout.specs.Cells.{layouts_in, reading_of};
+ghost use Rattle.mark_world.specs.BetweenCommands.{Settled};
+ghost use Rattle.shared_table.specs.declared.phase.Phase.TheVariants.{Mark};
+ghost use Rattle.shared_table.specs.Worlds.{world_at_home};
 ghost use Rattle.heap_table.specs.Overviews.{cycle_in, overview};
 ghost use Rattle.mark_barrier.specs.CycleSteps.{made_black};
 ghost use Rattle.mark_barrier.specs.Owing.{Owes, own_cell};
-ghost use Rattle.mark_barrier.specs.Paid.{AreNoMore, IsBlackened, IsPaid, ListsGrey, ListsOthers, StepsTo};
+ghost use Rattle.mark_barrier.specs.Paid.{AreNoMore, IsBlackened, IsPaid, ListsGrey, ListsAllBut, StepsTo};
 
 use crate::shading::{pages_end, shade_target};
 use cell_layout::{Cell, next_tagged};
@@ -17,7 +20,8 @@ use tagged_word::{Word, shape};
 
 /// Makes a born cell black, and shades the targets of its tagged slots, unless it was black. It waits no more then.
 pub(crate) fn make_black(list: &mut CellList, seat: &mut MainSeat, at: u32)
-    requires lists { ListsOthers seat.old list.old at }
+    requires mark { seat.old.phase ≡ Mark }
+    requires lists { ListsAllBut seat.old list.old at }
     requires owed { (overview seat.old).view.owed ≡ [] }
     requires born { Contains (overview seat.old).view.born at }
     requires layouts { layouts_in seat.old.space seat.old.table ≡ (overview seat.old).layouts }
@@ -26,6 +30,7 @@ pub(crate) fn make_black(list: &mut CellList, seat: &mut MainSeat, at: u32)
         let cycle = made_black old.old old.words old.layouts (cycle_in seat.old) at in
         StepsTo seat.old seat.new seat.old.table cycle }
     ensures black { IsBlackened seat.new at }
+    ensures settled { Settled (world_at_home (overview seat.old)) → Settled (world_at_home (overview seat.new)) }
     ensures no_more { AreNoMore seat.old list.old seat.new list.new }
 {
     // A born cell is of a page, and so are the targets of its tagged slots.
@@ -67,6 +72,7 @@ fn known_cell(seat: &MainSeat, at: u32) -> Cell
 
 /// Shades the target of each tagged slot of a cell. Nothing is owed then.
 fn shade_slots(list: &mut CellList, seat: &mut MainSeat, cell: &Cell)
+    requires mark { seat.old.phase ≡ Mark }
     requires lists { ListsGrey seat.old list.old }
     requires owes { Owes seat.old cell.now 0 }
     ensures lists { ListsGrey seat.new list.new }

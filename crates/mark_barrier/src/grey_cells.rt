@@ -1,13 +1,12 @@
 //! The grey cells that wait with the mutator, and the steps that shade and store.
-ghost use Rattle.std.specs.Borrow.{sem};
 ghost use Rattle.std.specs.Prelude.{◌≡◌, ◌<◌, [], Contains, IfOk, slice_set, true};
-ghost use Rattle.page_space.specs.Extents.{board_words, eden_start};
+ghost use Rattle.page_space.specs.Extents.{eden_start};
 ghost use Rattle.cell_layout.specs.Cells.{layouts_in};
 ghost use Rattle.mark_world.specs.declared.event.Event.TheVariants as event;
 ghost use Rattle.mark_world.specs.Pages.{OfTarget};
+ghost use Rattle.shared_table.specs.declared.phase.Phase.TheVariants.{Mark};
 ghost use Rattle.heap_table.specs.Overviews.{cycle_in, MayStep, overview};
-ghost use Rattle.mark_barrier.specs.CycleSteps.{made_black, published, sure_of, surer};
-ghost use Rattle.mark_barrier.specs.Lending.{LendsList};
+ghost use Rattle.mark_barrier.specs.CycleSteps.{made_black, published, sure_of, sure_of_target};
 ghost use Rattle.mark_barrier.specs.Paid.{IsBlackened, IsColoured, IsPaid, Scans, StepsTo};
 
 use crate::blackening::make_black;
@@ -50,6 +49,7 @@ impl GreyCells {
 
     /// Shades a born cell.
     pub fn shade(&mut self, seat: &mut MainSeat, at: u32)
+        requires mark { seat.old.phase ≡ Mark }
         requires paid { IsPaid seat.old self.old }
         requires born { Contains (overview seat.old).view.born at }
         ensures paid { IsPaid seat.new self.new }
@@ -64,11 +64,12 @@ impl GreyCells {
     /// Stores a word in a slot of a page, and shades its target, if it has one in a page.
     #[inline(always)]
     pub fn store(&mut self, seat: &mut MainSeat, a: u32, word: Word)
+        requires mark { seat.old.phase ≡ Mark }
         requires paid { IsPaid seat.old self.old }
         requires within { a < eden_start seat.old.space }
         requires may { MayStep seat.old (event.StoreSlot a word.0) }
         ensures paid { IsPaid seat.new self.new }
-        ensures steps { let cycle = surer (eden_start seat.old.space) (cycle_in seat.old) word.0 in
+        ensures steps { let cycle = sure_of_target (eden_start seat.old.space) (cycle_in seat.old) word.0 in
             StepsTo seat.old seat.new (slice_set seat.old.table a word.0) cycle }
         ensures coloured { OfTarget (eden_start seat.old.space) word.0 (IsColoured seat.new) }
     {
@@ -78,11 +79,12 @@ impl GreyCells {
 
     /// Publishes a cell that was just made: it is black first.
     pub fn publish(&mut self, seat: &mut MainSeat, a: u32)
+        requires mark { seat.old.phase ≡ Mark }
         requires paid { IsPaid seat.old self.old }
         requires may { MayStep seat.old (event.NewBlack a) }
         ensures paid { IsPaid seat.new self.new }
         ensures steps { StepsTo seat.old seat.new seat.old.table (published (cycle_in seat.old) a) }
-        ensures coloured { IsColoured seat.new a }
+        ensures black { IsBlackened seat.new a }
     {
         seat.colours_fit();
         // A colour is one of three, so none is darker than black.
@@ -92,6 +94,7 @@ impl GreyCells {
 
     /// Makes a born cell black, and shades the targets of its tagged slots, unless it was black.
     pub fn blacken(&mut self, seat: &mut MainSeat, at: u32)
+        requires mark { seat.old.phase ≡ Mark }
         requires paid { IsPaid seat.old self.old }
         requires born { Contains (overview seat.old).view.born at }
         requires layouts { layouts_in seat.old.space seat.old.table ≡ (overview seat.old).layouts }
@@ -101,26 +104,15 @@ impl GreyCells {
             StepsTo seat.old seat.new seat.old.table cycle }
         ensures black { IsBlackened seat.new at }
     {
-        make_black(&mut self.list, seat, at);
-    }
-
-    /// Takes the cell at a place of the board, if there is one. It waits with the mutator then.
-    pub fn take(&mut self, seat: &mut MainSeat, place: u32)
-        requires paid { IsPaid seat.old self.old }
-        requires within { place < board_words }
-        ensures paid { IsPaid seat.new self.new }
-        ensures steps { StepsTo seat.old seat.new seat.old.table (cycle_in seat.old) }
-        ensures board { (overview seat.new).board ≡ slice_set (overview seat.old).board place 0 }
-    {
-        // The cell is born, and so of a page.
+        // A born cell is of a page.
         seat.sound();
-        if let Some(at) = Word(seat.take_board(place)).address() {
-            self.list.add(at);
-        }
+        self.list.remove(at);
+        make_black(&mut self.list, seat, at);
     }
 
     /// Visits the cells that wait, and those that are found by it, until none waits: each is made black.
     pub fn scan(&mut self, seat: &mut MainSeat)
+        requires mark { seat.old.phase ≡ Mark }
         requires paid { IsPaid seat.old self.old }
         requires home { (overview seat.old).home ≡ true }
         requires layouts { layouts_in seat.old.space seat.old.table ≡ (overview seat.old).layouts }
@@ -130,13 +122,5 @@ impl GreyCells {
         ensures grey { (overview seat.new).view.grey ≡ [] }
     {
         blacken_listed(&mut self.list, seat);
-    }
-
-    /// The list, to which a helper hands its cells over.
-    pub fn list_mut(&mut self) -> &mut CellList
-        ensures* lends { sem 𝓛 (LendsList self.entry result) }
-        ensures list { result.now ≡ self.old }
-    {
-        &mut self.list
     }
 }

@@ -7,7 +7,10 @@
 #![tactic(auto)]
 
 mod blackening;
+mod board;
+mod dropping;
 mod grey_cells;
+mod returning;
 mod scanning;
 mod shading;
 

@@ -1,6 +1,7 @@
 //! Cells that wait are made black until none waits.
 ghost use Rattle.std.specs.Prelude.{◌≡◌, [], true};
 ghost use Rattle.cell_layout.specs.Cells.{layouts_in};
+ghost use Rattle.shared_table.specs.declared.phase.Phase.TheVariants.{Mark};
 ghost use Rattle.heap_table.specs.Overviews.{overview};
 ghost use Rattle.mark_barrier.specs.Paid.{IsPaid, Scans};
 
@@ -10,6 +11,7 @@ use heap_table::MainSeat;
 
 /// Takes off the cell that was listed last, and makes it black, until none is listed.
 pub(crate) fn blacken_listed(list: &mut CellList, seat: &mut MainSeat)
+    requires mark { seat.old.phase ≡ Mark }
     requires paid { IsPaid seat.old list.old }
     requires home { (overview seat.old).home ≡ true }
     requires layouts { layouts_in seat.old.space seat.old.table ≡ (overview seat.old).layouts }

@@ -2,13 +2,15 @@
 ghost use Rattle.std.specs.Prelude.{◌≡◌, ◌<◌, Contains};
 ghost use Rattle.page_space.specs.Extents.{eden_start};
 ghost use Rattle.core_parts.specs.Lists.{left};
-ghost use Rattle.mark_world.specs.Pages.{OfTarget, target};
+ghost use Rattle.mark_world.specs.Pages.{OfTarget};
+ghost use Rattle.shared_table.specs.declared.phase.Phase.TheVariants.{Mark};
 ghost use Rattle.heap_table.specs.Overviews.{cycle_in, overview};
-ghost use Rattle.mark_barrier.specs.CycleSteps.{sure_of, surer};
+ghost use Rattle.mark_barrier.specs.CycleSteps.{sure_of, sure_of_target};
 ghost use Rattle.mark_barrier.specs.Paid.{AreNoMore, IsColoured, ListsGrey, StepsTo, without_target};
 
 use cell_list::CellList;
 use heap_table::{Colour, MainSeat};
+use mark_world::target;
 use page_space::{PAGE_WORDS, Regions};
 use tagged_word::Word;
 
@@ -21,18 +23,10 @@ pub(crate) fn pages_end(regions: Regions) -> u32
     regions.sizes().pages * PAGE_WORDS
 }
 
-/// The cell of a page that a word refers to.
-#[inline(always)]
-fn target(word: Word, old: u32) -> Option<u32>
-    ensures { result ≡ target old word.0 }
-{
-    let at = word.address()?;
-    if at < old { Some(at) } else { None }
-}
-
 /// Shades a cell of a page, which is owed no more then, and lists it where it was white.
 #[inline(always)]
 pub(crate) fn shade_cell(list: &mut CellList, seat: &mut MainSeat, at: u32)
+    requires mark { seat.old.phase ≡ Mark }
     requires lists { ListsGrey seat.old list.old }
     requires within { at < eden_start seat.old.space }
     requires born { Contains (overview seat.old).view.born at }
@@ -52,12 +46,13 @@ pub(crate) fn shade_cell(list: &mut CellList, seat: &mut MainSeat, at: u32)
 /// Shades the target of a word, if it has one in a page. It is owed no more then.
 #[inline(always)]
 pub(crate) fn shade_target(list: &mut CellList, seat: &mut MainSeat, word: Word)
+    requires mark { seat.old.phase ≡ Mark }
     requires lists { ListsGrey seat.old list.old }
     requires born { OfTarget (eden_start seat.old.space) word.0 (Contains (overview seat.old).view.born) }
     ensures lists { ListsGrey seat.new list.new }
     ensures owed { let old = eden_start seat.old.space in
         (overview seat.new).view.owed ≡ without_target old (overview seat.old).view.owed word.0 }
-    ensures steps { let cycle = surer (eden_start seat.old.space) (cycle_in seat.old) word.0 in
+    ensures steps { let cycle = sure_of_target (eden_start seat.old.space) (cycle_in seat.old) word.0 in
         StepsTo seat.old seat.new seat.old.table cycle }
     ensures coloured { OfTarget (eden_start seat.old.space) word.0 (IsColoured seat.new) }
     ensures no_more { AreNoMore seat.old list.old seat.new list.new }

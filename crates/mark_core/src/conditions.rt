@@ -14,10 +14,10 @@ ghost use Rattle.std.specs.List.{Contains};
 ghost use Rattle.mark_core.specs.HeaderChange.{IsSureSlot};
 
 use crate::cells::{is_free, is_no_head, is_outside, leaves_all_alone, word_at};
-use crate::lists::{has, target};
+use crate::lists::has;
 use crate::naming::{is_read_out, is_shape, is_to_read, is_unread};
 use crate::safety::{is_safe, is_slot_word, laid_in};
-use mark_world::{Event, HelperView, Laid, MainView, Snap, World};
+use mark_world::{Event, HelperView, Laid, MainView, Snap, World, target};
 use page_space::BOARD_WORDS;
 use tagged_word::{Header, Kind, LayoutWord, Word};
 
@@ -25,7 +25,7 @@ use tagged_word::{Header, Kind, LayoutWord, Word};
 fn has_target_in(old: u32, word: u64, list: &[u32]) -> bool
     ensures { IsTrue result ↔ OfTarget old word (λ to. Contains list.now to) }
 {
-    match target(old, word) {
+    match target(Word(word), old) {
         Some(to) => has(list, to),
         None => true,
     }

@@ -6,7 +6,7 @@ ghost use Rattle.mark_world.specs.Pages.{target, targets_joined};
 ghost use Rattle.mark_world.specs.Steps.{all_joined, joined_if_white, snap_targets, white};
 
 use core_parts::{Items, Note, join};
-use mark_world::Snap;
+use mark_world::{Snap, target};
 use std::alloc::Global;
 use tagged_word::{NoMemory, Word};
 
@@ -24,14 +24,6 @@ pub(crate) fn has(list: &[u32], at: u32) -> bool
     is_in(list, at)
 }
 
-/// The old address that a word refers to.
-pub(crate) fn target(old: u32, word: u64) -> Option<u32>
-    ensures { result ≡ target old word }
-{
-    let at = Word(word).address()?;
-    if at < old { Some(at) } else { None }
-}
-
 /// The address joins a list, if there is one.
 pub(crate) fn join_by(list: &mut Items<u32>, at: Option<u32>) -> Result<(), NoMemory>
     ensures { OnOk result (list.new ≡ joined_by list.old at) }
@@ -46,7 +38,7 @@ pub(crate) fn join_by(list: &mut Items<u32>, at: Option<u32>) -> Result<(), NoMe
 pub(crate) fn join_target(list: &mut Items<u32>, old: u32, word: u64) -> Result<(), NoMemory>
     ensures { OnOk result (list.new ≡ joined_by list.old (target old word)) }
 {
-    join_by(list, target(old, word))
+    join_by(list, target(Word(word), old))
 }
 
 /// Addresses join a list, one after another.

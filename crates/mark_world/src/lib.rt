@@ -15,6 +15,7 @@ mod laid;
 mod sizing;
 mod snap;
 mod step;
+mod targets;
 mod views;
 mod world;
 
@@ -23,5 +24,6 @@ pub use laid::Laid;
 pub use sizing::{known_size, page_end};
 pub use snap::{Snap, SnapSlot};
 pub use step::{Actor, Spot};
+pub use targets::target;
 pub use views::{HelperView, MainView, Views};
 pub use world::World;

@@ -4,5 +4,4 @@ pub mod OneTurn
 pub mod Listed
 pub mod Looked
 pub mod Going
-pub mod Joins
 pub mod Offers

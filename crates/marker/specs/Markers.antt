@@ -1,5 +1,5 @@
 -- What a marker is to its callers, and what it keeps in its fields.
-use Rattle.std.specs.Prelude.{◌≡◌, ◌⊎◌, ◌↔◌, ℕ, ◌<◌, Contains, Option, Some, None, IfSome}
+use Rattle.std.specs.Prelude.{◌≡◌, ℕ, ◌<◌, Option, Some, None, IfSome}
 use Rattle.std.specs.Arc.{arc_value}
 use Rattle.atomic_table.specs.Seated.{TableId}
 use Rattle.page_space.specs.Extents.{board_words}
@@ -49,8 +49,3 @@ pub record Marks (before after : Marking) (turns : ℕ) (outcome : Outcome) : Ty
 abbrev pub HasMarked : Marking → Marking → ℕ → Option Outcome → Type 0
 HasMarked before after turns None = (before.seat ≡ None) × (after ≡ before)
 HasMarked before after turns (Some outcome) = Marks before after turns outcome
-
--- the cells of one list have joined those of another
-abbrev pub HasJoined : Listing → Listing → Listing → Type 0
-HasJoined before after joins =
-    (at : ℕ) → Contains after.addresses at ↔ (Contains before.addresses at ⊎ Contains joins.addresses at)

@@ -2,7 +2,8 @@
 ghost use Rattle.std.specs.Prelude.{◌≡◌, ◌≤◌, [], Some, None, IfOk};
 ghost use Rattle.std.specs.Arc.{arc_value};
 ghost use Rattle.mark_world.specs.Steps.{lent};
-ghost use Rattle.marker.specs.Markers.{HasJoined, HasMarked};
+ghost use Rattle.cell_list.specs.Listing.{HasJoined};
+ghost use Rattle.marker.specs.Markers.{HasMarked};
 
 use crate::marking::{Outcome, mark};
 use crate::turn::Room;
@@ -95,7 +96,7 @@ impl Marker {
         ensures bound { to.new.bound ≡ to.old.bound }
         ensures empty { self.new ≡ record self.old { listing = record self.old.listing { addresses = [] } } }
     {
-        join_lists(&self.room.list, to);
+        to.join(&self.room.list);
         self.room.list.clear();
     }
 
@@ -108,17 +109,6 @@ impl Marker {
             Some(seat) => Some(mark(seat, &self.table, &mut self.room, turns, gate)),
             None => None,
         }
-    }
-}
-
-/// Lists the cells of one list on another.
-fn join_lists(from: &CellList, to: &mut CellList)
-    requires { from.now.bound ≤ to.old.bound }
-    ensures joined { HasJoined to.old to.new from.now }
-    ensures bound { to.new.bound ≡ to.old.bound }
-{
-    for place in 0..from.len() {
-        to.add(from.get(place));
     }
 }
 

@@ -1,11 +1,11 @@
 //! The targets of a cell that a visit has kept are shaded.
 ghost use Rattle.std.specs.Prelude.{◌≡◌, ℕ, ◌<◌, [], Contains, Some, length};
 ghost use Rattle.mark_laws.specs.Types.{SnapSlot};
-ghost use Rattle.mark_world.specs.Pages.{OfTarget, target};
+ghost use Rattle.mark_world.specs.Pages.{OfTarget};
 ghost use Rattle.marker.specs.Shading.{HasListed, IsShaded, MayShade, Shades, word_of};
 
 use cell_list::CellList;
-use mark_world::SnapSlot;
+use mark_world::{SnapSlot, target};
 use shared_table::{Colour, HelperSeat, SharedTable};
 use tagged_word::Word;
 
@@ -41,7 +41,7 @@ fn shade_target(seat: &mut HelperSeat, table: &SharedTable, list: &mut CellList,
     ensures shades { Shades seat.old seat.new }
     ensures shaded { IsShaded seat.new word }
 {
-    if let Some(at) = target(word, seat.counts().old) {
+    if let Some(at) = target(Word(word), seat.counts().old) {
         shade_cell(seat, table, list, at);
     }
 }
@@ -62,13 +62,4 @@ fn shade_cell(seat: &mut HelperSeat, table: &SharedTable, list: &mut CellList, a
         Colour::White => list.add(at),
         _ => {}
     }
-}
-
-/// The cell of a page that a word refers to.
-#[inline(always)]
-fn target(word: u64, old: u32) -> Option<u32>
-    ensures { result ≡ target old word }
-{
-    let at = Word(word).address()?;
-    if at < old { Some(at) } else { None }
 }

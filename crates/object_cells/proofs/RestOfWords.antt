@@ -8,7 +8,7 @@ use Rattle.heap_model.specs.Types.{Held}
 use Rattle.handle_roots.specs.Roots.{root_at, first_word, second_word}
 use Rattle.write_barrier.specs.Seats.{Seat, heap_words, RestStays}
 use Rattle.write_barrier.specs.Staying.{rest_stays_itself, rest_stays_again}
-use Rattle.write_barrier.proofs.HeapWords.{stays_beside-put}
+use Rattle.write_barrier.proofs.HeapWords.{stays_beside, stays_beside-put}
 use Rattle.heap_model.specs.Slots.{raw_word, reference_word}
 use Rattle.write_barrier.specs.MutatorState.{Mutator, with_table, with_variable, reserved}
 use Rattle.write_barrier.specs.Values.{with_range}
@@ -41,12 +41,9 @@ pub range_beside : (main : Mutator) (at : ℕ) (others : List ℕ)
     → length (heap_words main.seat) ≡ marks_start main.seat.space
     → at + length others ≤ marks_start main.seat.space
     → RestStays main.seat (with_table main (with_range main.seat.table at others)).seat
-range_beside main at others counted within = record {
-  space = refl;
-  phase = refl;
-  count = length-with_range main.seat.table others at (omega (arith, counted, within));
-  shared = refl;
-}
+range_beside main at others counted within =
+    stays_beside main.seat (with_range main.seat.table at others)
+    (length-with_range main.seat.table others at (omega (arith, counted, within)))
 
 -- it stays where a box is made before the marks
 pub box_beside : (main : Mutator) (at : ℕ) (v : ℤ) → at + 1 < marks_start main.seat.space

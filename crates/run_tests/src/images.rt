@@ -66,15 +66,15 @@ list l; push l 5000000000; push l l; scavenge | 8705 | 64 6 8717 2 14 4 8741 870
 list l; push l 5000000000; push l l; scavenge; scavenge | 1 | 0 0 | 6 13 2 14 4 37 1 7 7 22 5000000000 30 2037
 weak m; wput m m 5; scavenge | 8705 | 64 10 8717 1 18 4 8705 10 7 7 7 7 7 7 0 | 30 2048
 weak m; wput m m 5; scavenge; scavenge | 1 | 0 0 | 10 13 1 18 4 1 10 7 7 7 7 7 7 30 2035
-list l; new x 1; new y 0; set x a y; push l x; new x 1; new y 0; set x a y; push l x; drop x; drop y; scavenge | 8705 | \
-64 6 8717 2 14 4 8741 8753 7 7 4294967366 3 8773 12884901958 3 8765 17179869218 3 8589934626 3 0 | 30 2048
+list l; new x 1; new y 0; set x a y; push l x; new x 1; new y 0; set x a y; push l x; drop x; drop y; scavenge | \
+8705 | 64 6 8717 2 14 4 8741 8753 7 7 4294967366 3 8773 12884901958 3 8765 17179869218 3 8589934626 3 0 | 30 2048
 new x 1; scavenge; scavenge; new y 0; set x a y; drop y; scavenge | 1 | 64 4294967330 3 0 | 70 3 8705 30 2045
 new x 1; scavenge; scavenge; new y 0; set x a y; drop y; scavenge; scavenge | 1 | 0 0 | 70 3 13 4294967330 3 30 2043
 new x 1; scavenge; scavenge; new y 0; set x a y; drop y; set x a 7; scavenge | 1 | 64 0 | 70 3 14 30 2045
 new x 0; new y 1; scavenge; scavenge; new z 0; set y a z; set x a z; drop z; scavenge | 1 | \
 64 14 4 8729 7 7 7 8589934626 3 0 | 74 8705 4294967366 3 8729 30 2043
-list l; push l 1; push l 2; push l 3; push l 4; scavenge; scavenge; new y 0; put l 3 y; drop y; shift l 2; scavenge | 1 | \
-64 4294967330 3 0 | 6 21 2 30 2 14 2 6 8705 30 2039
+list l; push l 1; push l 2; push l 3; push l 4; scavenge; scavenge; new y 0; put l 3 y; drop y; shift l 2; scavenge | \
+1 | 64 4294967330 3 0 | 6 21 2 30 2 14 2 6 8705 30 2039
 weak m; scavenge; scavenge; new k 0; wput m k m; scavenge | 1 | \
 64 4294967330 3 18 4 7 7 8705 1 7 7 7 7 0 | 10 8713 1 30 2045
 weak m; wput m m 1; scavenge; scavenge; new k 0; wput m k 2; drop k; scavenge | 1 | \

@@ -7,7 +7,7 @@ use Rattle.word_store.specs.Copies.{copied}
 use Rattle.word_store.proofs.CopiedWords.{length-copied}
 use Rattle.write_barrier.specs.Seats.{RestStays, heap_words}
 use Rattle.write_barrier.specs.Staying.{rest_stays_itself, rest_stays_again}
-use Rattle.write_barrier.proofs.HeapWords.{stays_beside-put}
+use Rattle.write_barrier.proofs.HeapWords.{stays_beside, stays_beside-put}
 use Rattle.write_barrier.specs.MutatorState.{Mutator, forgets, with_word, with_table}
 use Rattle.write_barrier.proofs.JudgedSlots.{wiped_bound}
 use Rattle.scavenger.specs.Filling.{ChangesWords}
@@ -59,7 +59,7 @@ copy_changes {old} {new} from to count is heap heap_counted within room =
     (omega (arith, room, heap_counted)) in
     record {
       seat = subst (λ (main : Mutator). RestStays old.seat main.seat) (sym is)
-          (record { space = refl; phase = refl; count = long; shared = refl });
+          (stays_beside old.seat (copied old.seat.table from to count) long);
       paths = ap (λ (main : Mutator). main.paths) is;
       young = ap (λ (main : Mutator). main.young) is;
       bound = ap (λ (main : Mutator). main.recorded.bound) is ∙ wiped_bound old.recorded to (to + count);

@@ -20,12 +20,14 @@ use Rattle.scav_copy.specs.Places.{Fixed, size_of}
 use Rattle.scav_copy.specs.Renamings.{IsRenamed, Renaming}
 use Rattle.scav_copy.proofs.Reading.{copies_read, copies_end}
 use Rattle.scav_copy.proofs.Spots.{from_is, slot_in_cell}
-use Rattle.scavenger.specs.Starts.{Start, IsYoungCell, room_start}
+use Rattle.scavenger.specs.Starts.{Start, IsYoungCell, segment_from}
 use Rattle.scavenger.specs.Filling.{Tiles}
 use Rattle.scavenger.proofs.TargetCells.{before_is_young, young_size, recorded_below, run_ends}
-use Rattle.scavenger.proofs.EndRanges.{room_extent, room_starts, room_among}
+use Rattle.scavenger.proofs.FilledSegments.{StaysYoung, filled_below}
+use Rattle.scavenger.proofs.EndRanges.{segment_extent, segment_starts, segment_among}
 use Rattle.scavenger.proofs.EndRuns.{run_cell}
-use Rattle.scavenger.proofs.EndWords.{Ending, StaysYoung, IsPromoted, ended, the_halves, in_room, home_place, kept}
+use Rattle.scavenger.proofs.EndWords.{Ending, IsPromoted, ended, end_segments, stays_in_half, the_halves, home_place}
+use Rattle.scavenger.proofs.EndWords.{kept}
 use Rattle.scavenger.proofs.EndWords.{kept_apart, behind_same, same_read}
 
 -- a length is read of equal second words, where there is one
@@ -55,11 +57,12 @@ module _ {start : Start} {left : ℕ} {fixed : Fixed} {homes : List Home} {rows 
       let halves = the_halves ending in
       elim (home_place ending home there) [
         | inl stays ↦
-            let end = in_room ending in
-            kept ending at (inl (λ same. omega (arith, same, stays.ends, less)))
+            let within = stays_in_half ending home stays in
+            let filled = filled_below ending.begun ending.filled stays.stays.segment stays.stays.of_all in
+            kept ending at (inl (λ same. omega (arith, same, is, stays.ends, filled, less)))
             (elim halves.apart [
-              | inl before ↦ inl (omega (arith, before, stays.ends, less, end, halves.room_to))
-              | inr behind ↦ inr (omega (arith, behind, stays.from, halves.room_from))
+              | inl before ↦ inl (omega (arith, before, within.1, is, less))
+              | inr behind ↦ inr (omega (arith, behind, within.0, is))
             ])
         | inr promoted ↦
             let below = run_ends promoted.run ending.begun promoted.is in
@@ -150,27 +153,29 @@ module _ {start : Start} {left : ℕ} {fixed : Fixed} {homes : List Home} {rows 
   pub copy_size : (home : Home) (is : IsYoungCell start.heap home.from) → is.cell.size ≡ size_of fixed home.from
   copy_size home is = young_size ending.begun is
 
-  -- where copies may stand in the segment
-  place_in_room : (home : Home) → Contains homes home → StaysYoung start fixed ending.filled.stayed fill home
+  -- where copies may stand in a segment
+  place_in_segment : (home : Home) → Contains homes home → StaysYoung start fixed (end_segments ending) home
       → HasPlace start.heap.space fixed home
-  place_in_room home there stays =
-      let starts = room_starts start.heap.space start.half in
+  place_in_segment home there stays =
+      let space = start.heap.space in
+      let worker : ℕ = stays.stays.segment.worker in
+      let starts = segment_starts space start.half worker in
       let is = young_of home there in
       let some = (first_of_cell is.has).below in
       record {
-        end = room_start start.heap.space start.half + start.heap.space.sizes.young;
+        end = segment_from space start.half worker + space.sizes.young;
         stands = record {
-          extent = room_extent start.heap.space start.half;
-          stands = cell_extent_stands start.heap.space (room_extent start.heap.space start.half)
-              (room_among start.heap.space start.half left ending.halves);
+          extent = segment_extent space start.half worker;
+          stands = cell_extent_stands space (segment_extent space start.half worker)
+              (segment_among space start.half worker ending.begun.is_half stays.known);
           of_cells = refl;
           holds = record {
             from = omega (arith, starts, stays.from);
-            below = omega (arith, starts, stays.ends, in_room ending, copy_size home is, some);
+            below = omega (arith, starts, stays.ends, stays.fits, copy_size home is, some);
           };
           ends = omega (arith, starts);
         };
-        ends = omega (arith, stays.ends, in_room ending);
+        ends = omega (arith, stays.ends, stays.fits);
       }
 
   -- and where in a free run
@@ -195,7 +200,7 @@ module _ {start : Start} {left : ℕ} {fixed : Fixed} {homes : List Home} {rows 
   has_place : (home : Home) → Contains homes home → HasPlace start.heap.space fixed home
   has_place home there =
       elim (home_place ending home there) [
-        | inl stays ↦ place_in_room home there stays
+        | inl stays ↦ place_in_segment home there stays
         | inr promoted ↦ place_in_page home there promoted
       ]
 

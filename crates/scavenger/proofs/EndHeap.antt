@@ -22,25 +22,27 @@ use Rattle.heap_moves.specs.Moved.{moved_to}
 use Rattle.scav_copy.specs.declared.places.Home.{Home}
 use Rattle.scav_copy.specs.Places.{Fixed}
 use Rattle.scav_copy.proofs.Spots.{home_itself}
-use Rattle.scavenger.specs.Starts.{Start, IsYoungCell, IsFreeRun, room_start}
-use Rattle.scavenger.specs.Scavenged.{words_of_homes, begins_free}
-use Rattle.scavenger.proofs.EndRanges.{room_extent, room_starts, room_among}
+use Rattle.scavenger.specs.Starts.{Start, SegmentCopies, IsYoungCell, IsFreeRun}
+use Rattle.scavenger.specs.Filling.{words_of_segments}
+use Rattle.scavenger.specs.Scavenged.{begins_free}
+use Rattle.scavenger.proofs.FilledSegments.{segment_known, few_in_segments}
+use Rattle.scavenger.proofs.EndRanges.{segment_extent, segment_starts, segment_among}
 use Rattle.scavenger.proofs.PagesRuns.{HasRun, first_of_run, one_run_at}
 use Rattle.scavenger.proofs.PagesFree.{was_free, free_began, no_home}
 use Rattle.scavenger.proofs.EndRuns.{run_cell, run_of_cell, no_run_there}
-use Rattle.scavenger.proofs.EndWords.{Ending, long, few, in_room, home_place}
+use Rattle.scavenger.proofs.EndWords.{Ending, end_segments, long, home_place}
 use Rattle.scavenger.proofs.EndCopies.{layout_same, copy_cell}
-use Rattle.scavenger.proofs.EndSums.{adds_at, cells_add}
-use Rattle.scavenger.proofs.EndRows.{CameFrom, EndRow, ended_heap, row_after, stayed_words}
+use Rattle.scavenger.proofs.EndSums.{adds_all, all_cells_add}
+use Rattle.scavenger.proofs.EndRows.{CameFrom, EndRow, ended_heap, row_after}
 
 -- the rows of some regions at the end
-record EndRows (start : Start) (fixed : Fixed) (stayed : List Home) (now : List ℕ) (rows : List Row) : Type 0 where
+record EndRows (start : Start) (fixed : Fixed) (segments : List SegmentCopies) (now : List ℕ) (rows : List Row)
+    : Type 0 where
   others : List Row
   everywhere : map (λ row. row.extent) others ≡ map (λ row. row.extent) rows
-  each : All (IsUsedRow (ended_heap start.heap fixed stayed now)) others
+  each : All (IsUsedRow (ended_heap start.heap fixed segments now)) others
   survivors : survivors_of others
-      ≡ sum_by (adds_at (room_start start.heap.space start.half) (words_of_homes fixed stayed))
-      (map (λ row. row.extent) rows)
+      ≡ sum_by (adds_all start.heap.space start.half fixed segments) (map (λ row. row.extent) rows)
 
 -- a region of cells that has the address
 record IsOfExtent (start : Start) (at : ℕ) : Type 0 where
@@ -52,11 +54,11 @@ module _ {start : Start} {left : ℕ} {fixed : Fixed} {homes : List Home} {rows 
     {fill : ℕ} (ending : Ending start left fixed homes rows words now fill) where
   -- the heap at the end
   abbrev pub end_heap : Heap
-  end_heap = ended_heap start.heap fixed ending.filled.stayed now
+  end_heap = ended_heap start.heap fixed (end_segments ending) now
 
   -- the row of a region
   abbrev RowAt : Extent → Type 0
-  RowAt extent = EndRow start fixed ending.filled.stayed homes rows now extent extent.region
+  RowAt extent = EndRow start fixed (end_segments ending) homes rows now extent extent.region
 
   -- it is used
   row_used : {extent : Extent} (one : RowAt extent)
@@ -65,7 +67,7 @@ module _ {start : Start} {left : ℕ} {fixed : Fixed} {homes : List Home} {rows 
 
   -- each row has one
   all_rows : (some : List Row) → ((row : Row) → Contains some row → IsRowFrom start.heap row.extent.start row)
-      → EndRows start fixed ending.filled.stayed now some
+      → EndRows start fixed (end_segments ending) now some
   all_rows [] are = record {
     others = [];
     everywhere = refl;
@@ -77,8 +79,7 @@ module _ {start : Start} {left : ℕ} {fixed : Fixed} {homes : List Home} {rows 
       let one = row_after ending row is.among is.used in
       let new : Row = record { extent = row.extent; end = one.end; cells = one.cells } in
       let later = all_rows some (λ other there. are other (rest_in row some other there)) in
-      let adds : Extent → ℕ =
-      adds_at (room_start start.heap.space start.half) (words_of_homes fixed ending.filled.stayed) in
+      let adds : Extent → ℕ = adds_all start.heap.space start.half fixed (end_segments ending) in
       let count : Row → ℕ = λ any. survivors_in any any.extent.region in
       record {
         others = new ∷ later.others;
@@ -104,8 +105,8 @@ module _ {start : Start} {left : ℕ} {fixed : Fixed} {homes : List Home} {rows 
       record { row = own.row; is = own.is; one = row_after ending own.row own.is.among own.is.used; same = own.same }
 
   -- the copies that stayed young have no more words than survivors and eden's used words together
-  pub few_stayed : words_of_homes fixed ending.filled.stayed ≤ start.heap.survivors + start.heap.used
-  few_stayed = omega (arith, few ending, stayed_words ending)
+  pub few_stayed : words_of_segments fixed (end_segments ending) ≤ start.heap.survivors + start.heap.used
+  few_stayed = few_in_segments ending.begun ending.filled
 
   -- the heap at the end has rows
   pub has_rows : HasRows end_heap
@@ -113,15 +114,13 @@ module _ {start : Start} {left : ℕ} {fixed : Fixed} {homes : List Home} {rows 
       let own = ending.begun.whole.rows in
       let space = start.heap.space in
       let all = all_rows own.rows (λ row. row_is row own.are) in
-      let many : ℕ = words_of_homes fixed ending.filled.stayed in
-      let room = room_extent space start.half in
       record {
         rows = all.others;
         are = record { everywhere = all.everywhere ∙ own.are.everywhere; each = all.each };
         counted = all.survivors
-            ∙ ap (sum_by (adds_at (room_start space start.half) many)) own.are.everywhere
-            ∙ ap (λ from. sum_by (adds_at from many) (cell_extents space)) (sym (room_starts space start.half))
-            ∙ cells_add space room many ending.limits (room_among space start.half left ending.halves);
+            ∙ ap (sum_by (adds_all space start.half fixed (end_segments ending))) own.are.everywhere
+            ∙ all_cells_add space start.half fixed (end_segments ending) ending.limits ending.begun.is_half
+            (segment_known ending.begun ending.filled);
         few = omega (arith, few_stayed, own.few);
       }
 
@@ -180,13 +179,14 @@ module _ {start : Start} {left : ℕ} {fixed : Fixed} {homes : List Home} {rows 
       let first = home_itself home ending.begun.laid ending.filled.copying there in
       elim (home_place ending home there) [
         | inl stays ↦
-            let starts = room_starts space start.half in
+            let worker : ℕ = stays.stays.segment.worker in
+            let starts = segment_starts space start.half worker in
             record {
-              extent = room_extent space start.half;
-              among = room_among space start.half left ending.halves;
+              extent = segment_extent space start.half worker;
+              among = segment_among space start.half worker ending.begun.is_half stays.known;
               holds = record {
                 from = omega (arith, starts, stays.from);
-                below = omega (arith, starts, stays.ends, first.below, in_room ending);
+                below = omega (arith, starts, stays.ends, first.below, stays.fits);
               };
             }
         | inr promoted ↦

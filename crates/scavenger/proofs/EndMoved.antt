@@ -15,10 +15,10 @@ use Rattle.scav_copy.specs.Renamings.{IsRenamed}
 use Rattle.scav_copy.proofs.Spots.{home_itself, home_fits}
 use Rattle.scavenger.specs.Starts.{Start}
 use Rattle.scavenger.specs.Scavenged.{place_after, begins_free}
-use Rattle.scavenger.proofs.FollowTiles.{young_within}
+use Rattle.scavenger.proofs.FilledSegments.{young_within}
 use Rattle.scavenger.proofs.EndRanges.{half_holds}
 use Rattle.scavenger.proofs.EndRuns.{run_of_no_cell}
-use Rattle.scavenger.proofs.EndWords.{Ending, ended, the_halves, in_room, is_promoted, behind_same}
+use Rattle.scavenger.proofs.EndWords.{Ending, ended, the_halves, stays_in_half, is_promoted, behind_same}
 use Rattle.scavenger.proofs.EndCopies.{renaming, young_of}
 use Rattle.scavenger.proofs.EndRows.{CameFrom}
 use Rattle.scavenger.proofs.EndHeap.{end_heap, has_rows, has_sizes, came_from}
@@ -148,12 +148,12 @@ module _ {start : Start} {left : ℕ} {fixed : Fixed} {homes : List Home} {rows 
       let holds = half_holds start.heap.space left cell.at inside in
       let young : eden_start start.heap.space ≤ cell.at = omega (arith, holds.0, halves.left_from) in
       let found = young_came came young in
-      let stands = young_within found.0 ending.filled found.1 (omega (arith, young, found.2)) in
+      let stays = young_within ending.begun ending.filled found.0 found.1 (omega (arith, young, found.2)) in
+      let stands = stays_in_half ending found.0 stays in
       let first = home_itself found.0 ending.begun.laid ending.filled.copying found.1 in
       elim halves.apart [
-        | inl before ↦
-            omega (arith, before, holds.0, found.2, stands.1, first.below, in_room ending, halves.room_to)
-        | inr behind ↦ omega (arith, behind, holds.1, found.2, stands.0, halves.room_from)
+        | inl before ↦ omega (arith, before, holds.0, found.2, stands.1, first.below)
+        | inr behind ↦ omega (arith, behind, holds.1, found.2, stands.0)
       ]
 
   -- so the heap at the end may be collected

@@ -11,7 +11,7 @@ use Rattle.page_space.proofs.Placed.{placed}
 use Rattle.heap_model.specs.Heaps.{cell_extents}
 use Rattle.heap_model.specs.Collectable.{IsInHalf}
 use Rattle.heap_model.proofs.CellsApart.{cell_extent_stands}
-use Rattle.scavenger.specs.Starts.{room_start}
+use Rattle.scavenger.specs.Starts.{room_start, segment_from}
 use Rattle.scavenger.specs.Filling.{IsSegmentStart}
 use Rattle.scavenger.specs.Following.{half_start, half_end}
 
@@ -93,26 +93,25 @@ half_holds space half at inside =
     let within = segment_within space inside.extent half inside.worker stands inside.segment in
     (omega (arith, within.from, inside.holds.from), omega (arith, within.to, within.long, inside.holds.below))
 
--- the region of the room
-abbrev pub room_extent : Space → ℕ → Extent
-room_extent space half = extent_of space (Segment half space.sizes.helpers)
+-- the region of a worker's segment of a half
+abbrev pub segment_extent : Space → ℕ → ℕ → Extent
+segment_extent space half worker = extent_of space (Segment half worker)
 
--- it begins where the room does
-pub room_starts : (space : Space) (half : ℕ) → (room_extent space half).start ≡ room_start space half
-room_starts space half = grind arith
+-- it begins where the segment does
+pub segment_starts : (space : Space) (half worker : ℕ)
+    → (segment_extent space half worker).start ≡ segment_from space half worker
+segment_starts space half worker = grind arith
 
 -- it is a region of cells
-pub room_among : (space : Space) (half left : ℕ) → half + left ≡ 1
-    → Contains (cell_extents space) (room_extent space half)
-room_among space zero left one =
-    stands_first 0 (to_half space) (half_of space 1) (room_extent space 0)
-    (stands_then 0 (to_eden space) (half_of space 0) (room_extent space 0)
+pub segment_among : (space : Space) (half worker : ℕ) → half ≤ 1 → worker < half_segments space
+    → Contains (cell_extents space) (segment_extent space half worker)
+segment_among space zero worker two known =
+    stands_first 0 (to_half space) (half_of space 1) (segment_extent space 0 worker)
+    (stands_then 0 (to_eden space) (half_of space 0) (segment_extent space 0 worker)
     (stands_each (λ n. Segment 0 n) space.sizes.young (space.sizes.helpers + 1) (0 + words_in (to_eden space))
-    space.sizes.helpers (start_of space (Segment 0 space.sizes.helpers)) (omega arith)
-    (omega (arith, words_in-to_eden space))))
-room_among space (suc zero) left one =
-    stands_then 0 (to_half space) (half_of space 1) (room_extent space 1)
+    worker (start_of space (Segment 0 worker)) (omega (arith, known)) (omega (arith, words_in-to_eden space))))
+segment_among space (suc zero) worker two known =
+    stands_then 0 (to_half space) (half_of space 1) (segment_extent space 1 worker)
     (stands_each (λ n. Segment 1 n) space.sizes.young (space.sizes.helpers + 1) (0 + words_in (to_half space))
-    space.sizes.helpers (start_of space (Segment 1 space.sizes.helpers)) (omega arith)
-    (omega (arith, words_in-to_half space)))
-room_among space (suc (suc half)) left one = absurd (omega arith)
+    worker (start_of space (Segment 1 worker)) (omega (arith, known)) (omega (arith, words_in-to_half space)))
+segment_among space (suc (suc half)) worker two known = absurd (omega (arith, two))

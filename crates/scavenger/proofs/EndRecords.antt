@@ -25,13 +25,14 @@ use Rattle.scav_copy.proofs.Spots.{slot_in_cell}
 use Rattle.scavenger.specs.Starts.{Start}
 use Rattle.scavenger.specs.Walking.{AreKept, IsPromotedSlot, RefersToRoom}
 use Rattle.scavenger.specs.Scavenged.{begins_free}
-use Rattle.scavenger.proofs.TargetCells.{IsInSegment, before_is_young}
+use Rattle.scavenger.proofs.TargetCells.{IsInNewHalf, before_is_young}
+use Rattle.scavenger.proofs.KeptSpots.{segment_copy}
 use Rattle.scavenger.proofs.Targets.{live_has_place}
 use Rattle.scavenger.proofs.PagesSlots.{free_slots}
 use Rattle.scavenger.proofs.EndRuns.{used_is_no_run}
-use Rattle.scavenger.proofs.EndWords.{Ending, the_halves, kept_apart, home_place}
+use Rattle.scavenger.proofs.EndWords.{Ending, the_halves, kept_apart}
 use Rattle.scavenger.proofs.EndCopies.{young_of}
-use Rattle.scavenger.proofs.EndRows.{CameFrom, in_segment}
+use Rattle.scavenger.proofs.EndRows.{CameFrom}
 use Rattle.scavenger.proofs.EndHeap.{end_heap, came_from, page_stays, copy_stands}
 use Rattle.scavenger.proofs.EndPlaces.{young_or_not}
 use Rattle.scavenger.proofs.EndSlots.{slots_read, recorded_is_young, young_is_recorded}
@@ -45,19 +46,15 @@ free_has_none {cell} slot free =
 
 module _ {start : Start} {left : ℕ} {fixed : Fixed} {homes : List Home} {rows : List (List Run)} {words now : List ℕ}
     {fill : ℕ} (ending : Ending start left fixed homes rows words now fill) where
-  -- a home is in the segment, where it is young
-  home_in_segment : (home : Home) → Contains homes home → eden_start start.heap.space ≤ home.to
-      → IsInSegment start home.to
-  home_in_segment home there young =
-      elim (home_place ending home there) [
-        | inl stays ↦ in_segment ending home there stays
-        | inr promoted ↦ absurd (omega (arith, promoted.below, young))
-      ]
+  -- a home is in a segment, where it is young
+  home_in_half : (home : Home) → Contains homes home → eden_start start.heap.space ≤ home.to
+      → IsInNewHalf start home.to
+  home_in_half home there young = segment_copy ending.begun home ending.filled.copying there young
 
-  -- what a live slot refers to, where it was kept or renamed, is in the segment, where it is young
+  -- what a live slot refers to, where it was kept or renamed, is in a segment, where it is young
   live_by : (slot place cell : ℕ) → StoodAt fixed homes slot place → RefersToAddress words slot cell
       → eden_start start.heap.space ≤ cell
-      → IsKeptOrRenamed homes (get_or fixed.before place 0) (get_or words slot 0) → IsInSegment start cell
+      → IsKeptOrRenamed homes (get_or fixed.before place 0) (get_or words slot 0) → IsInNewHalf start cell
   live_by slot place cell stood refers young (IsKeptOrRenamed.kept same) =
       let before : RefersToAddress fixed.before place cell = ap reference_in (sym same) ∙ refers in
       let among =
@@ -66,12 +63,12 @@ module _ {start : Start} {left : ℕ} {fixed : Fixed} {homes : List Home} {rows 
   live_by slot place cell stood refers young (IsKeptOrRenamed.renamed home there was is) =
       let same : home.to ≡ cell =
       same_reference home.to cell (sym is ∙ (reference_from (get_or words slot 0) cell refers).1) in
-      subst (IsInSegment start) same (home_in_segment home there (omega (arith, same, young)))
+      subst (IsInNewHalf start) same (home_in_half home there (omega (arith, same, young)))
 
   -- so it is
-  pub young_in_segment : (slot place cell : ℕ) → StoodAt fixed homes slot place → RefersToAddress words slot cell
-      → eden_start start.heap.space ≤ cell → IsInSegment start cell
-  young_in_segment slot place cell stood refers young =
+  pub young_in_half : (slot place cell : ℕ) → StoodAt fixed homes slot place → RefersToAddress words slot cell
+      → eden_start start.heap.space ≤ cell → IsInNewHalf start cell
+  young_in_half slot place cell stood refers young =
       live_by slot place cell stood refers young (ending.filled.copying.live slot place stood)
 
   -- a slot of a cell of a page is one at the end
@@ -158,7 +155,7 @@ module _ {start : Start} {left : ℕ} {fixed : Fixed} {homes : List Home} {rows 
       let reads : RefersToAddress words at refers.cell =
       ap reference_in (get_or_from_slice_get words at refers.word 0 refers.stands) ∙ refers.refers in
       let stood = StoodAt.in_cell home offset there visited stands refl in
-      let inside = young_in_segment at (home.from + offset) refers.cell stood reads refers.young in
+      let inside = young_in_half at (home.from + offset) refers.cell stood reads refers.young in
       record { cell = refers.cell; refers = reads; from = inside.from; below = inside.below }
 
   -- a slot of a page that refers to what is young was recorded, or is one of a home copy that refers to the segment

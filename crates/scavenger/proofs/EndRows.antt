@@ -1,7 +1,7 @@
 -- The row of each region at the end of a scavenge.
-use Rattle.std.proofs.Common.{◌≡◌, ◌≢◌, ℕ, ◌+◌, ◌*◌, ◌<◌, ◌≤◌, inl, inr, false, IsTrue, List, [], Contains}
+use Rattle.std.proofs.Common.{◌≡◌, ℕ, ◌+◌, ◌*◌, ◌<◌, ◌≤◌, ◌⊎◌, inl, inr, false, IsTrue, List, [], Contains}
 use Rattle.std.proofs.Common.{refl, sym, ◌∙◌, ap, subst, arith}
-use Rattle.std.proofs.lemmas.Bool.{cases_lt, cases_eq}
+use Rattle.std.proofs.lemmas.Bool.{cases_eq}
 use Rattle.tagged_word.specs.Cells.{is_free_kind}
 use Rattle.tagged_word.proofs.Members.{in_map, map_from}
 use Rattle.heap_model.specs.Types.{Region, Cell, Run}
@@ -17,25 +17,25 @@ use Rattle.heap_model.proofs.CellsApart.{cell_extent_stands}
 use Rattle.heap_model.proofs.BoundHeaps.{none_in}
 use Rattle.scav_copy.specs.declared.places.Home.{Home}
 use Rattle.scav_copy.specs.Places.{Fixed}
-use Rattle.scav_copy.proofs.Spots.{home_itself}
-use Rattle.scavenger.specs.Starts.{Start, IsFreeRun, room_start}
-use Rattle.scavenger.specs.Filling.{IsOfPage, StandsIn}
-use Rattle.scavenger.specs.Scavenged.{words_of_homes, begins_free}
-use Rattle.scavenger.proofs.TargetCells.{IsInSegment}
+use Rattle.scavenger.specs.Starts.{Start, SegmentCopies, IsFreeRun, segment_from}
+use Rattle.scavenger.specs.Filling.{IsOfPage, StandsIn, segment_filled, words_of_segments}
+use Rattle.scavenger.specs.Following.{half_start, half_end}
+use Rattle.scavenger.specs.Scavenged.{begins_free}
+use Rattle.scavenger.proofs.SegmentRooms.{segment_in_half}
 use Rattle.scavenger.proofs.PagesRuns.{first_of_run}
 use Rattle.scavenger.proofs.PagesFree.{free_below}
-use Rattle.scavenger.proofs.EndRanges.{segment_within}
+use Rattle.scavenger.proofs.FilledSegments.{segment_of_worker, segment_fits, they_climb}
 use Rattle.scavenger.proofs.EndRuns.{no_run_begins, no_run_there}
-use Rattle.scavenger.proofs.EndWords.{Ending, StaysYoung, the_halves, in_room, home_place, stayed_is}
-use Rattle.scavenger.proofs.EndCopies.{CopyRow, copy_row}
-use Rattle.scavenger.proofs.EndSums.{adds_at, adds_there, adds_nothing, tiles_add}
+use Rattle.scavenger.proofs.EndWords.{Ending, end_segments, the_halves, stays_in_half, home_place, stayed_is}
+use Rattle.scavenger.proofs.EndSums.{adds_all, adds_all_there, adds_all_nothing}
 use Rattle.scavenger.proofs.EndPages.{page_extent, in_this_page, page_stands, page_cell_below}
-use Rattle.scavenger.proofs.EndSegments.{not_the_room, begins_empty}
+use Rattle.scavenger.proofs.EndSegments.{segment_copies, copy_to, no_segment_starts, starts_there, copy_of_segment}
+use Rattle.scavenger.proofs.EndSegments.{ends_with_0, not_in_left, begins_empty}
 
--- the heap at the end: eden is empty, and the survivors are the home copies that stayed young
-abbrev pub ended_heap : Heap → Fixed → List Home → List ℕ → Heap
-ended_heap heap fixed stayed words =
-    record heap { used = 0; survivors = words_of_homes fixed stayed; words = words }
+-- the heap at the end: eden is empty, and the survivors are the home copies in these segments
+abbrev pub ended_heap : Heap → Fixed → List SegmentCopies → List ℕ → Heap
+ended_heap heap fixed segments words =
+    record heap { used = 0; survivors = words_of_segments fixed segments; words = words }
 
 -- Where a cell of the heap at the end is from: it stood in a page and was no free run, or it is a home copy, or a free
 -- run.
@@ -49,14 +49,14 @@ pub data CameFrom (start : Start) (homes : List Home) (rows : List (List Run)) (
 
 -- The row of a region at the end: where its cells are from, that cells of pages stay which were no free runs, and that
 -- home copies and free runs stand in it.
-pub record EndRow (start : Start) (fixed : Fixed) (stayed homes : List Home) (rows : List (List Run)) (now : List ℕ)
-    (extent : Extent) (region : Region) : Type 0 where
+pub record EndRow (start : Start) (fixed : Fixed) (segments : List SegmentCopies) (homes : List Home)
+    (rows : List (List Run)) (now : List ℕ) (extent : Extent) (region : Region) : Type 0 where
   pub end : ℕ
   pub cells : List Cell
-  pub ends : EndsUsed (ended_heap start.heap fixed stayed now) extent end region
+  pub ends : EndsUsed (ended_heap start.heap fixed segments now) extent end region
   pub stands : IsRow start.heap.space now extent.start end cells
   pub survivors : survivors_in (record { extent = extent; end = end; cells = cells }) region
-      ≡ adds_at (room_start start.heap.space start.half) (words_of_homes fixed stayed) extent
+      ≡ adds_all start.heap.space start.half fixed segments extent
   pub from : (cell : Cell) → Contains cells cell → CameFrom start homes rows cell
   pub pages : (cell : Cell) (words : List ℕ) → HasCell start.heap cell words → ContainsAddress extent cell.at
       → cell.at < eden_start start.heap.space → begins_free start.rows cell.at ≡ false → Contains cells cell
@@ -74,39 +74,16 @@ came_to_page (IsOfPage.free run is same size free no_number) below =
 
 module _ {start : Start} {left : ℕ} {fixed : Fixed} {homes : List Home} {rows : List (List Run)} {words now : List ℕ}
     {fill : ℕ} (ending : Ending start left fixed homes rows words now fill) where
-  -- how far the segment is filled
-  pub stayed_words : room_start start.heap.space start.half + words_of_homes fixed ending.filled.stayed ≡ fill
-  stayed_words =
-      tiles_add (room_start start.heap.space start.half) fill ending.filled.stayed ending.filled.tiles
-
-  -- the copies stand in a row from the start of the room on
-  room_copies : CopyRow start.heap.space now (room_start start.heap.space start.half) fill ending.filled.stayed
-  room_copies =
-      copy_row ending ending.filled.stayed ending.filled.tiles (λ home there. (stayed_is ending home there).0)
-
   -- each of the cells is a home copy
-  copy_from : (cell : Cell) → Contains room_copies.cells cell → CameFrom start homes rows cell
-  copy_from cell there =
-      let stayed = ending.filled.stayed in
-      let at_home = subst (λ all. Contains all cell.at) room_copies.stand
-      (in_map (λ (one : Cell). one.at) room_copies.cells cell there) in
-      let found = map_from (λ (home : Home). home.to) stayed cell.at at_home in
-      CameFrom.of_copy found.0 (stayed_is ending found.0 found.1).0 found.2
-
-  -- and each home copy that stayed young is one of them
-  copy_to : (home : Home) → Contains ending.filled.stayed home → StandsIn room_copies.cells home.to
-  copy_to home there =
-      let at_cell = subst (λ all. Contains all home.to) (sym room_copies.stand)
-      (in_map (λ (one : Home). one.to) ending.filled.stayed home there) in
-      let found = map_from (λ (cell : Cell). cell.at) room_copies.cells home.to at_cell in
-      record { cell = found.0; among = found.1; stands = found.2 }
-
-  -- a copy that stays young begins in the segment
-  pub in_segment : (home : Home) → Contains homes home → StaysYoung start fixed ending.filled.stayed fill home
-      → IsInSegment start home.to
-  in_segment home there stays =
-      let first = home_itself home ending.begun.laid ending.filled.copying there in
-      record { from = stays.from; below = omega (arith, stays.ends, first.below, in_room ending) }
+  copy_from : (segment : SegmentCopies) (there : Contains (end_segments ending) segment) (cell : Cell)
+      → Contains (segment_copies ending segment there).cells cell → CameFrom start homes rows cell
+  copy_from segment there cell has =
+      let row = segment_copies ending segment there in
+      let at_home = subst (λ all. Contains all cell.at) row.stand
+      (in_map (λ (one : Cell). one.at) row.cells cell has) in
+      let found = map_from (λ (home : Home). home.to) segment.homes cell.at at_home in
+      CameFrom.of_copy found.0
+      (stayed_is ending found.0 (record { segment = segment; of_all = there; among = found.1 })).0 found.2
 
   -- no row that begins behind the pages has a cell of a page
   no_page_cell : (extent : Extent) (cells : List Cell) → eden_start start.heap.space ≤ extent.start
@@ -123,22 +100,22 @@ module _ {start : Start} {left : ℕ} {fixed : Fixed} {homes : List Home} {rows 
 
   -- the row of a page
   page_row : (extent : Extent) (page : ℕ) → Contains (cell_extents start.heap.space) extent
-      → extent.region ≡ Page page → EndRow start fixed ending.filled.stayed homes rows now extent (Page page)
+      → extent.region ≡ Page page → EndRow start fixed (end_segments ending) homes rows now extent (Page page)
   page_row extent page among is =
       let halves = the_halves ending in
       let e = page_extent start extent page among is in
       let stands = ending.filled.pages page e.is_page in
-      let room : ℕ = room_start start.heap.space start.half in
       let to : ℕ = page_words * page + page_words in
-      let other : extent.start ≢ room = λ same.
-      omega (arith, same, e.starts, e.ends, halves.room_from, halves.from, ending.limits.young_is_least) in
+      let before : extent.start < half_start start.heap.space start.half =
+      omega (arith, e.starts, e.ends, halves.from, ending.limits.young_is_least) in
       record {
         end = to;
         cells = stands.cells;
         ends = omega (arith, e.starts, e.long);
         stands = subst (λ from. IsRow start.heap.space now from to stands.cells) (sym e.starts)
             (page_stands ending page e.ends stands);
-        survivors = sym (adds_nothing room (words_of_homes fixed ending.filled.stayed) extent other);
+        survivors = sym (adds_all_nothing start.heap.space start.half fixed (end_segments ending) extent
+            (no_segment_starts ending extent.start (inl before)));
         from = λ cell there. came_to_page (stands.each cell there) (page_cell_below page cell e.ends stands there);
         pages = λ cell were has holds below none.
             stands.stay cell were has (in_this_page e holds) (no_run_there start.rows cell.at none);
@@ -148,7 +125,7 @@ module _ {start : Start} {left : ℕ} {fixed : Fixed} {homes : List Home} {rows 
 
   -- eden is empty
   eden_row : (extent : Extent) → Contains (cell_extents start.heap.space) extent → extent.region ≡ Eden
-      → EndRow start fixed ending.filled.stayed homes rows now extent Eden
+      → EndRow start fixed (end_segments ending) homes rows now extent Eden
   eden_row extent among is =
       let space = start.heap.space in
       let place = placed space extent (cell_extent_stands space extent among) in
@@ -157,107 +134,127 @@ module _ {start : Start} {left : ℕ} {fixed : Fixed} {homes : List Home} {rows 
       let long : extent.words ≡ space.sizes.young =
       ap (λ (one : Extent). one.words) place.place ∙ ap (length_of space) is in
       let halves = the_halves ending in
-      let other : extent.start ≢ room_start space start.half =
-      λ same. omega (arith, same, starts, halves.room_from, halves.from, ending.limits.young_is_least) in
+      let before : extent.start < half_start space start.half =
+      omega (arith, starts, halves.from, ending.limits.young_is_least) in
       record {
         end = extent.start;
         cells = [];
         ends = omega arith;
         stands = IsRow.none extent.start;
-        survivors = sym (adds_nothing (room_start space start.half) (words_of_homes fixed ending.filled.stayed) extent
-            other);
+        survivors = sym (adds_all_nothing space start.half fixed (end_segments ending) extent
+            (no_segment_starts ending extent.start (inl before)));
         from = λ cell there. absurd (none_in cell there);
         pages = λ cell were has holds below none. no_page_cell extent [] (omega (arith, starts)) cell holds below;
         copies = λ home there holds.
             elim (home_place ending home there) [
               | inl stays ↦
-                  absurd (omega (arith, stays.from, halves.room_from, halves.from, holds.below, starts, long))
+                  absurd (omega (arith, (stays_in_half ending home stays).0, halves.from, holds.below, starts, long))
               | inr promoted ↦ absurd (omega (arith, promoted.below, holds.from, starts))
             ];
         runs = no_page_run extent [] (omega (arith, starts));
       }
 
-  -- the room has the copies
-  room_row : (extent : Extent) (of worker : ℕ) → Contains (cell_extents start.heap.space) extent
-      → extent.region ≡ Segment of worker → extent.start ≡ room_start start.heap.space start.half
-      → EndRow start fixed ending.filled.stayed homes rows now extent (Segment of worker)
-  room_row extent of worker among is same =
+  -- a segment of the half with the copies has those that are its
+  filled_row : (extent : Extent) (worker : ℕ) → Contains (cell_extents start.heap.space) extent
+      → extent.region ≡ Segment start.half worker
+      → EndRow start fixed (end_segments ending) homes rows now extent (Segment start.half worker)
+  filled_row extent worker among is =
       let space = start.heap.space in
-      let halves = the_halves ending in
-      let within = segment_within space extent of worker (cell_extent_stands space extent among) is in
-      let end = in_room ending in
-      let behind : eden_start space ≤ extent.start = omega (arith, same, halves.room_from, halves.from) in
+      let place = starts_there ending extent start.half worker among is in
+      let of_worker = segment_of_worker ending.begun ending.filled worker place.3 in
+      let segment = of_worker.0 in
+      let there = of_worker.1 in
+      let from : segment_from space start.half segment.worker ≡ extent.start =
+      ap (segment_from space start.half) of_worker.2 ∙ sym place.0 in
+      let row = segment_copies ending segment there in
+      let fits = segment_fits ending.begun ending.filled segment there in
+      let behind : eden_start space ≤ extent.start = omega (arith, from) in
       record {
-        end = fill;
-        cells = room_copies.cells;
-        ends = (
-          omega (arith, end, same, within.long),
-          elim (cases_lt fill (room_start space start.half + space.sizes.young)) [
-            | inl below ↦ inr (ending.emptied.behind below)
-            | inr past ↦ inl (omega (arith, end, past, same, within.long))
-          ],
-        );
-        stands = subst (λ from. IsRow space now from fill room_copies.cells) (sym same) room_copies.row;
+        end = segment_filled space start.half fixed segment;
+        cells = row.cells;
+        ends = (omega (arith, from, fits, place.1), ends_with_0 ending segment there extent from place.1);
+        stands = subst (λ (at : ℕ). IsRow space now at (segment_filled space start.half fixed segment) row.cells) from
+            row.row;
         survivors = omega (
           arith,
-          adds_there (room_start space start.half) (words_of_homes fixed ending.filled.stayed) extent same,
-          same,
-          stayed_words,
+          from,
+          adds_all_there space start.half 0 fixed (end_segments ending) extent segment
+              (omega (arith, ending.limits.young_is_least)) (they_climb ending.begun ending.filled) there (sym from),
         );
-        from = copy_from;
-        pages = λ cell were has holds below none. no_page_cell extent room_copies.cells behind cell holds below;
-        copies = λ home there holds.
-            elim (home_place ending home there) [
-              | inl stays ↦ copy_to home stays.among
+        from = copy_from segment there;
+        pages = λ cell were has holds below none. no_page_cell extent row.cells behind cell holds below;
+        copies = λ home is_home holds.
+            elim (home_place ending home is_home) [
+              | inl stays ↦
+                  copy_to ending segment there home (copy_of_segment ending segment home there
+                  (record { from = omega (arith, holds.from, from); below = omega (arith, holds.below, place.1, from) })
+                  stays is_home)
               | inr promoted ↦ absurd (omega (arith, promoted.below, holds.from, behind))
             ];
-        runs = no_page_run extent room_copies.cells behind;
+        runs = no_page_run extent row.cells behind;
       }
 
-  -- any other segment is empty
-  other_row : (row : Row) (of worker : ℕ) → Contains (cell_extents start.heap.space) row.extent
-      → IsUsedRow start.heap row → row.extent.region ≡ Segment of worker
-      → EndsUsed start.heap row.extent row.end (Segment of worker)
-      → row.extent.start ≢ room_start start.heap.space start.half
-      → EndRow start fixed ending.filled.stayed homes rows now row.extent (Segment of worker)
-  other_row row of worker among used is ends other =
+  -- a segment of the half that was left is empty
+  left_row : (extent : Extent) (worker : ℕ) → Contains (cell_extents start.heap.space) extent
+      → extent.region ≡ Segment left worker
+      → EndRow start fixed (end_segments ending) homes rows now extent (Segment left worker)
+  left_row extent worker among is =
       let space = start.heap.space in
-      let extent : Extent = row.extent in
-      let within = segment_within space extent of worker (cell_extent_stands space extent among) is in
-      let behind : eden_start space ≤ extent.start = omega (arith, within.from) in
+      let place = starts_there ending extent left worker among is in
+      let within = segment_in_half space left worker place.3 in
+      let some = ending.limits.young_is_least in
+      let outside : (extent.start < half_start space start.half) ⊎ (half_end space start.half ≤ extent.start) =
+      elim (the_halves ending).apart [
+        | inl before ↦ inr (omega (arith, before, within.0, place.0))
+        | inr behind ↦ inl (omega (arith, behind, within.1, place.0, some))
+      ] in
+      let behind : eden_start space ≤ extent.start = omega (arith, within.0, place.0) in
       record {
         end = extent.start;
         cells = [];
-        ends = (omega arith, inr (begins_empty ending row of worker among used is ends other));
+        ends = (omega arith, inr (begins_empty ending extent worker among is));
         stands = IsRow.none extent.start;
         survivors = omega (
           arith,
-          adds_nothing (room_start space start.half) (words_of_homes fixed ending.filled.stayed) extent other,
+          adds_all_nothing space start.half fixed (end_segments ending) extent
+              (no_segment_starts ending extent.start outside),
         );
         from = λ cell there. absurd (none_in cell there);
         pages = λ cell were has holds below none. no_page_cell extent [] behind cell holds below;
         copies = λ home there holds.
             elim (home_place ending home there) [
-              | inl stays ↦ absurd (not_the_room ending extent home.to among other holds (in_segment home there stays))
+              | inl stays ↦ absurd (not_in_left ending home there stays extent place.0 place.1 place.3 holds)
               | inr promoted ↦ absurd (omega (arith, promoted.below, holds.from, behind))
             ];
         runs = no_page_run extent [] behind;
       }
 
+  -- the row of a segment of either half
+  segment_row : (extent : Extent) (of worker : ℕ) → Contains (cell_extents start.heap.space) extent
+      → extent.region ≡ Segment of worker
+      → EndRow start fixed (end_segments ending) homes rows now extent (Segment of worker)
+  segment_row extent of worker among is =
+      let halves = ending.halves in
+      let two = (starts_there ending extent of worker among is).2 in
+      let Row : ℕ → Type 0 =
+      λ half. EndRow start fixed (end_segments ending) homes rows now extent (Segment half worker) in
+      elim (cases_eq of left) [
+        | inl same ↦ subst Row (sym same) (left_row extent worker among (is ∙ ap (λ n. Segment n worker) same))
+        | inr other ↦
+            let same : of ≡ start.half = omega (arith, other, two, halves) in
+            subst Row (sym same) (filled_row extent worker among (is ∙ ap (λ n. Segment n worker) same))
+      ]
+
   -- the row of a region, kind by kind
   row_of_kind : (row : Row) (region : Region) → Contains (cell_extents start.heap.space) row.extent
       → IsUsedRow start.heap row → row.extent.region ≡ region → EndsUsed start.heap row.extent row.end region
-      → EndRow start fixed ending.filled.stayed homes rows now row.extent region
+      → EndRow start fixed (end_segments ending) homes rows now row.extent region
   row_of_kind row (Page page) among used is ends = page_row row.extent page among is
   row_of_kind row Eden among used is ends = eden_row row.extent among is
-  row_of_kind row (Segment of worker) among used is ends =
-      elim (cases_eq row.extent.start (room_start start.heap.space start.half)) [
-        | inl same ↦ room_row row.extent of worker among is same
-        | inr other ↦ other_row row of worker among used is ends other
-      ]
+  row_of_kind row (Segment of worker) among used is ends = segment_row row.extent of worker among is
   row_of_kind row _ among used is ends = absurd ends
 
   -- the row of the region of a row
   pub row_after : (row : Row) → Contains (cell_extents start.heap.space) row.extent → IsUsedRow start.heap row
-      → EndRow start fixed ending.filled.stayed homes rows now row.extent row.extent.region
+      → EndRow start fixed (end_segments ending) homes rows now row.extent row.extent.region
   row_after row among used = row_of_kind row row.extent.region among used refl used.ends

@@ -1,156 +1,180 @@
--- The segments in which no cell stands at the end of a scavenge: each begins with a 0.
-use Rattle.std.proofs.Common.{◌≡◌, ◌≢◌, ℕ, ◌+◌, ◌≤◌, ◌⊎◌, inl, inr, List, [], ◌∷◌, Contains, Some, slice_get}
-use Rattle.std.proofs.Common.{refl, ◌∙◌, ap, subst, arith}
-use Rattle.std.proofs.lemmas.Bool.{cases_lt, cases_eq}
-use Rattle.tagged_word.proofs.Members.{first_in}
+-- The segments at the end of a scavenge: those of the filled half have their copies in a row, with a 0 behind, where
+-- they go on; those of the half that was left begin with a 0.
+use Rattle.std.proofs.Common.{◌≡◌, ℕ, ◌+◌, ◌<◌, ◌≤◌, ◌⊎◌, inl, inr, List, [], ◌∷◌, Contains, Some, slice_get, length}
+use Rattle.std.proofs.Common.{refl, sym, ◌∙◌, ap, subst, arith}
+use Rattle.std.proofs.lemmas.Bool.{cases_lt}
+use Rattle.std.proofs.lemmas.Option.{slice_get-get_or}
+use Rattle.std.proofs.lemmas.List.Elements.{Contains-append_cases}
+use Rattle.tagged_word.proofs.Members.{in_map, map_from, one_in}
 use Rattle.page_space.specs.declared.region.Region.TheVariants.{Segment}
-use Rattle.page_space.specs.Extents.{Space, Extent, ContainsAddress, IsRegion, eden_start}
-use Rattle.page_space.proofs.Covering.{disjoint}
+use Rattle.page_space.specs.Extents.{Extent, ContainsAddress, IsRegion, half_segments}
 use Rattle.page_space.proofs.Placed.{placed}
-use Rattle.cell_layout.specs.Cells.{IsRow}
-use Rattle.cell_layout.proofs.Rows.{row_of_none}
+use Rattle.page_space.proofs.Standing.{start_of, length_of}
 use Rattle.heap_model.specs.Types.{Cell, Run}
-use Rattle.heap_model.specs.Heaps.{Row, EndsUsed, IsUsedRow, HasCell, cell_extents, words_of_cell}
-use Rattle.heap_model.proofs.CellsApart.{first_of_cell, cell_extent_stands}
-use Rattle.heap_model.proofs.Patches.{row_holds}
+use Rattle.heap_model.specs.Heaps.{cell_extents}
+use Rattle.heap_model.proofs.CellsApart.{cell_extent_stands}
 use Rattle.scav_copy.specs.declared.places.Home.{Home}
-use Rattle.scav_copy.specs.Places.{Fixed, IsInCells, IsInRooms}
-use Rattle.scavenger.specs.Starts.{Start, room_start}
-use Rattle.scavenger.proofs.TargetCells.{IsInSegment, recorded_below, run_ends}
+use Rattle.scav_copy.specs.Places.{Fixed}
+use Rattle.scav_copy.proofs.Spots.{home_itself}
+use Rattle.scavenger.specs.Starts.{Start, SegmentCopies, room_start, segment_from}
+use Rattle.scavenger.specs.Filling.{StandsIn, segment_filled}
+use Rattle.scavenger.specs.Following.{half_start, half_end}
+use Rattle.scavenger.proofs.SegmentRooms.{IsInSegment, segment_in_half, segments_apart, one_segment, half_is_room}
 use Rattle.scavenger.proofs.FollowTiles.{fill_above}
-use Rattle.scavenger.proofs.EndRanges.{segment_within, room_extent, room_starts, room_among}
-use Rattle.scavenger.proofs.EndWords.{Ending, the_halves, cells_hold, rooms_hold, in_room, kept, outside_kept}
-
--- a row with no cell ends where it begins
-none_end : {space : Space} {words : List ℕ} {from to : ℕ} (cells : List Cell) → IsRow space words from to cells
-    → ((cell : Cell) → Contains cells cell → ⊥) → from ≡ to
-none_end [] row none = row_of_none row
-none_end (cell ∷ cells) row none = absurd (none cell (first_in cell cells))
+use Rattle.scavenger.proofs.ClimbingWorkers.{one_place}
+use Rattle.scavenger.proofs.FilledSegments.{StaysYoung, main_segment, main_filled, segment_known, segment_fills}
+use Rattle.scavenger.proofs.FilledSegments.{segment_fits, they_climb}
+use Rattle.scavenger.proofs.HandedStays.{handed_known}
+use Rattle.scavenger.proofs.EndRanges.{segment_starts}
+use Rattle.scavenger.proofs.EndWords.{Ending, end_segments, the_halves, stays_in_half, stayed_is, kept}
+use Rattle.scavenger.proofs.EndCopies.{CopyRow, copy_row}
 
 module _ {start : Start} {left : ℕ} {fixed : Fixed} {homes : List Home} {rows : List (List Run)} {words now : List ℕ}
     {fill : ℕ} (ending : Ending start left fixed homes rows words now fill) where
-  -- each segment is of one half
-  which_half : (extent : Extent) (of worker : ℕ) → Contains (cell_extents start.heap.space) extent
-      → extent.region ≡ Segment of worker → (of ≡ left) ⊎ (of ≡ start.half)
-  which_half extent of worker among is =
-      let region : IsRegion start.heap.space (Segment of worker) =
-      subst (IsRegion start.heap.space) is
-      (placed start.heap.space extent (cell_extent_stands start.heap.space extent among)).is_region in
-      let halves = ending.halves in
-      elim (cases_eq of left) [ inl same ↦ inl same | inr other ↦ inr (omega (arith, other, region.0, halves)) ]
+  -- the copies in a segment stand in a row from its start on
+  pub segment_copies : (segment : SegmentCopies) → Contains (end_segments ending) segment
+      → CopyRow start.heap.space now (segment_from start.heap.space start.half segment.worker)
+      (segment_filled start.heap.space start.half fixed segment) segment.homes
+  segment_copies segment there =
+      copy_row ending segment.homes (segment_fills ending.begun ending.filled segment there)
+      (λ home among. (stayed_is ending home (record { segment = segment; of_all = there; among = among })).0)
 
-  -- no cell stands in a segment of the half with the room
-  none_in_row : (row : Row) (worker : ℕ) → Contains (cell_extents start.heap.space) row.extent
-      → IsUsedRow start.heap row → row.extent.region ≡ Segment start.half worker
-      → (cell : Cell) → Contains row.cells cell → ⊥
-  none_in_row row worker among used is cell there =
-      let has : HasCell start.heap cell (words_of_cell start.heap cell) =
-      record { row = row; in_region = among; used = used; in_row = there; words_are = refl } in
-      ending.begun.collectable.empty cell (words_of_cell start.heap cell) has record {
-        extent = row.extent;
-        among = among;
-        worker = worker;
-        segment = is;
-        holds = row_holds ending.begun.whole.rows among used there (first_of_cell has);
-      }
+  -- and each home copy of the segment is one of them
+  pub copy_to : (segment : SegmentCopies) (there : Contains (end_segments ending) segment) (home : Home)
+      → Contains segment.homes home → StandsIn (segment_copies segment there).cells home.to
+  copy_to segment there home has =
+      let row = segment_copies segment there in
+      let at_cell = subst (λ all. Contains all home.to) (sym row.stand)
+      (in_map (λ (one : Home). one.to) segment.homes home has) in
+      let found = map_from (λ (cell : Cell). cell.at) row.cells home.to at_cell in
+      record { cell = found.0; among = found.1; stands = found.2 }
 
-  -- none of their addresses is one of the cells
-  none_of_cells : (extent : Extent) (worker at : ℕ) → Contains (cell_extents start.heap.space) extent
-      → extent.region ≡ Segment start.half worker → ContainsAddress extent at → IsInCells fixed at → ⊥
-  none_of_cells extent worker at among is holds inside =
-      let of = cells_hold ending at inside in
-      let row = of.has.row in
-      let same : row.extent ≡ extent =
-      disjoint start.heap.space row.extent extent at (cell_extent_stands start.heap.space row.extent of.has.in_region)
-      (cell_extent_stands start.heap.space extent among)
-      (row_holds ending.begun.whole.rows of.has.in_region of.has.used of.has.in_row of.of_cell) holds in
-      none_in_row row worker of.has.in_region of.has.used (ap (λ (one : Extent). one.region) same ∙ is) of.cell
-      of.has.in_row
+  -- no region that begins before the half, or is of the other one, has a segment's start
+  pub no_segment_starts : (at : ℕ) → (at < half_start start.heap.space start.half)
+      ⊎ (half_end start.heap.space start.half ≤ at) → (segment : SegmentCopies)
+      → Contains (end_segments ending) segment → at ≡ segment_from start.heap.space start.half segment.worker → ⊥
+  no_segment_starts at outside segment there same =
+      let some = ending.limits.young_is_least in
+      let within = segment_in_half start.heap.space start.half segment.worker
+      (segment_known ending.begun ending.filled segment there) in
+      elim outside [
+        | inl before ↦ omega (arith, before, same, within.0)
+        | inr behind ↦ omega (arith, behind, same, within.1, some)
+      ]
 
-  -- no address of another segment is one of the room
-  pub not_the_room : (extent : Extent) (at : ℕ) → Contains (cell_extents start.heap.space) extent
-      → extent.start ≢ room_start start.heap.space start.half → ContainsAddress extent at → IsInSegment start at → ⊥
-  not_the_room extent at among other holds inside =
+  -- the extent of a segment begins where the segment does
+  pub starts_there : (extent : Extent) (half worker : ℕ) → Contains (cell_extents start.heap.space) extent
+      → extent.region ≡ Segment half worker
+      → (extent.start ≡ segment_from start.heap.space half worker) × (extent.words ≡ start.heap.space.sizes.young)
+      × (half ≤ 1) × (worker < half_segments start.heap.space)
+  starts_there extent half worker among is =
       let space = start.heap.space in
-      let room : Extent = room_extent space start.half in
-      let starts = room_starts space start.half in
-      let same : extent ≡ room =
-      disjoint space extent room at (cell_extent_stands space extent among)
-      (cell_extent_stands space room (room_among space start.half left ending.halves)) holds
-      (record { from = omega (arith, inside.from, starts); below = omega (arith, inside.below, starts) }) in
-      other (ap (λ (one : Extent). one.start) same ∙ starts)
+      let place = placed space extent (cell_extent_stands space extent among) in
+      let region : IsRegion space (Segment half worker) = subst (IsRegion space) is place.is_region in (
+        ap (λ (one : Extent). one.start) place.place ∙ ap (start_of space) is
+            ∙ segment_starts space half worker,
+        ap (λ (one : Extent). one.words) place.place ∙ ap (length_of space) is,
+        omega (arith, region.0),
+        omega (arith, region.1),
+      )
 
-  -- the first address of a segment of the half with the room is in no room, where it is not the room's
-  first_in_no_room : (extent : Extent) → Contains (cell_extents start.heap.space) extent
-      → extent.start ≢ room_start start.heap.space start.half → ContainsAddress extent extent.start
-      → eden_start start.heap.space ≤ extent.start → IsInRooms fixed extent.start → ⊥
-  first_in_no_room extent among other first young inside =
-      elim (rooms_hold ending extent.start inside) [
-        | inl segment ↦ not_the_room extent extent.start among other first segment
-        | inr run ↦ omega (arith, run_ends run.run ending.begun run.is, run.of_run.below, young)
-      ]
+  -- a copy that stands in the extent of a segment is one of this segment
+  pub copy_of_segment : (segment : SegmentCopies) (home : Home) → Contains (end_segments ending) segment
+      → IsInSegment start.heap.space start.half segment.worker home.to
+      → (stays : StaysYoung start fixed (end_segments ending) home) → Contains homes home
+      → Contains segment.homes home
+  copy_of_segment segment home there inside stays is =
+      let first = home_itself home ending.begun.laid ending.filled.copying is in
+      let two : IsInSegment start.heap.space start.half stays.stays.segment.worker home.to =
+      record { from = stays.from; below = omega (arith, stays.ends, stays.fits, first.below) } in
+      let same : stays.stays.segment ≡ segment =
+      one_place 0 (end_segments ending) stays.stays.segment segment (they_climb ending.begun ending.filled)
+      stays.stays.of_all there
+      (one_segment start.heap.space start.half stays.stays.segment.worker segment.worker home.to two inside) in
+      subst (λ (one : SegmentCopies). Contains one.homes home) same stays.stays.among
 
-  -- its first word is as before
-  first_same : (extent : Extent) (worker : ℕ) → Contains (cell_extents start.heap.space) extent
-      → extent.region ≡ Segment start.half worker → extent.start ≢ room_start start.heap.space start.half
-      → slice_get now extent.start ≡ slice_get start.heap.words extent.start
-  first_same extent worker among is other =
+  -- a word behind the copies of a helper is as it was before words were emptied
+  handed_kept : (segment : SegmentCopies) → Contains start.handed segment
+      → segment_filled start.heap.space start.half fixed segment
+      < segment_from start.heap.space start.half segment.worker + start.heap.space.sizes.young
+      → slice_get now (segment_filled start.heap.space start.half fixed segment) ≡ Some 0
+  handed_kept segment there below =
       let space = start.heap.space in
-      let halves = the_halves ending in
-      let within = segment_within space extent start.half worker (cell_extent_stands space extent among) is in
-      let some : 1 ≤ extent.words = omega (arith, within.long, ending.limits.young_is_least) in
-      let young : eden_start space ≤ extent.start = omega (arith, within.from, halves.from) in
-      let first : ContainsAddress extent extent.start = record { from = omega arith; below = omega (arith, some) } in
-      let end = in_room ending in
-      let apart : extent.start ≢ fill ⊎ (room_start space start.half + space.sizes.young ≤ extent.start) =
-      elim (cases_lt extent.start (room_start space start.half + space.sizes.young)) [
-        | inl below ↦ inl (λ same. not_the_room extent extent.start among other first
-            (record { from = omega (arith, same, fill_above ending.filled); below = below }))
-        | inr past ↦ inr past
-      ] in
-      kept ending extent.start apart
-      (elim halves.apart [
-        | inl before ↦ inl (omega (arith, before, within.to, some, within.long))
-        | inr behind ↦ inr (omega (arith, behind, within.from))
+      let at : ℕ = segment_filled space start.half fixed segment in
+      let helping = handed_known ending.begun ending.filled segment there in
+      let before : at < room_start space start.half =
+      omega (arith, segments_apart space start.half segment.worker space.sizes.helpers helping, below) in
+      let within = segment_in_half space start.half segment.worker (omega (arith, helping)) in
+      let filled = fill_above ending.filled in
+      let room = ending.begun.laid.rooms_there at (half_is_room ending.begun.begins at (omega (arith, within.0))
+      (omega (arith, within.1, below))) in
+      let there_is : at < length words = omega (arith, room, ending.filled.copying.long) in
+      kept ending at (inl (λ same. omega (arith, same, before, filled)))
+      (elim (the_halves ending).apart [
+        | inl first ↦ inl (omega (arith, first, within.1, below))
+        | inr last ↦ inr (omega (arith, last, within.0))
       ])
-      ∙ outside_kept ending extent.start (none_of_cells extent worker extent.start among is first)
-      (λ slot. elim ((ending.begun.begins.slots extent.start).0 slot) [
-        | inl root ↦ omega (arith, root.stands, within.to, halves.to, some, within.long)
-        | inr recorded ↦ omega (arith, recorded_below extent.start ending.begun recorded, young)
-      ])
-      (first_in_no_room extent among other first young)
+      ∙ slice_get-get_or words at 0 there_is
+      ∙ ap (λ (word : ℕ). Some word) (ending.filled.behind segment there below)
 
-  -- behind no cell of the half with the room a 0 stood
-  was_empty : (row : Row) (worker : ℕ) → Contains (cell_extents start.heap.space) row.extent → IsUsedRow start.heap row
-      → row.extent.region ≡ Segment start.half worker
-      → EndsUsed start.heap row.extent row.end (Segment start.half worker)
-      → slice_get start.heap.words row.extent.start ≡ Some 0
-  was_empty row worker among used is ends =
-      let stands = cell_extent_stands start.heap.space row.extent among in
-      let within = segment_within start.heap.space row.extent start.half worker stands is in
-      let end : row.extent.start ≡ row.end = none_end row.cells used.stands (none_in_row row worker among used is) in
-      elim ends.1 [
-        | inl whole ↦ absurd (omega (arith, whole, end, within.long, ending.limits.young_is_least))
-        | inr none ↦ ap (slice_get start.heap.words) end ∙ none
+  -- so behind the copies of any segment, where that goes on, a 0 stands
+  end_is_0 : (segment : SegmentCopies) → Contains (end_segments ending) segment
+      → segment_filled start.heap.space start.half fixed segment
+      < segment_from start.heap.space start.half segment.worker + start.heap.space.sizes.young
+      → slice_get now (segment_filled start.heap.space start.half fixed segment) ≡ Some 0
+  end_is_0 segment there below =
+      let main = main_segment start ending.filled.stayed in
+      elim (Contains-append_cases start.handed (main ∷ []) segment there) [
+        | inl handed ↦ handed_kept segment handed below
+        | inr own ↦
+            let same : main ≡ segment = one_in main segment own in
+            let filled = main_filled ending.begun ending.filled in
+            let at : segment_filled start.heap.space start.half fixed segment ≡ fill =
+            ap (segment_filled start.heap.space start.half fixed) (sym same) ∙ filled in
+            let from = ap (λ (one : SegmentCopies). segment_from start.heap.space start.half one.worker) same in
+            ap (slice_get now) at ∙ ending.emptied.behind (omega (arith, at, from, below))
       ]
 
-  -- each segment but that of the room begins with a 0
-  pub begins_empty : (row : Row) (of worker : ℕ) → Contains (cell_extents start.heap.space) row.extent
-      → IsUsedRow start.heap row → row.extent.region ≡ Segment of worker
-      → EndsUsed start.heap row.extent row.end (Segment of worker)
-      → row.extent.start ≢ room_start start.heap.space start.half → slice_get now row.extent.start ≡ Some 0
-  begins_empty row of worker among used is ends other =
-      elim (which_half row.extent of worker among is) [
-        | inl same ↦ ending.emptied.starts row.extent.start (
-          worker,
-          record {
-            extent = row.extent;
-            stands = cell_extent_stands start.heap.space row.extent among;
-            of_region = is ∙ ap (λ n. Segment n worker) same;
-            starts = refl;
-          },
-        )
-        | inr same ↦
-            let is_half : row.extent.region ≡ Segment start.half worker = is ∙ ap (λ n. Segment n worker) same in
-            first_same row.extent worker among is_half other ∙ was_empty row worker among used is_half ends
+  -- where the segment goes on behind its copies, a 0 stands
+  pub ends_with_0 : (segment : SegmentCopies) → Contains (end_segments ending) segment → (extent : Extent)
+      → segment_from start.heap.space start.half segment.worker ≡ extent.start
+      → extent.words ≡ start.heap.space.sizes.young
+      → (segment_filled start.heap.space start.half fixed segment ≡ extent.start + extent.words)
+      ⊎ (slice_get now (segment_filled start.heap.space start.half fixed segment) ≡ Some 0)
+  ends_with_0 segment there extent from long =
+      let space = start.heap.space in
+      let fits = segment_fits ending.begun ending.filled segment there in
+      elim (cases_lt (segment_filled space start.half fixed segment)
+      (segment_from space start.half segment.worker + space.sizes.young)) [
+        | inl below ↦ inr (end_is_0 segment there below)
+        | inr past ↦ inl (omega (arith, past, from, long, fits))
       ]
+
+  -- no copy stands in a segment of the half that was left
+  pub not_in_left : (home : Home) → Contains homes home → StaysYoung start fixed (end_segments ending) home
+      → (extent : Extent) {worker : ℕ} → extent.start ≡ segment_from start.heap.space left worker
+      → extent.words ≡ start.heap.space.sizes.young → worker < half_segments start.heap.space
+      → ContainsAddress extent home.to → ⊥
+  not_in_left home there stays extent {worker} starts long known holds =
+      let space = start.heap.space in
+      let within = segment_in_half space left worker known in
+      let own = stays_in_half ending home stays in
+      let first = home_itself home ending.begun.laid ending.filled.copying there in
+      elim (the_halves ending).apart [
+        | inl before ↦ omega (arith, before, within.0, starts, holds.from, own.1, first.below)
+        | inr behind ↦ omega (arith, behind, within.1, starts, long, holds.below, own.0)
+      ]
+
+  -- each segment of the half that was left begins with a 0
+  pub begins_empty : (extent : Extent) (worker : ℕ) → Contains (cell_extents start.heap.space) extent
+      → extent.region ≡ Segment left worker → slice_get now extent.start ≡ Some 0
+  begins_empty extent worker among is =
+      ending.emptied.starts extent.start (
+        worker,
+        record {
+          extent = extent;
+          stands = cell_extent_stands start.heap.space extent among;
+          of_region = is;
+          starts = refl;
+        },
+      )

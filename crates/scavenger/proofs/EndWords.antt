@@ -3,7 +3,6 @@ use Rattle.std.proofs.Common.{◌≡◌, ◌≢◌, ℕ, ◌+◌, ◌<◌, ◌�
 use Rattle.std.proofs.Common.{get_or, sym, ◌∙◌, ap, arith}
 use Rattle.std.proofs.lemmas.Bool.{cases_lt}
 use Rattle.std.proofs.lemmas.Option.{slice_get-get_or, slice_get_past, get_or_from_slice_get}
-use Rattle.std.proofs.lemmas.List.Elements.{Contains-append_left}
 use Rattle.page_space.specs.Extents.{eden_start, roots_start}
 use Rattle.page_space.specs.RegionLaws.{IsSpace}
 use Rattle.heap_model.specs.Types.{Cell, Run}
@@ -16,14 +15,18 @@ use Rattle.scav_copy.specs.Places.{Fixed, size_of, IsInCells, IsInRooms}
 use Rattle.scav_copy.specs.Renamings.{Renaming, Outside}
 use Rattle.scav_copy.specs.Copies.{AreHoused, HomesDisjoint, LiesInRoom}
 use Rattle.scav_copy.proofs.Ending.{end_is_renaming}
-use Rattle.scavenger.specs.Starts.{Start, IsBegun, IsFreeRun, IsRootAt, room_start, room_of, room_of_run}
+use Rattle.scavenger.specs.Starts.{Start, SegmentCopies, IsBegun, IsFreeRun, IsRootAt, room_start, room_of_run}
+use Rattle.scavenger.specs.Starts.{segment_from}
 use Rattle.scavenger.specs.Filling.{CopiesFillRooms, AllAreDone, IsEmptied}
 use Rattle.scavenger.specs.Following.{half_start, half_end}
-use Rattle.scavenger.proofs.OneSegment.{rooms_tell}
+use Rattle.scavenger.specs.Scavenged.{StaysIn}
+use Rattle.scavenger.proofs.SegmentRooms.{segment_in_half}
 use Rattle.scavenger.proofs.Sums.{few_filled}
-use Rattle.scavenger.proofs.TargetCells.{IsInSegment, young_size, recorded_below, run_ends}
+use Rattle.scavenger.proofs.TargetCells.{IsInNewHalf, segment_in_new, young_size, recorded_below, run_ends}
 use Rattle.scavenger.proofs.PagesRuns.{HasRun}
-use Rattle.scavenger.proofs.FollowTiles.{fill_above, stayed_or_promoted, stayed_within}
+use Rattle.scavenger.proofs.FollowTiles.{fill_above}
+use Rattle.scavenger.proofs.FilledSegments.{StaysYoung, all_segments, stays_young, stays_is, stays_or_promoted}
+use Rattle.scavenger.proofs.FilledSegments.{young_within}
 use Rattle.scavenger.proofs.EndRanges.{AreHalves, are_halves, start_within}
 
 -- all is done, and the words that are left were emptied
@@ -63,12 +66,6 @@ pub record IsOfSomeYoung (heap : Heap) (at : ℕ) : Type 0 where
   pub young : eden_start heap.space ≤ cell.at
   pub of_cell : IsOfCell cell at
 
--- the copy stands in the segment, before the address up to which that is filled
-pub record StaysYoung (start : Start) (fixed : Fixed) (stayed : List Home) (fill : ℕ) (home : Home) : Type 0 where
-  pub among : Contains stayed home
-  pub from : room_start start.heap.space start.half ≤ home.to
-  pub ends : home.to + size_of fixed home.from ≤ fill
-
 -- the copy stands in what was a free run
 pub record IsPromoted (start : Start) (fixed : Fixed) (home : Home) : Type 0 where
   pub below : home.to < eden_start start.heap.space
@@ -99,26 +96,31 @@ module _ {start : Start} {left : ℕ} {fixed : Fixed} {homes : List Home} {rows 
   pub few : fill ≤ room_start start.heap.space start.half + (start.heap.survivors + start.heap.used)
   few = few_filled ending.begun ending.filled
 
-  -- the segment is not passed
+  -- the main side's segment is not passed
   pub in_room : fill ≤ room_start start.heap.space start.half + start.heap.space.sizes.young
   in_room = omega (arith, few, ending.begun.whole.rows.few)
 
-  -- a home copy that is not in a page is in the segment
-  stays_young : (home : Home) → Contains ending.filled.stayed home
-      → StaysYoung start fixed ending.filled.stayed fill home
-  stays_young home there =
-      let within = stayed_within home ending.filled there in
-      record { among = there; from = within.0; ends = within.1 }
+  -- the segments of all workers
+  abbrev pub end_segments : List SegmentCopies
+  end_segments = all_segments start ending.filled.stayed
+
+  -- a copy in one of them lies in the half
+  pub stays_in_half : (home : Home) (is : StaysYoung start fixed end_segments home)
+      → (half_start start.heap.space start.half ≤ home.to)
+      × (home.to + size_of fixed home.from ≤ half_end start.heap.space start.half)
+  stays_in_half home is =
+      let within = segment_in_half start.heap.space start.half is.stays.segment.worker is.known in
+      (omega (arith, within.0, is.from), omega (arith, within.1, is.ends, is.fits))
 
   -- a room before eden is a free run
   room_in_page : (home : Home) (room : Room) → LiesInRoom fixed room home.to (size_of fixed home.from)
       → home.to < eden_start start.heap.space → IsPromoted start fixed home
   room_in_page home room lies below =
-      elim ((rooms_tell ending.begun.begins room).0 lies.among) [
+      elim ((ending.begun.begins.rooms room).0 lies.among) [
         | inl segment ↦
-            let from : room.from ≡ room_start start.heap.space start.half =
-            ap (λ (one : Room). one.from) segment in
-            absurd (omega (arith, lies.from, from, below, the_halves.room_from, the_halves.from))
+            let from : room.from ≡ segment_from start.heap.space start.half segment.worker =
+            ap (λ (one : Room). one.from) segment.is in
+            absurd (omega (arith, lies.from, from, below))
         | inr run ↦
             let same : room ≡ room_of_run start.heap.space run.0 = run.2 in
             record {
@@ -136,33 +138,26 @@ module _ {start : Start} {left : ℕ} {fixed : Fixed} {homes : List Home} {rows 
   is_promoted home there below =
       let housed = ending.filled.copying.housed home there in room_in_page home housed.0 housed.1 below
 
-  -- each home copy stands in the segment, or in what was a free run
+  -- each home copy stands in a segment, or in what was a free run
   pub home_place : (home : Home) → Contains homes home
-      → StaysYoung start fixed ending.filled.stayed fill home ⊎ IsPromoted start fixed home
+      → StaysYoung start fixed end_segments home ⊎ IsPromoted start fixed home
   home_place home there =
-      elim (stayed_or_promoted home ending.filled there) [
-        | inl stayed ↦ inl (stays_young home stayed)
+      elim (stays_or_promoted ending.begun ending.filled home there) [
+        | inl stays ↦ inl (stays_young ending.begun ending.filled home stays)
         | inr promoted ↦ inr (is_promoted home there (ending.filled.in_pages home promoted))
       ]
 
-  -- each of those in the segment is a home copy, and begins behind the pages
-  pub stayed_is : (home : Home) → Contains ending.filled.stayed home
+  -- each of those in a segment is a home copy, and begins behind the pages
+  pub stayed_is : (home : Home) → StaysIn end_segments home
       → Contains homes home × (eden_start start.heap.space ≤ home.to)
-  stayed_is home there =
-      let filled = ending.filled in
-      let stays = stays_young home there in (
-        (filled.same home).1 (Contains-append_left filled.stayed filled.promoted home there),
-        omega (arith, stays.from, the_halves.room_from, the_halves.from),
-      )
+  stayed_is home stays =
+      let young = stays_young ending.begun ending.filled home stays in
+      (stays_is ending.begun ending.filled home stays, omega (arith, young.from))
 
   -- and each home copy that begins there is one of those
   pub is_stayed : (home : Home) → Contains homes home → eden_start start.heap.space ≤ home.to
-      → Contains ending.filled.stayed home
-  is_stayed home there young =
-      elim (home_place home there) [
-        | inl stays ↦ stays.among
-        | inr promoted ↦ absurd (omega (arith, promoted.below, young))
-      ]
+      → StaysIn end_segments home
+  is_stayed home there young = (young_within ending.begun ending.filled home there young).stays
 
   -- a word that was not emptied is as it was
   pub kept : (at : ℕ) → at ≢ fill ⊎ (room_start start.heap.space start.half + start.heap.space.sizes.young ≤ at)
@@ -208,16 +203,11 @@ module _ {start : Start} {left : ℕ} {fixed : Fixed} {homes : List Home} {rows 
         };
       }
 
-  -- an address of the rooms is one of the segment, or of a free run
-  pub rooms_hold : (at : ℕ) → IsInRooms fixed at → IsInSegment start at ⊎ HasRun start.rows at
+  -- an address of the rooms is one of the half, or of a free run
+  pub rooms_hold : (at : ℕ) → IsInRooms fixed at → IsInNewHalf start at ⊎ HasRun start.rows at
   rooms_hold at inside =
-      elim ((rooms_tell ending.begun.begins inside.0).0 inside.1) [
-        | inl segment ↦
-            let same : inside.0 ≡ room_of start.heap.space start.half = segment in
-            inl record {
-              from = omega (arith, inside.2.from, ap (λ (one : Room). one.from) same);
-              below = omega (arith, inside.2.below, ap (λ (one : Room). one.to) same);
-            }
+      elim ((ending.begun.begins.rooms inside.0).0 inside.1) [
+        | inl segment ↦ inl (segment_in_new inside.0 at inside.2 segment)
         | inr run ↦
             let same : inside.0 ≡ room_of_run start.heap.space run.0 = run.2 in
             inr record {
@@ -254,9 +244,9 @@ module _ {start : Start} {left : ℕ} {fixed : Fixed} {homes : List Home} {rows 
   apart_from_rooms at apart none inside =
       let halves = the_halves in
       elim (rooms_hold at inside) [
-        | inl segment ↦ elim apart [
-          | inl page ↦ omega (arith, page, segment.from, halves.room_from, halves.from)
-          | inr behind ↦ omega (arith, behind, segment.below, halves.room_to, halves.to)
+        | inl in_half ↦ elim apart [
+          | inl page ↦ omega (arith, page, in_half.from, halves.from)
+          | inr behind ↦ omega (arith, behind, in_half.below, halves.to)
         ]
         | inr run ↦ none run
       ]

@@ -1,6 +1,6 @@
 -- A scavenge that has come to its end is one, and the heap that is left shows the graph.
 use Rattle.std.proofs.Common.{◌≡◌, ℕ, ◌<◌, ◌≤◌, ◌⊎◌, Bool, List, Contains, inl, inr, slice_get, sym, ◌∙◌, ap}
-use Rattle.std.proofs.Common.{[], ◌∷◌, refl, subst, arith}
+use Rattle.std.proofs.Common.{subst, arith}
 use Rattle.object_graph.specs.Graphs.{Graph}
 use Rattle.page_space.specs.Extents.{eden_start, roots_start}
 use Rattle.cell_layout.proofs.OneCell.{cells_have_words}
@@ -24,13 +24,14 @@ use Rattle.scavenger.specs.Walking.{IsToPromote}
 use Rattle.scavenger.specs.Laws.{IsEnded, EndsAreScavenges}
 use Rattle.scavenger.specs.Scavenged.{Scavenges, place_after}
 use Rattle.scavenger.proofs.PagesRuns.{word_of_run}
+use Rattle.scavenger.proofs.FilledSegments.{workers_are, segment_fills}
 use Rattle.scavenger.proofs.EndWords.{ended, outside_same}
 use Rattle.scavenger.proofs.EndCopies.{renaming, young_of, copy_size}
 use Rattle.scavenger.proofs.EndHeap.{runs_are_free}
 use Rattle.scavenger.proofs.EndMoved.{is_collectable}
 use Rattle.scavenger.proofs.EndRecords.{end_is_remembered}
 use Rattle.scavenger.proofs.EndedHeap.{ending_is, left_young, left_is, left_is_moved, left_alone, left_stayed}
-use Rattle.scavenger.proofs.EndedHeap.{left_tiles, left_segment, left_few}
+use Rattle.scavenger.proofs.EndedHeap.{left_segments, left_few, left_in_one}
 
 module _ {old new : Mutator} {all : Bool} {fixed : Fixed} {homes : List Home} {words : List ℕ} {fill refused : ℕ}
     (young : IsYoung old.young) (is : IsEnded old new all fixed homes words fill refused) where
@@ -76,10 +77,10 @@ module _ {old new : Mutator} {all : Bool} {fixed : Fixed} {homes : List Home} {w
         outside = outside;
         seat = is.seat;
         paths = is.paths;
-        segments = left_segment young is ∷ [];
-        workers = refl;
+        segments = left_segments young is;
+        workers = workers_are is.begun is.filled;
         stayed = left_stayed young is;
-        tiles = left_tiles young is;
+        tiles = segment_fills is.begun is.filled;
         young = left_young young is;
         few = left_few young is;
         moved = left_is_moved young is;
@@ -142,4 +143,5 @@ ends_are_scavenges old new graph all fixed homes words fill refused shows young 
       still_shows young is graph shows,
       λ rooms. moves_keep_rooms (heap_of old) (heap_of new) to graph rooms (shows_for (Stays to) shows.shows)
           (left_is_moved young is),
+      left_in_one young is,
     )

@@ -1,25 +1,29 @@
 -- A scavenge that has come to its end: the heap that is left is the old one, moved, its young cells are the home copies
--- that stayed young, and these fill the segment.
-use Rattle.std.proofs.Common.{◌≡◌, ℕ, ◌+◌, ◌-◌, ◌≤◌, ◌↔◌, Bool, List, [], ◌∷◌, Contains, sym, ◌∙◌, ap, subst}
-use Rattle.std.proofs.Common.{arith}
-use Rattle.std.proofs.lemmas.List.Sums.{sum_by-cons}
-use Rattle.tagged_word.proofs.Members.{first_in, one_in}
+-- that stayed young, and these fill the segments.
+use Rattle.std.proofs.Common.{◌≡◌, ℕ, ◌+◌, ◌-◌, ◌≤◌, ◌↔◌, inl, inr, Bool, List, [], ◌∷◌, Contains, refl, sym, ◌∙◌, ap}
+use Rattle.std.proofs.Common.{subst, arith}
+use Rattle.std.proofs.lemmas.List.Elements.{Contains-append_cases}
+use Rattle.std.proofs.lemmas.List.Sums.{sum_by-append, sum_by-cons}
+use Rattle.tagged_word.proofs.Members.{one_in}
 use Rattle.page_space.specs.Extents.{eden_start}
 use Rattle.nursery.specs.Young.{Young, IsYoung, turned}
 use Rattle.write_barrier.specs.Seats.{heap_words}
 use Rattle.heap_model.specs.Types.{Cell}
 use Rattle.heap_model.specs.Heaps.{HasCell}
+use Rattle.heap_model.proofs.RowCovers.{of_one}
 use Rattle.heap_moves.specs.Moved.{IsMoved}
 use Rattle.write_barrier.specs.MutatorState.{Mutator, heap_of}
 use Rattle.scav_copy.specs.declared.places.Home.{Home}
 use Rattle.scav_copy.specs.Places.{Fixed}
-use Rattle.scavenger.specs.Starts.{start_of, room_start}
-use Rattle.scavenger.specs.Filling.{Tiles}
+use Rattle.scav_copy.proofs.Spots.{home_itself, none_in}
+use Rattle.scavenger.specs.Starts.{SegmentCopies, start_of, room_start, segment_from}
+use Rattle.scavenger.specs.Filling.{words_of_homes, words_of_segments}
 use Rattle.scavenger.specs.Laws.{IsEnded}
-use Rattle.scavenger.specs.Scavenged.{SegmentCopies, StaysIn, FillsSegment, place_after, words_of_homes}
-use Rattle.scavenger.specs.Scavenged.{words_of_segments}
-use Rattle.scavenger.proofs.EndWords.{Ending, stayed_is, is_stayed}
-use Rattle.scavenger.proofs.EndRows.{ended_heap, stayed_words}
+use Rattle.scavenger.specs.Scavenged.{StaysIn, StandsInOneSegment, place_after}
+use Rattle.scavenger.proofs.FilledSegments.{main_segment, main_filled, young_within}
+use Rattle.scavenger.proofs.FirstSegments.{hands_nothing}
+use Rattle.scavenger.proofs.EndWords.{Ending, end_segments, stayed_is, is_stayed}
+use Rattle.scavenger.proofs.EndRows.{ended_heap}
 use Rattle.scavenger.proofs.EndHeap.{few_stayed}
 use Rattle.scavenger.proofs.EndMoved.{is_moved, alone}
 
@@ -36,20 +40,34 @@ module _ {old new : Mutator} {all : Bool} {fixed : Fixed} {homes : List Home} {w
     emptied = is.emptied;
   }
 
-  -- the segment is filled as far as the copies that stayed young have words
-  pub left_words : fill - room_start old.seat.space (start_of old).half ≡ words_of_homes fixed is.filled.stayed
-  left_words = omega (arith, stayed_words ending_is)
+  -- the segments that are left: helpers' with no copy, and the main side's
+  abbrev pub left_segments : List SegmentCopies
+  left_segments = end_segments ending_is
+
+  -- all have the words of the main side's
+  left_words : fill - room_start old.seat.space (start_of old).half ≡ words_of_segments fixed left_segments
+  left_words =
+      let main = main_segment (start_of old) is.filled.stayed in
+      let none = (hands_nothing (start_of old) fixed is.begun refl).none in
+      omega (
+        arith,
+        sum_by-append (λ (segment : SegmentCopies). words_of_homes fixed segment.homes) (start_of old).handed
+            (main ∷ []),
+        sum_by-cons (λ (segment : SegmentCopies). words_of_homes fixed segment.homes) main [],
+        none,
+        main_filled is.begun is.filled,
+      )
 
   -- so the nursery was turned to these
-  turned_to : new.young ≡ turned old.young (words_of_homes fixed is.filled.stayed)
-  turned_to = is.young ∙ ap (turned old.young) left_words
+  pub left_young : new.young ≡ turned old.young (words_of_segments fixed left_segments)
+  left_young = is.young ∙ ap (turned old.young) left_words
 
   -- the heap that is left is the one at the end
-  pub left_is : heap_of new ≡ ended_heap (heap_of old) fixed is.filled.stayed (heap_words new.seat)
+  pub left_is : heap_of new ≡ ended_heap (heap_of old) fixed left_segments (heap_words new.seat)
   left_is = λ i. record {
     space = is.seat.space i;
-    used = ap (λ (one : Young). one.used) turned_to i;
-    survivors = ap (λ (one : Young). one.survivors) turned_to i;
+    used = ap (λ (one : Young). one.used) left_young i;
+    survivors = ap (λ (one : Young). one.survivors) left_young i;
     paths = is.paths i;
     words = heap_words new.seat;
   }
@@ -65,43 +83,35 @@ module _ {old new : Mutator} {all : Bool} {fixed : Fixed} {homes : List Home} {w
   left_alone cell body has from =
       alone ending_is cell body (subst (λ heap. HasCell heap cell body) left_is has) from
 
-  -- the main side's segment has those that stay young, and is the only one
-  abbrev pub left_segment : SegmentCopies
-  left_segment = record { worker = old.seat.space.sizes.helpers; homes = is.filled.stayed }
-
-  -- these are the ones that begin behind the pages
-  pub left_stayed : (home : Home) → StaysIn (left_segment ∷ []) home
+  -- the home copies in the segments are those that begin behind the pages
+  pub left_stayed : (home : Home) → StaysIn left_segments home
       ↔ (Contains homes home × (eden_start old.seat.space ≤ home.to))
-  left_stayed home = (
-    λ stays.
-        let same = sym (one_in left_segment stays.segment stays.of_all) in
-        stayed_is ending_is home (subst (λ (one : SegmentCopies). Contains one.homes home) same stays.among),
-    λ both. record {
-      segment = left_segment;
-      of_all = first_in left_segment [];
-      among = is_stayed ending_is home both.0 both.1;
-    },
-  )
+  left_stayed home = (λ stays. stayed_is ending_is home stays, λ both. is_stayed ending_is home both.0 both.1)
 
-  -- they fill the segment from its start on
-  pub left_tiles : (segment : SegmentCopies) → Contains (left_segment ∷ []) segment
-      → FillsSegment old.seat.space (start_of old).half fixed segment
-  left_tiles segment there =
-      subst (FillsSegment old.seat.space (start_of old).half fixed) (one_in left_segment segment there)
-      (subst (λ end. Tiles fixed (room_start old.seat.space (start_of old).half) end is.filled.stayed)
-      (sym (stayed_words ending_is)) is.filled.tiles)
+  -- no more words than survivors and eden's used words together
+  pub left_few : words_of_segments fixed left_segments ≤ old.young.survivors + old.young.used
+  left_few = few_stayed ending_is
 
-  -- all segments have the words of this one
-  one_sum : words_of_segments fixed (left_segment ∷ []) ≡ words_of_homes fixed is.filled.stayed
-  one_sum = omega (
-    arith,
-    sum_by-cons (λ (segment : SegmentCopies). words_of_homes fixed segment.homes) left_segment [],
-  )
-
-  -- so these are the survivors
-  pub left_young : new.young ≡ turned old.young (words_of_segments fixed (left_segment ∷ []))
-  left_young = turned_to ∙ ap (turned old.young) (sym one_sum)
-
-  -- and no more words than survivors and eden's used words together
-  pub left_few : words_of_segments fixed (left_segment ∷ []) ≤ old.young.survivors + old.young.used
-  left_few = omega (arith, one_sum, few_stayed ending_is)
+  -- no young cell stands in a helper's segment
+  pub left_in_one : StandsInOneSegment old new
+  left_in_one cell body has from =
+      let found = left_alone cell body has from in
+      let young : eden_start old.seat.space ≤ found.0.to = omega (arith, from, found.2) in
+      let is_young = young_within is.begun is.filled found.0 found.1 young in
+      let main = main_segment (start_of old) is.filled.stayed in
+      let stays = is_young.stays in
+      elim (Contains-append_cases (start_of old).handed (main ∷ []) stays.segment stays.of_all) [
+        | inl handed ↦
+            let none = (hands_nothing (start_of old) fixed is.begun refl).homes in
+            let there = of_one (λ (one : SegmentCopies). one.homes) (start_of old).handed stays.segment found.0 handed
+            stays.among in
+            absurd (none_in found.0 (subst (λ (all : List Home). Contains all found.0) none there))
+        | inr own ↦
+            let worker : old.seat.space.sizes.helpers ≡ stays.segment.worker =
+            ap (λ (one : SegmentCopies). one.worker) (one_in main stays.segment own) in
+            let starts = ap (segment_from old.seat.space (start_of old).half) worker in
+            let first = home_itself found.0 is.begun.laid is.filled.copying found.1 in (
+              omega (arith, is_young.from, starts, found.2),
+              omega (arith, is_young.ends, is_young.fits, starts, found.2, first.below),
+            )
+      ]

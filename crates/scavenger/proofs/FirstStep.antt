@@ -1,5 +1,6 @@
 -- A scavenge begins: nothing is copied, and all slots outside are to do.
 use Rattle.std.proofs.Common.{◌≡◌, ℕ, ◌+◌, inl, inr, Bool, List, [], refl, subst, arith}
+use Rattle.std.specs.List.{Contains}
 use Rattle.page_space.specs.Sizes.{page_words}
 use Rattle.page_space.specs.Extents.{roots_start}
 use Rattle.page_space.specs.RegionLaws.{IsSpace}
@@ -9,17 +10,19 @@ use Rattle.free_runs.specs.FreeRuns.{AreFree}
 use Rattle.heap_table.specs.Phases.{Quiet}
 use Rattle.heap_model.proofs.RememberedSlots.{page_slot_below}
 use Rattle.write_barrier.specs.MutatorState.{Mutator, MainShows}
+use Rattle.scav_copy.specs.declared.places.Home.{Home}
 use Rattle.scav_copy.specs.Places.{Fixed, StoodAt}
 use Rattle.scav_copy.specs.Copies.{Copying}
 use Rattle.scav_copy.proofs.Filling.{start_is_copying}
 use Rattle.scav_copy.proofs.Spots.{none_in}
 use Rattle.scavenger.specs.declared.progress.Progress.{Progress}
-use Rattle.scavenger.specs.Starts.{Start, IsBegun, room_start}
+use Rattle.scavenger.specs.Starts.{Start, IsBegun, nothing_handed, room_start}
 use Rattle.scavenger.specs.Filling.{Tiles, CopiesFillRooms, IsToDo}
 use Rattle.scavenger.specs.Walking.{IsWellPlaced, AreKept, MayBegin, Scavenging, at_root}
 use Rattle.scavenger.proofs.Backs.{backs_of_all}
 use Rattle.scavenger.proofs.CodeChanges.{changes_nothing}
 use Rattle.scavenger.proofs.FirstPages.{first_pages}
+use Rattle.scavenger.proofs.FirstSegments.{hands_nothing}
 use Rattle.scavenger.proofs.Started.{shown_heaps_may_begin}
 
 -- how far a scavenge has come then: copies to the segment go to its start, and no run has more words than a page
@@ -35,16 +38,24 @@ module _ {start : Start} {fixed : Fixed} (begun : IsBegun start fixed) where
   first_copying : Copying fixed start.heap.words []
   first_copying = subst (λ (words : List ℕ). Copying fixed words []) begun.begins.before (start_is_copying fixed)
 
-  -- no word is filled
-  first_filled : CopiesFillRooms start fixed start.heap.words start.rows [] (room_start start.heap.space start.half)
-  first_filled = record {
+  -- no word is filled, where helpers handed nothing over
+  first_filled : start.handed ≡ nothing_handed start.heap.space
+      → CopiesFillRooms start fixed start.heap.words start.rows [] (room_start start.heap.space start.half)
+  first_filled alone = record {
     copying = first_copying;
     stayed = [];
     tiles = Tiles.none (room_start start.heap.space start.half);
     promoted = [];
     in_pages = λ home there. absurd (none_in home there);
-    same = λ home. (λ there. there, λ there. there);
-    long = omega arith;
+    handed_by = (hands_nothing start fixed begun alone).by;
+    handed = (hands_nothing start fixed begun alone).fills;
+    behind = (hands_nothing start fixed begun alone).ends;
+    same = λ home.
+        let none = (hands_nothing start fixed begun alone).homes in (
+          λ there. absurd (none_in home there),
+          λ there. subst (λ (all : List Home). Contains all home) none there,
+        );
+    long = omega (arith, (hands_nothing start fixed begun alone).none);
     pages = first_pages begun;
     left = λ at. (
       λ free. inl free,
@@ -91,7 +102,7 @@ first_step main all quiet may = record {
   bounded = may.bounded;
   quiet = quiet;
   begun = may.begun;
-  filled = first_filled may.begun;
+  filled = first_filled may.begun refl;
   copied = refl;
   placed = first_placed may.begun all;
   kept = first_kept may.begun;

@@ -1,6 +1,6 @@
 -- With one copy more, behind the others of the segment or in a free run, a scavenge is filled so.
 use Rattle.std.proofs.Common.{ℕ, ◌+◌, ◌-◌, ◌<◌, ◌≤◌, ◌≡◌, inl, inr, List, [], ◌∷◌, ◌++◌}
-use Rattle.std.proofs.Common.{arith, refl, subst}
+use Rattle.std.proofs.Common.{arith, subst}
 use Rattle.std.specs.List.{Contains}
 use Rattle.tagged_word.proofs.Members.{in_cases}
 use Rattle.page_space.specs.Extents.{eden_start}
@@ -14,10 +14,10 @@ use Rattle.scav_copy.specs.Places.{Fixed, size_of}
 use Rattle.scav_copy.specs.Renamings.{IsReachable}
 use Rattle.scav_copy.specs.Copies.{with_home, HasNoHome}
 use Rattle.scavenger.specs.Starts.{Start, IsBegun, room_start, room_of}
-use Rattle.scavenger.specs.Filling.{Tiles, CopiesFillRooms}
+use Rattle.scavenger.specs.Filling.{Tiles, CopiesFillRooms, homes_in}
 use Rattle.scavenger.specs.Following.{IsFreeAt, moved_words}
 use Rattle.scavenger.specs.Paging.{IsUnmoved, promoted_words}
-use Rattle.scavenger.proofs.OneSegment.{rooms_tell}
+use Rattle.scavenger.proofs.SegmentRooms.{own_is_among}
 use Rattle.scavenger.proofs.Sums.{one_home_more}
 use Rattle.scavenger.proofs.PagesRuns.{free_is_left}
 use Rattle.scavenger.proofs.Backs.{backs_again, front_leaves_backs}
@@ -25,8 +25,9 @@ use Rattle.scavenger.proofs.PagesCopies.{pages_stay_for_copies, words_stay_left,
 use Rattle.scavenger.proofs.PagesLeft.{words_are_left, free_is_left_apart}
 use Rattle.scavenger.proofs.PagesTakesOwn.{pages_take_copies}
 use Rattle.scavenger.proofs.FollowTiles.{tiles_push, same_with_home, one_between, one_behind, fill_above}
-use Rattle.scavenger.proofs.FollowTiles.{segment_is_free}
-use Rattle.scavenger.proofs.FollowCopies.{FitsCopy, fills_copying, copy_is_home, home_at}
+use Rattle.scavenger.proofs.FilledSegments.{segment_is_free}
+use Rattle.scavenger.proofs.HandedStays.{copy_still_end, promotion_still_ends}
+use Rattle.scavenger.proofs.FollowCopies.{FitsCopy, fills_copying, cell_is_there, copy_is_there, copy_is_home, home_at}
 use Rattle.scavenger.proofs.FollowRunWords.{TakesRoom, rest_fills}
 
 -- What is known of a cell that is to be copied: it stands among the words, was reached and has no home, and behind the
@@ -57,11 +58,11 @@ fits_behind {start} begun filled new =
       size = new.size;
       room = room;
       lies = record {
-        among = (rooms_tell begun.begins room).1 (inl refl);
+        among = own_is_among begun.begins;
         from = fill_above filled;
         ends = new.ends;
       };
-      free = λ at from below. segment_is_free at begun filled from;
+      free = λ at from below. segment_is_free begun filled at from (omega (arith, below, new.ends));
       is = new.is;
       reached = new.reached;
       none = new.none;
@@ -101,16 +102,22 @@ pub filled_behind : {start : Start} {fixed : Fixed} {words : List ℕ} {rows : L
 filled_behind {start} {fixed} {words} {rows} {homes} {fill} {cell} begun filled new =
     let home : Home = home_at cell fill in
     let from : ℕ = room_start start.heap.space start.half in
+    let others : List Home = filled.promoted ++ homes_in start.handed in
+    let fits = fits_behind begun filled new in
     let end : fill + size_of fixed cell.at ≡ fill + cell.size = omega (arith, new.size) in
     record {
-      copying = copy_is_home (fits_behind begun filled new);
+      copying = copy_is_home fits;
       stayed = filled.stayed ++ home ∷ [];
       tiles = subst (λ to. Tiles fixed from to (filled.stayed ++ home ∷ [])) end
           (tiles_push from filled.stayed home filled.tiles);
       promoted = filled.promoted;
       in_pages = filled.in_pages;
-      same = same_with_home homes (filled.stayed ++ filled.promoted) ((filled.stayed ++ home ∷ []) ++ filled.promoted)
-          home filled.same (one_behind filled.stayed filled.promoted home);
+      handed_by = filled.handed_by;
+      handed = filled.handed;
+      behind = copy_still_end begun filled cell fill new.is (cell_is_there fits) (copy_is_there fits)
+          (fill_above filled);
+      same = same_with_home homes (filled.stayed ++ others) ((filled.stayed ++ home ∷ []) ++ others) home filled.same
+          (one_behind filled.stayed others home);
       long = omega (arith, one_home_more (size_of fixed) homes home, filled.long, new.size);
       pages = pages_stay_for_copies start fixed words rows homes fill cell begun filled (unmoved new) new.ends;
       left = λ at. words_stay_left start fixed words rows homes fill cell at begun filled (unmoved new);
@@ -130,10 +137,12 @@ pub filled_in_page : {start : Start} {fixed : Fixed} {words : List ℕ} {rows le
 filled_in_page {start} {fixed} {words} {rows} {left} {homes} {fill} {cell} {free} {run} begun filled new takes
     is_free room =
     let home : Home = home_at cell run.at in
+    let others : List Home = filled.promoted ++ homes_in start.handed in
+    let fits = fits_run cell free begun filled new room in
     let some = (cells_have_words start.heap.space words cell new.is_cell).0 in
     let below : run.at < eden_start start.heap.space = omega (arith, some, room.enough, room.in_page) in
     record {
-      copying = copy_is_home (fits_run cell free begun filled new room);
+      copying = copy_is_home fits;
       stayed = filled.stayed;
       tiles = filled.tiles;
       promoted = home ∷ filled.promoted;
@@ -141,8 +150,12 @@ filled_in_page {start} {fixed} {words} {rows} {left} {homes} {fill} {cell} {free
         | inl same ↦ subst (λ (other : Home). other.to < eden_start start.heap.space) same below
         | inr among ↦ filled.in_pages one among
       ];
-      same = same_with_home homes (filled.stayed ++ filled.promoted) (filled.stayed ++ home ∷ filled.promoted) home
-          filled.same (one_between filled.stayed filled.promoted home);
+      handed_by = filled.handed_by;
+      handed = filled.handed;
+      behind = promotion_still_ends begun filled cell free run.at new.is (cell_is_there fits, copy_is_there fits)
+          room.in_page room.enough;
+      same = same_with_home homes (filled.stayed ++ others) (filled.stayed ++ home ∷ others) home filled.same
+          (one_between filled.stayed others home);
       long = omega (arith, one_home_more (size_of fixed) homes home, filled.long);
       pages = pages_take_copies start fixed words rows left homes fill cell free run begun filled (unmoved new) takes
           is_free;

@@ -13,7 +13,6 @@ use Rattle.scav_copy.specs.Places.{Fixed}
 use Rattle.scav_copy.specs.Copies.{LiesInRoom}
 use Rattle.scavenger.specs.Starts.{Start, IsBegun, IsFreeRun, room_of_run}
 use Rattle.scavenger.specs.Filling.{CopiesFillRooms}
-use Rattle.scavenger.proofs.OneSegment.{rooms_tell}
 use Rattle.scavenger.proofs.PagesRuns.{run_in, run_of_word, word_of_run}
 
 -- where a run ends, in its page, no word is free
@@ -67,7 +66,7 @@ run_lies {start} {rows = rows} run begun filled is =
     let room : Room = room_of_run start.heap.space lies.whole in (
       room,
       record {
-        among = (rooms_tell begun.begins room).1 (inr (lies.whole, lies.is, refl));
+        among = (begun.begins.rooms room).1 (inr (lies.whole, lies.is, refl));
         from = lies.from;
         ends = lies.ends;
       },

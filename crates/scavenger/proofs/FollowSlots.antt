@@ -14,6 +14,7 @@ use Rattle.scav_copy.proofs.Redirecting.{as_before, slots_may_be_renamed}
 use Rattle.scav_copy.proofs.Spots.{elsewhere, from_is, home_is_no_cell, live_is_there}
 use Rattle.scavenger.specs.Following.{RenamingGoesOn}
 use Rattle.scavenger.proofs.PagesSlots.{pages_stay_for_slots}
+use Rattle.scavenger.proofs.HandedStays.{slot_still_end}
 
 -- a slot that became the reference to a home refers to none of the cells, so another does
 pub other_slot : {fixed : Fixed} {words : List ℕ} {homes : List Home} (slot place other cell : ℕ) (home : Home)
@@ -55,6 +56,9 @@ renaming_goes_on start left fixed words rows homes todo front home fill slot pla
         tiles = filled.tiles;
         promoted = filled.promoted;
         in_pages = filled.in_pages;
+        handed_by = filled.handed_by;
+        handed = filled.handed;
+        behind = slot_still_end begun filled slot place (bits_of (Ref home.to)) stood;
         same = filled.same;
         long = filled.long;
         pages = pages_stay_for_slots start fixed words rows homes fill slot place (bits_of (Ref home.to)) begun filled

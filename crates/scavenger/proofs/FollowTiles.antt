@@ -1,20 +1,20 @@
--- Copies that stand one behind another, and one more behind them; where home copies are.
+-- Copies that stand one behind another, and one more behind them; those that stand in pages.
 use Rattle.std.proofs.Common.{ℕ, ◌+◌, ◌<◌, ◌≤◌, ◌≡◌, ◌⊎◌, inl, inr, List, [], ◌∷◌, ◌++◌, ◌↔◌}
 use Rattle.std.proofs.Common.{arith, refl, sym, ap, subst}
 use Rattle.std.specs.List.{Contains}
+use Rattle.std.proofs.lemmas.List.Sums.{sum_by-cons}
 use Rattle.std.proofs.lemmas.List.Elements.{Contains-append_cases, Contains-append_left, Contains-append_right}
 use Rattle.tagged_word.proofs.Members.{first_in, rest_in, in_cases, one_in}
 use Rattle.page_space.specs.Extents.{eden_start}
 use Rattle.heap_model.specs.Types.{Run}
 use Rattle.scav_copy.specs.declared.places.Home.{Home}
 use Rattle.scav_copy.specs.declared.places.Room.{Room}
-use Rattle.scav_copy.specs.Places.{Fixed, size_of, IsInCopies}
+use Rattle.scav_copy.specs.Places.{Fixed, size_of}
 use Rattle.scav_copy.specs.Copies.{with_home, Copying}
 use Rattle.scav_copy.proofs.Ascending.{new_in, old_in, joined_is}
 use Rattle.scav_copy.proofs.Spots.{none_in}
-use Rattle.scavenger.specs.Starts.{Start, IsBegun, IsFreeRun, room_start, room_of, room_of_run}
-use Rattle.scavenger.specs.Filling.{Tiles, none, next, CopiesFillRooms}
-use Rattle.scavenger.proofs.OneSegment.{rooms_tell}
+use Rattle.scavenger.specs.Starts.{Start, IsBegun, IsFreeRun, IsSegmentRoom, room_start, room_of_run, segment_from}
+use Rattle.scavenger.specs.Filling.{Tiles, none, next, CopiesFillRooms, words_of_homes}
 use Rattle.scavenger.proofs.TargetCells.{run_ends}
 
 -- what copies with a first one say of it
@@ -139,39 +139,28 @@ pub fill_above : {start : Start} {fixed : Fixed} {words : List ℕ} {rows : List
 fill_above {start} {fill = fill} filled =
     tiles_ascend (room_start start.heap.space start.half) fill filled.stayed filled.tiles
 
--- a home copy is one of the segment, or of a page
-pub stayed_or_promoted : {start : Start} {fixed : Fixed} {words : List ℕ} {rows : List (List Run)} {homes : List Home}
-    {fill : ℕ} (home : Home) (filled : CopiesFillRooms start fixed words rows homes fill) → Contains homes home
-    → Contains filled.stayed home ⊎ Contains filled.promoted home
-stayed_or_promoted home filled there =
-    Contains-append_cases filled.stayed filled.promoted home ((filled.same home).0 there)
-
--- one of the segment lies between its start and where the copies end
-pub stayed_within : {start : Start} {fixed : Fixed} {words : List ℕ} {rows : List (List Run)} {homes : List Home}
-    {fill : ℕ} (home : Home) (filled : CopiesFillRooms start fixed words rows homes fill) → Contains filled.stayed home
-    → (room_start start.heap.space start.half ≤ home.to) × (home.to + size_of fixed home.from ≤ fill)
-stayed_within {start} {fill = fill} home filled there =
-    tile_within (room_start start.heap.space start.half) fill filled.stayed home filled.tiles there
-
--- so does a home copy that is not in a page
-pub young_within : {start : Start} {fixed : Fixed} {words : List ℕ} {rows : List (List Run)} {homes : List Home}
-    {fill : ℕ} (home : Home) → CopiesFillRooms start fixed words rows homes fill → Contains homes home
-    → eden_start start.heap.space ≤ home.to
-    → (room_start start.heap.space start.half ≤ home.to) × (home.to + size_of fixed home.from ≤ fill)
-young_within home filled there young =
-    elim (stayed_or_promoted home filled there) [
-      | inl stayed ↦ stayed_within home filled stayed
-      | inr promoted ↦ absurd (omega (arith, young, filled.in_pages home promoted))
-    ]
+-- copies one behind another end as many words behind where they begin as they have together
+pub tiles_add : {fixed : Fixed} (from to : ℕ) (homes : List Home) → Tiles fixed from to homes
+    → from + words_of_homes fixed homes ≡ to
+tiles_add from to [] tiles = omega (arith, tiles_of_none tiles)
+tiles_add {fixed} from to (home ∷ homes) tiles =
+    let begins = tiles_begin tiles in
+    omega (
+      arith,
+      begins.starts,
+      sum_by-cons (λ (one : Home). size_of fixed one.from) home homes,
+      tiles_add (home.to + size_of fixed home.from) to homes begins.rest,
+    )
 
 -- a copy in a room that begins before eden ends there
 ends_by : {start : Start} {fixed : Fixed} (room : Room) (first many : ℕ) → IsBegun start fixed → room.from ≤ first
     → first + many ≤ room.to → first < eden_start start.heap.space
-    → ((room ≡ room_of start.heap.space start.half)
+    → (IsSegmentRoom start.heap.space start.half room
     ⊎ ((run : Run) × IsFreeRun start.rows run × (room ≡ room_of_run start.heap.space run)))
     → first + many ≤ eden_start start.heap.space
-ends_by {start} room first many begun from ends below (inl same) =
-    let starts : room.from ≡ room_start start.heap.space start.half = ap (λ (one : Room). one.from) same in
+ends_by {start} room first many begun from ends below (inl segment) =
+    let starts : room.from ≡ segment_from start.heap.space start.half segment.worker =
+    ap (λ (one : Room). one.from) segment.is in
     absurd (omega (arith, starts, from, below))
 ends_by {start} room first many begun from ends below (inr of_run) =
     let run : Run = of_run.0 in
@@ -186,18 +175,4 @@ copy_in_page {fixed = fixed} home begun copying there below =
     let housed = copying.housed home there in
     let lies = housed.1 in
     ends_by housed.0 home.to (size_of fixed home.from) begun lies.from lies.ends below
-    ((rooms_tell begun.begins housed.0).0 lies.among)
-
--- behind the copies of the segment no word is in a copy
-pub segment_is_free : {start : Start} {fixed : Fixed} {words : List ℕ} {rows : List (List Run)} {homes : List Home}
-    {fill : ℕ} (at : ℕ) → IsBegun start fixed → CopiesFillRooms start fixed words rows homes fill → fill ≤ at
-    → IsInCopies fixed homes at → ⊥
-segment_is_free {start} {fixed} at begun filled from inside =
-    let home : Home = inside.0 in
-    elim (stayed_or_promoted home filled inside.1) [
-      | inl stayed ↦
-          let within = stayed_within home filled stayed in omega (arith, inside.2.below, within.1, from)
-      | inr promoted ↦
-          let ends = copy_in_page home begun filled.copying inside.1 (filled.in_pages home promoted) in
-          omega (arith, inside.2.below, ends, fill_above filled, from)
-    ]
+    ((begun.begins.rooms housed.0).0 lies.among)

@@ -1,18 +1,17 @@
 -- What a copy makes others of words and of what is recorded: in the segment, or in a free run of a page.
-use Rattle.std.proofs.Common.{ℕ, ◌+◌, ◌-◌, ◌<◌, ◌≤◌, ◌≡◌, ◌≢◌, ◌⊎◌, inl, inr, List, length, get_or}
-use Rattle.std.proofs.Common.{unwrap_or, arith, refl, sym, ap, ◌∙◌, length-set}
+use Rattle.std.proofs.Common.{ℕ, ◌+◌, ◌-◌, ◌<◌, ◌≤◌, ◌≡◌, ◌≢◌, inl, inr, List, length, get_or}
+use Rattle.std.proofs.Common.{arith, refl, sym, ap, ◌∙◌}
 use Rattle.std.specs.List.{Contains}
 use Rattle.std.proofs.lemmas.Bool.{cases_lt}
-use Rattle.std.proofs.lemmas.Option.{unwrap_or-slice_get}
 use Rattle.tagged_word.specs.declared.word.Class.TheVariants.{Ref}
 use Rattle.tagged_word.specs.Words.{bits_of}
 use Rattle.tagged_word.specs.Readings.{reference_in}
 use Rattle.page_space.specs.Extents.{eden_start}
 use Rattle.word_store.specs.Copies.{copied}
-use Rattle.word_store.proofs.CopiedWords.{length-copied, get_or-copied, get_or-copied_before, get_or-copied_behind}
+use Rattle.word_store.proofs.CopiedWords.{get_or-copied}
 use Rattle.heap_model.specs.Types.{Cell, Run}
 use Rattle.write_barrier.specs.MutatorState.{Mutator}
-use Rattle.write_barrier.proofs.FreeCells.{length-free_cell, beside_free_cell}
+use Rattle.write_barrier.proofs.FreeCells.{length-free_cell}
 use Rattle.scav_copy.specs.declared.places.Home.{Home}
 use Rattle.scav_copy.specs.Places.{Fixed, offsets_of, IsInRooms}
 use Rattle.scav_copy.proofs.Spots.{cell_itself, elsewhere, slot_in_cell}
@@ -21,38 +20,12 @@ use Rattle.scavenger.specs.Filling.{CopiesFillRooms}
 use Rattle.scavenger.specs.Following.{moved_words}
 use Rattle.scavenger.specs.Walking.{CopiesCell, RefersToRoom, CutsFreeCell}
 use Rattle.scavenger.proofs.FollowTiles.{fill_above}
+use Rattle.scavenger.proofs.HandedStays.{moved_elsewhere, moved_long, free_elsewhere}
 use Rattle.scavenger.proofs.FollowCopies.{cell_is_there, copy_is_there}
 use Rattle.scavenger.proofs.FollowRunWords.{TakesRoom}
 use Rattle.scavenger.proofs.FollowFilled.{IsNew, fits_behind, fits_run, rest_words}
-use Rattle.scavenger.proofs.KeptSpots.{segment_is_room}
-use Rattle.scavenger.proofs.KeptCopies.{IsBeside, Spares, Rerecords}
-
--- a word beside the copy stays that is not the cell's first one
-moved_elsewhere : (words : List ℕ) (cell : Cell) (to at : ℕ) → cell.at + cell.size ≤ length words
-    → to + cell.size ≤ length words → IsBeside to (to + cell.size) at → at ≢ cell.at
-    → get_or (moved_words words cell to) at 0 ≡ get_or words at 0
-moved_elsewhere words cell to at there room (inl before) apart =
-    elsewhere (copied words cell.at to cell.size) cell.at (bits_of (Ref to)) at apart
-    ∙ get_or-copied_before words cell.at to cell.size at 0 there room before
-moved_elsewhere words cell to at there room (inr behind) apart =
-    elsewhere (copied words cell.at to cell.size) cell.at (bits_of (Ref to)) at apart
-    ∙ get_or-copied_behind words cell.at to cell.size at 0 there room behind
-
--- there are as many words
-moved_long : (words : List ℕ) (cell : Cell) (to : ℕ) → cell.at + cell.size ≤ length words
-    → to + cell.size ≤ length words → length (moved_words words cell to) ≡ length words
-moved_long words cell to there room =
-    length-set (copied words cell.at to cell.size) cell.at (bits_of (Ref to))
-    ∙ length-copied words cell.at to cell.size there room
-
--- a word beside a free cell stays
-free_elsewhere : (words : List ℕ) (cell free : Cell) (to at : ℕ)
-    → (at < to + cell.size) ⊎ (to + cell.size + (free.size - cell.size) ≤ at)
-    → get_or (rest_words words cell free to) at 0 ≡ get_or words at 0
-free_elsewhere words cell free to at out =
-    sym (unwrap_or-slice_get (rest_words words cell free to) at 0)
-    ∙ ap (λ found. unwrap_or found 0) (beside_free_cell words (to + cell.size) (free.size - cell.size) at out)
-    ∙ unwrap_or-slice_get words at 0
+use Rattle.scavenger.proofs.SegmentRooms.{half_is_room}
+use Rattle.scavenger.proofs.KeptCopies.{Spares, Rerecords}
 
 module _ {start : Start} {fixed : Fixed} {words : List ℕ} {rows : List (List Run)} {homes : List Home} {fill : ℕ}
     {cell : Cell} (begun : IsBegun start fixed) (filled : CopiesFillRooms start fixed words rows homes fill)
@@ -146,7 +119,7 @@ module _ {start : Start} {fixed : Fixed} {words : List ℕ} {rows : List (List R
         let is : Contains fixed.cells room.cell =
         begun.targets (cell.at + offset) room.cell (inr (cell.at, offset, new.is, visited, refl)) refers young in
         begun.laid.cell_in_no_room room.cell (room.cell, is, cell_itself room.cell begun.laid is)
-        (segment_is_room begun room.cell room.from room.below)
+        (half_is_room begun.begins room.cell room.from room.below)
 
 -- what is recorded where a copy goes to the segment
 pub records_behind : {old new : Mutator} {cell : Cell} (eden to : ℕ) → old.recorded.bound ≡ eden → eden ≤ to

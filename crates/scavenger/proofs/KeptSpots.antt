@@ -7,15 +7,13 @@ use Rattle.tagged_word.specs.Readings.{reference_in}
 use Rattle.page_space.specs.Extents.{eden_start}
 use Rattle.heap_model.specs.Remembered.{RefersToYoung}
 use Rattle.scav_copy.specs.declared.places.Home.{Home}
-use Rattle.scav_copy.specs.declared.places.Room.{Room}
-use Rattle.scav_copy.specs.Places.{Fixed, size_of, IsInCopy, IsInRooms, StoodAt}
+use Rattle.scav_copy.specs.Places.{Fixed, size_of, IsInCopy, StoodAt}
 use Rattle.scav_copy.specs.Copies.{Copying}
 use Rattle.scav_copy.proofs.Spots.{home_itself, copy_in_room, slot_in_cell, within_by}
-use Rattle.scavenger.specs.Starts.{Start, IsBegun, room_start, room_of}
+use Rattle.scavenger.specs.Starts.{Start, IsBegun}
 use Rattle.scavenger.specs.Walking.{AreKept, IsPromotedSlot, RefersToRoom}
-use Rattle.scavenger.proofs.OneSegment.{rooms_tell}
 use Rattle.scavenger.proofs.FollowTiles.{copy_in_page}
-use Rattle.scavenger.proofs.TargetCells.{recorded_below, IsInSegment, in_segment_or_page}
+use Rattle.scavenger.proofs.TargetCells.{recorded_below, IsInNewHalf, in_half_or_page}
 
 -- where the word at an address stays, it refers to a young cell as it did
 pub young_alike : {words now : List ℕ} (eden at : ℕ) → at < length words → length now ≡ length words
@@ -29,7 +27,7 @@ young_alike {words} {now} eden at within long same young = record {
   young = young.young;
 }
 
--- and to the segment that copies go to
+-- and to the half that copies go to
 pub room_alike : {start : Start} {words now : List ℕ} (at : ℕ) → get_or now at 0 ≡ get_or words at 0
     → RefersToRoom start words at → RefersToRoom start now at
 room_alike at same room = record {
@@ -45,13 +43,6 @@ pub promoted_live : {start : Start} {fixed : Fixed} {homes : List Home} {at : �
 promoted_live slot = StoodAt.in_cell slot.home slot.offset slot.among slot.visited slot.stands refl
 
 module _ {start : Start} {fixed : Fixed} (begun : IsBegun start fixed) where
-  -- the segment that copies go to is one of the rooms
-  pub segment_is_room : (at : ℕ) → room_start start.heap.space start.half ≤ at
-      → at < room_start start.heap.space start.half + start.heap.space.sizes.young → IsInRooms fixed at
-  segment_is_room at from below =
-      let room : Room = room_of start.heap.space start.half in
-      (room, (rooms_tell begun.begins room).1 (inl refl), record { from = from; below = below })
-
   -- a home copy that begins in a page is in pages
   pub page_copy : {words : List ℕ} {homes : List Home} (home : Home) (at : ℕ) → Copying fixed words homes
       → Contains homes home → home.to < eden_start start.heap.space → IsInCopy fixed home at
@@ -59,11 +50,11 @@ module _ {start : Start} {fixed : Fixed} (begun : IsBegun start fixed) where
   page_copy home at copying there of_page inside =
       omega (arith, copy_in_page home begun copying there of_page, inside.below)
 
-  -- one that does not is in the segment
+  -- one that does not begins in a segment
   pub segment_copy : {words : List ℕ} {homes : List Home} (home : Home) → Copying fixed words homes
-      → Contains homes home → eden_start start.heap.space ≤ home.to → IsInSegment start home.to
+      → Contains homes home → eden_start start.heap.space ≤ home.to → IsInNewHalf start home.to
   segment_copy home copying there young =
-      elim (in_segment_or_page home.to begun
+      elim (in_half_or_page home.to begun
       (copy_in_room home home.to copying there (home_itself home begun.laid copying there))) [
         | inl segment ↦ segment
         | inr page ↦ absurd (omega (arith, page, young))

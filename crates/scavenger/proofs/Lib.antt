@@ -1,4 +1,4 @@
-pub mod OneSegment
+pub mod SegmentRooms
 pub mod StartReadings
 pub mod Sums
 pub mod TargetNumbers
@@ -18,6 +18,9 @@ pub mod PagesTakes
 pub mod PagesTakesOwn
 pub mod FollowRegions
 pub mod FollowTiles
+pub mod ClimbingWorkers
+pub mod FilledSegments
+pub mod HandedStays
 pub mod FollowRuns
 pub mod FollowCopies
 pub mod FollowNewCopies
@@ -33,6 +36,7 @@ pub mod StartRooms
 pub mod StartLaid
 pub mod Started
 pub mod FirstPages
+pub mod FirstSegments
 pub mod FirstStep
 pub mod CodeChanges
 pub mod CodePlaces

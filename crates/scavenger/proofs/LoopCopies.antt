@@ -9,7 +9,7 @@ use Rattle.tagged_word.proofs.CellReadings.{cell_from}
 use Rattle.tagged_word.proofs.Members.{first_in, one_in}
 use Rattle.page_space.specs.Sizes.{page_words}
 use Rattle.page_space.specs.declared.region.Region.TheVariants.{Segment}
-use Rattle.page_space.specs.Extents.{Space, CellsEndAt, eden_start}
+use Rattle.page_space.specs.Extents.{Space, CellsEndAt, eden_start, half_segments}
 use Rattle.page_space.proofs.Addresses.{start_of_is}
 use Rattle.page_space.proofs.CellAddresses.{cells_end}
 use Rattle.page_space.proofs.LawsHold.{stand_by_number}
@@ -25,15 +25,14 @@ use Rattle.scav_copy.specs.Places.{Fixed, size_of, cell_before}
 use Rattle.scav_copy.proofs.Reading.{copies_read}
 use Rattle.scav_copy.proofs.Spots.{from_is, home_itself}
 use Rattle.scavenger.specs.declared.progress.Progress.{Progress}
-use Rattle.scavenger.specs.Starts.{Start, room_start}
+use Rattle.scavenger.specs.Starts.{Start, segment_from}
 use Rattle.scavenger.specs.Filling.{Front, IsToDo}
-use Rattle.scavenger.specs.Walking.{room_end, Scavenging, IsCopyAt, IsCopyOf, IsScanned, at_copy}
-use Rattle.scavenger.proofs.FollowTiles.{young_within}
+use Rattle.scavenger.specs.Walking.{Scavenging, IsCopyAt, IsCopyOf, IsScanned, at_copy}
+use Rattle.scavenger.proofs.FilledSegments.{young_within}
 use Rattle.scavenger.proofs.TargetCells.{layouts_same}
 use Rattle.scavenger.proofs.PagesWords.{page_of}
 use Rattle.scavenger.proofs.PagesCells.{copy_size, copy_offsets}
 use Rattle.scavenger.proofs.PagesFree.{row_has}
-use Rattle.scavenger.proofs.LoopGoing.{fill_in_room}
 
 -- what is read at an address, as a cell
 abbrev cell_of : ℕ → Reading → Cell
@@ -45,17 +44,17 @@ cell_of at reading = record {
   size = reading.size;
 }
 
--- the main side's segment of a half ends where the room does
-room_ends : (space : Space) (half at : ℕ) → half ≤ 1 → room_start space half ≤ at → at < room_end space half
-    → CellsEndAt space at (room_end space half)
-room_ends space half at two from below =
-    let helpers : ℕ = space.sizes.helpers in
+-- cells in a worker's segment of a half end where that does
+segment_ends : (space : Space) (half worker at : ℕ) → half ≤ 1 → worker < half_segments space
+    → segment_from space half worker ≤ at → at < segment_from space half worker + space.sizes.young
+    → CellsEndAt space at (segment_from space half worker + space.sizes.young)
+segment_ends space half worker at two known from below =
     let less : half < 2 = omega arith in
-    let starts = start_of_is space (Segment half helpers) (room_start space half)
-    ((stand_by_number space).segments half helpers less (omega arith)) in
-    cells_end space (Segment half helpers) at (room_end space half) refl
+    let starts = start_of_is space (Segment half worker) (segment_from space half worker)
+    ((stand_by_number space).segments half worker less (omega (arith, known))) in
+    cells_end space (Segment half worker) at (segment_from space half worker + space.sizes.young) refl
     (record {
-      is_region = (less, omega arith);
+      is_region = (less, omega (arith, known));
       from = omega (arith, starts, from);
       below = omega (arith, starts, below);
     })
@@ -85,20 +84,21 @@ module _ {start now : Mutator} {all : Bool} {progress : Progress} {todo : List �
       let words : List ℕ = heap_words now.seat in
       let space : Space = start.seat.space in
       let half : ℕ = other_half start.young.half in
-      let end : ℕ = room_end space half in
       let copying = state.filled.copying in
       let before = is_some (cell_before fixed home.from)
       (state.begun.laid.cells_are home.from (from_is home copying among)) in
       let reading : Reading = before.0 in
-      let within = young_within home state.filled among young in
+      let within = young_within state.begun state.filled home among young in
+      let worker : ℕ = within.stays.segment.worker in
+      let end : ℕ = segment_from space half worker + space.sizes.young in
       let itself = home_itself home state.begun.laid copying among in
-      let most = fill_in_room state in
-      let ends : home.to + size_of fixed home.from ≤ end = omega (arith, within.1, most) in
+      let ends : home.to + size_of fixed home.from ≤ end = omega (arith, within.ends, within.fits) in
       let reads = cell_from words fixed.layouts home.to end reading
       (copies_read fixed words state.homes home end state.begun.laid copying among ends ∙ before.1) in
       let is_cell : IsCell space words (cell_of home.to reading) = record {
         end = end;
-        stands = room_ends space half home.to state.begun.is_half within.0 (omega (arith, itself.below, ends));
+        stands = segment_ends space half worker home.to state.begun.is_half within.known within.from
+            (omega (arith, itself.below, ends));
         reads = record {
           is_header = reads.is_header;
           first = reads.first;

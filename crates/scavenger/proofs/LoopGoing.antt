@@ -17,8 +17,8 @@ use Rattle.scavenger.specs.Starts.{IsRootAt, start_of}
 use Rattle.scavenger.specs.Filling.{Front, IsToDo, ChangesWords}
 use Rattle.scavenger.specs.Walking.{AreSpaces, room_end, Scavenging, MayFollow, HasGrown, HasFollowed}
 use Rattle.scavenger.proofs.Sums.{few_filled, few_homes, homes_are, sum_of_homes}
-use Rattle.scavenger.proofs.TargetCells.{in_segment_or_page, recorded_below}
-use Rattle.scavenger.proofs.TargetNumbers.{room_below_roots}
+use Rattle.scavenger.proofs.TargetCells.{in_half_or_page, recorded_below}
+use Rattle.scavenger.proofs.TargetNumbers.{half_below_roots}
 
 -- the spaces stay where only heap words change
 pub same_spaces : {old new : Mutator} {all : Bool} (spaces : Spaces) → ChangesWords old new
@@ -45,6 +45,9 @@ changes_since {first} {old} {new} before now = record {
     phase = now.seat.phase ∙ sym before.seat.phase;
     count = now.seat.count ∙ sym before.seat.count;
     shared = now.seat.shared ∙ sym before.seat.shared;
+    home = now.seat.home ∙ sym before.seat.home;
+    out = now.seat.out ∙ sym before.seat.out;
+    lent = now.seat.lent ∙ sym before.seat.lent;
   };
   paths = now.paths ∙ sym before.paths;
   young = now.young ∙ sym before.young;
@@ -104,9 +107,9 @@ module _ {start now : Mutator} {all : Bool} {progress : Progress} {todo : List �
       let space : Space = start.seat.space in
       let room = copy_in_room home slot state.filled.copying there
       (within_by home.to (size_of state.fixed home.from) offset slot less is) in
-      elim (in_segment_or_page slot state.begun room) [
-        | inl segment ↦
-            omega (arith, segment.below, room_below_roots space (other_half start.young.half) state.begun.is_half)
+      elim (in_half_or_page slot state.begun room) [
+        | inl in_half ↦
+            omega (arith, in_half.below, half_below_roots space (other_half start.young.half) state.begun.is_half)
         | inr page ↦ omega (arith, page, (kinds_by_number space).roots)
       ]
 

@@ -20,8 +20,8 @@ use Rattle.scav_copy.proofs.Spots.{none_in, copy_in_room, slot_in_cell, within_b
 use Rattle.scavenger.specs.Starts.{Start, IsBegun, IsRootAt, IsFreeRun}
 use Rattle.scavenger.specs.Filling.{CopiesFillRooms, IsInPage, PageStands, StandsIn}
 use Rattle.scavenger.specs.Paging.{PagesStayForSlots}
-use Rattle.scavenger.proofs.TargetCells.{in_segment_or_page}
-use Rattle.scavenger.proofs.TargetNumbers.{room_below_roots}
+use Rattle.scavenger.proofs.TargetCells.{in_half_or_page}
+use Rattle.scavenger.proofs.TargetNumbers.{half_below_roots}
 use Rattle.scavenger.proofs.PagesWords.{StaysIn, row_stays, page_of, ends_in}
 use Rattle.scavenger.proofs.PagesCells.{copy_offsets}
 use Rattle.scavenger.proofs.PagesFree.{row_has}
@@ -195,10 +195,10 @@ module _ {start : Start} {fixed : Fixed} {words : List ℕ} {rows : List (List R
             let room = copy_in_room home at filled.copying there
             (within_by home.to (size_of fixed home.from) offset at within refl) in
             let layouts = (kinds_by_number space).layouts in
-            let ends = room_below_roots space start.half begun.is_half in
-            elim (in_segment_or_page at begun room) [
-              | inl segment ↦
-                  put_behind at word page known (omega (arith, young)) (omega (arith, segment.below, ends, layouts))
+            let ends = half_below_roots space start.half begun.is_half in
+            elim (in_half_or_page at begun room) [
+              | inl in_half ↦
+                  put_behind at word page known (omega (arith, young)) (omega (arith, in_half.below, ends, layouts))
               | inr in_page ↦ absurd (omega (arith, in_page, young))
             ]
       ]

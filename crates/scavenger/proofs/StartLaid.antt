@@ -2,7 +2,7 @@
 use Rattle.std.proofs.Common.{◌≡◌, ℕ, ◌≤◌, ◌<◌, inl, inr, List, length, Contains, IsSome}
 use Rattle.std.proofs.Common.{refl, sym, ◌∙◌, ap, subst, arith}
 use Rattle.page_space.specs.declared.region.Region.TheVariants.{Segment}
-use Rattle.page_space.specs.Extents.{Extent, ContainsAddress, eden_start, roots_start, marks_start}
+use Rattle.page_space.specs.Extents.{Extent, eden_start, roots_start, marks_start}
 use Rattle.page_space.proofs.LawsHold.{kinds_by_number}
 use Rattle.page_space.proofs.Limits.{words_count_most}
 use Rattle.page_space.proofs.Standing.{stands}
@@ -18,8 +18,8 @@ use Rattle.heap_model.proofs.WordsAlike.{cell_below_roots}
 use Rattle.scav_copy.specs.Places.{Fixed, size_of, IsInRange, IsInCells, IsInRooms, IsLaidOut, cell_before}
 use Rattle.scavenger.specs.Starts.{Start, IsYoungCell}
 use Rattle.scavenger.proofs.StartReadings.{IsLow, low_within, cell_before_is, size_is}
-use Rattle.scavenger.proofs.StartRooms.{IsReady, run_in_page, slot_in_no_run, segment_of, run_is_free, room_place}
-use Rattle.scavenger.proofs.StartRooms.{rooms_below, one_of_rooms, slot_place}
+use Rattle.scavenger.proofs.StartRooms.{IsReady, IsInSomeSegment, run_in_page, slot_in_no_run, segment_of, run_is_free}
+use Rattle.scavenger.proofs.StartRooms.{room_place, rooms_below, one_of_rooms, slot_place}
 
 -- the address is one of a young cell of the heap that stands at another
 record IsOfCellAt (heap : Heap) (first at : ℕ) : Type 0 where
@@ -75,22 +75,23 @@ module _ {start : Start} {fixed : Fixed} (ready : IsReady start fixed) where
       let is = of_cell_at in_cells.0 at in_cells.1 in_cells.2 in
       omega (arith, is.of_cell.below, cell_below_roots (used_few ready.whole.rows) is.has)
 
-  -- no cell stands in the segment
-  none_in_segment : (at : ℕ) → IsInCells fixed at → ContainsAddress (segment_of start) at → ⊥
+  -- no cell stands in a segment
+  none_in_segment : (at : ℕ) → IsInCells fixed at → IsInSomeSegment start at → ⊥
   none_in_segment at in_cells in_segment =
       let space = start.heap.space in
       let is = of_cell_at in_cells.0 at in_cells.1 in_cells.2 in
       let row = is.has.row in
       let holds = row_holds ready.whole.rows is.has.in_region is.has.used is.has.in_row is.of_cell in
-      let stands_there = stands space (Segment start.half space.sizes.helpers)
-      (omega (arith, ready.is_half), omega arith) in
-      let same : row.extent ≡ segment_of start =
-      disjoint space row.extent (segment_of start) at (cell_extent_stands space row.extent is.has.in_region)
-      stands_there holds in_segment in
+      let worker : ℕ = in_segment.worker in
+      let stands_there = stands space (Segment start.half worker)
+      (omega (arith, ready.is_half), omega (arith, in_segment.known)) in
+      let same : row.extent ≡ segment_of start worker =
+      disjoint space row.extent (segment_of start worker) at (cell_extent_stands space row.extent is.has.in_region)
+      stands_there holds in_segment.holds in
       let inside : IsInHalf space start.half is.cell.at = record {
         extent = row.extent;
         among = is.has.in_region;
-        worker = space.sizes.helpers;
+        worker = worker;
         segment = ap (λ (extent : Extent). extent.region) same;
         holds = row_holds ready.whole.rows is.has.in_region is.has.used is.has.in_row (first_of_cell is.has);
       } in
@@ -143,7 +144,7 @@ module _ {start : Start} {fixed : Fixed} (ready : IsReady start fixed) where
   slot_not_in_room at among in_rooms = elim (slot_place ready at among) [
     | inl root ↦ omega (arith, root.0, rooms_below ready at in_rooms)
     | inr slot ↦ elim (room_place ready at in_rooms) [
-      | inl in_segment ↦ let below = page_slot_below slot in omega (arith, below, in_segment.from)
+      | inl in_segment ↦ let below = page_slot_below slot in omega (arith, below, in_segment.holds.from)
       | inr has ↦ slot_in_no_run at ready.whole.rows (run_is_free ready has.is) has.of_run slot
     ]
   ]

@@ -1,10 +1,11 @@
--- Where the words of rooms and the slots outside are when a scavenge begins: rooms are the main side's segment and free
+-- Where the words of rooms and the slots outside are when a scavenge begins: rooms are the segments of a half and free
 -- runs, and slots are first root words and slots of pages.
 use Rattle.std.proofs.Common.{◌≡◌, ℕ, ◌+◌, ◌≤◌, ◌<◌, ◌⊎◌, inl, inr, List, Contains, IsTrue}
 use Rattle.std.proofs.Common.{sym, ◌∙◌, ap, subst, arith}
 use Rattle.tagged_word.specs.Cells.{is_free_kind}
 use Rattle.page_space.specs.declared.region.Region.TheVariants.{Segment}
 use Rattle.page_space.specs.Extents.{Space, Extent, ContainsAddress, eden_start, roots_start, marks_start}
+use Rattle.page_space.specs.Extents.{half_segments}
 use Rattle.page_space.specs.RegionLaws.{IsSpace}
 use Rattle.page_space.proofs.LawsHold.{kinds_by_number}
 use Rattle.page_space.proofs.Standing.{start_of, extent_of}
@@ -21,8 +22,8 @@ use Rattle.heap_model.proofs.RememberedSlots.{ends_in_page, slot_of_cell}
 use Rattle.scav_copy.specs.declared.places.Room.{Room}
 use Rattle.scav_copy.specs.Places.{Fixed, IsInRoom, IsInRooms}
 use Rattle.scav_copy.proofs.Spots.{none_in}
-use Rattle.scavenger.specs.Starts.{Start, Begins, IsFreeRun, room_of, room_of_run, room_start}
-use Rattle.scavenger.proofs.OneSegment.{rooms_tell}
+use Rattle.scavenger.specs.Starts.{Start, Begins, IsFreeRun, IsSegmentRoom, room_of_run, segment_from, segment_room}
+use Rattle.scavenger.proofs.SegmentRooms.{IsInSegment, one_segment}
 use Rattle.scavenger.proofs.PagesRuns.{HasRun, one_run}
 use Rattle.scavenger.proofs.PagesSlots.{free_slots}
 
@@ -63,18 +64,37 @@ slot_in_no_run {heap} {run} at rows free of_run slot =
     cells_apart at rows free.has slot.has (run_of_cell free of_run) (slot_of_cell slot.has slot.slot) in
     free_has_no_slot free.free (subst (λ (cell : Cell). IsSlotOf cell at) (sym same) slot.slot)
 
--- the main side's segment of the half to which copies go, where it stands
-abbrev pub segment_of : Start → Extent
-segment_of start = extent_of start.heap.space (Segment start.half start.heap.space.sizes.helpers)
+-- a worker's segment of the half to which copies go, where it stands
+abbrev pub segment_of : Start → ℕ → Extent
+segment_of start worker = extent_of start.heap.space (Segment start.half worker)
 
--- a word of the room that is this segment is one of its
-in_segment : (start : Start) (room : Room) (at : ℕ) → room ≡ room_of start.heap.space start.half → IsInRoom room at
-    → ContainsAddress (segment_of start) at
-in_segment start room at same inside =
+-- the address is one of such a segment
+pub record IsInSomeSegment (start : Start) (at : ℕ) : Type 0 where
+  pub worker : ℕ
+  pub known : worker < half_segments start.heap.space
+  pub holds : ContainsAddress (segment_of start worker) at
+
+-- a word of the room that is a segment is one of the segment's
+here_in_segment : (start : Start) (room : Room) (at : ℕ) (is : IsSegmentRoom start.heap.space start.half room)
+    → IsInRoom room at → IsInSegment start.heap.space start.half is.worker at
+here_in_segment start room at is inside =
+    let here : IsInRoom (segment_room start.heap.space start.half is.worker) at =
+    subst (λ (one : Room). IsInRoom one at) is.is inside in
+    record { from = here.from; below = here.below }
+
+-- so the address is one of such a segment
+in_segment : (start : Start) (room : Room) (at : ℕ) → IsSegmentRoom start.heap.space start.half room → IsInRoom room at
+    → IsInSomeSegment start at
+in_segment start room at is inside =
     let space : Space = start.heap.space in
-    let here : IsInRoom (room_of space start.half) at = subst (λ (one : Room). IsInRoom one at) same inside in
-    let starts : start_of space (Segment start.half space.sizes.helpers) ≡ room_start space start.half = omega arith in
-    record { from = omega (arith, starts, here.from); below = omega (arith, starts, here.below) }
+    let here = here_in_segment start room at is inside in
+    let starts : start_of space (Segment start.half is.worker) ≡ segment_from space start.half is.worker =
+    omega arith in
+    record {
+      worker = is.worker;
+      known = is.known;
+      holds = record { from = omega (arith, starts, here.from); below = omega (arith, starts, here.below) };
+    }
 
 -- a word of the room that is a free run is one of the run's
 in_run : (space : Space) (run : Run) (room : Room) (at : ℕ) → room ≡ room_of_run space run → IsInRoom room at
@@ -88,27 +108,27 @@ module _ {start : Start} {fixed : Fixed} (ready : IsReady start fixed) where
   pub run_is_free : {run : Run} → IsFreeRun start.rows run → IsFreeCell start.heap run
   run_is_free {run} is = ready.free is.row run is.of_rows is.among
 
-  -- no word of a free run is one of the segment
-  run_not_in_segment : {run : Run} {at : ℕ} → IsFreeRun start.rows run → IsOfRun run at
-      → ContainsAddress (segment_of start) at → ⊥
-  run_not_in_segment is of_run in_one = omega (arith, run_in_page (run_is_free is), of_run.below, in_one.from)
+  -- no word of a free run is one of a segment
+  run_not_in_segment : {run : Run} {at : ℕ} → IsFreeRun start.rows run → IsOfRun run at → IsInSomeSegment start at → ⊥
+  run_not_in_segment is of_run in_one = omega (arith, run_in_page (run_is_free is), of_run.below, in_one.holds.from)
 
-  -- a word of a room is one of the segment, or of a free run
-  pub room_place : (at : ℕ) → IsInRooms fixed at → ContainsAddress (segment_of start) at ⊎ HasRun start.rows at
+  -- a word of a room is one of a segment, or of a free run
+  pub room_place : (at : ℕ) → IsInRooms fixed at → IsInSomeSegment start at ⊎ HasRun start.rows at
   room_place at in_rooms =
       let room : Room = in_rooms.0 in
-      elim ((rooms_tell ready.begins room).0 in_rooms.1) [
-        | inl same ↦ inl (in_segment start room at same in_rooms.2)
+      elim ((ready.begins.rooms room).0 in_rooms.1) [
+        | inl segment ↦ inl (in_segment start room at segment in_rooms.2)
         | inr is ↦
             inr (record { run = is.0; is = is.1; of_run = in_run start.heap.space is.0 room at is.2 in_rooms.2 })
       ]
 
-  -- the segment ends before the roots
-  segment_below : (at : ℕ) → ContainsAddress (segment_of start) at → at < roots_start start.heap.space
+  -- a segment ends before the roots
+  segment_below : (at : ℕ) → IsInSomeSegment start at → at < roots_start start.heap.space
   segment_below at in_one =
       let space : Space = start.heap.space in
-      let ends = segment_ends space start.half space.sizes.helpers (omega (arith, ready.is_half), omega arith) in
-      omega (arith, in_one.below, ends)
+      let ends =
+      segment_ends space start.half in_one.worker (omega (arith, ready.is_half), omega (arith, in_one.known)) in
+      omega (arith, in_one.holds.below, ends)
 
   -- so do all rooms
   pub rooms_below : (at : ℕ) → IsInRooms fixed at → at < roots_start start.heap.space
@@ -124,17 +144,21 @@ module _ {start : Start} {fixed : Fixed} (ready : IsReady start fixed) where
       → IsInRoom room at → IsInRoom other at → room ≡ other
   one_of_rooms room other at among among_too inside inside_too =
       let space : Space = start.heap.space in
-      elim ((rooms_tell ready.begins room).0 among) [
-        | inl same ↦ elim ((rooms_tell ready.begins other).0 among_too) [
-          | inl same_too ↦ same ∙ sym same_too
+      elim ((ready.begins.rooms room).0 among) [
+        | inl segment ↦ elim ((ready.begins.rooms other).0 among_too) [
+          | inl segment_too ↦
+              let one : segment.worker ≡ segment_too.worker =
+              one_segment space start.half segment.worker segment_too.worker at
+              (here_in_segment start room at segment inside) (here_in_segment start other at segment_too inside_too) in
+              segment.is ∙ ap (segment_room space start.half) one ∙ sym segment_too.is
           | inr run ↦
               absurd (run_not_in_segment run.1 (in_run space run.0 other at run.2 inside_too)
-              (in_segment start room at same inside))
+              (in_segment start room at segment inside))
         ]
-        | inr run ↦ elim ((rooms_tell ready.begins other).0 among_too) [
-          | inl same ↦
+        | inr run ↦ elim ((ready.begins.rooms other).0 among_too) [
+          | inl segment ↦
               absurd (run_not_in_segment run.1 (in_run space run.0 room at run.2 inside)
-              (in_segment start other at same inside_too))
+              (in_segment start other at segment inside_too))
           | inr another ↦
               let one : run.0 ≡ another.0 =
               one_run start.rows run.0 another.0 at ready.apart run.1 another.1

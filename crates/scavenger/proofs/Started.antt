@@ -1,11 +1,11 @@
 -- A heap that shows a graph may be scavenged: what a scavenge of it begins with.
-use Rattle.std.proofs.Common.{◌≡◌, ℕ, ◌+◌, ◌≤◌, ◌<◌, ◌↔◌, ◌⊎◌, inl, inr, List, ◌∷◌, ◌++◌, map, Contains}
+use Rattle.std.proofs.Common.{◌≡◌, ℕ, ◌+◌, ◌≤◌, ◌<◌, ◌↔◌, ◌⊎◌, inl, inr, List, ◌++◌, map, Contains}
 use Rattle.std.proofs.Common.{refl, sym, ◌∙◌, ap, subst, arith}
 use Rattle.std.specs.List.{All, AllPairs, range_with_len, sum_by, flat_map}
 use Rattle.std.proofs.lemmas.List.Elements.{All-contains_itself, All-weaker}
 use Rattle.std.proofs.lemmas.List.Elements.{Contains-append_left, Contains-append_right, Contains-append_cases}
-use Rattle.tagged_word.proofs.Members.{first_in, rest_in, in_cases, in_map, map_from, in_range, range_bounds}
-use Rattle.page_space.specs.Extents.{Space, eden_start, cell_stretches}
+use Rattle.tagged_word.proofs.Members.{in_map, map_from, in_range, range_bounds}
+use Rattle.page_space.specs.Extents.{Space, eden_start, cell_stretches, half_segments}
 use Rattle.page_space.specs.RegionLaws.{IsSpace}
 use Rattle.cell_layout.specs.Cells.{layouts_in}
 use Rattle.free_runs.specs.FreeRuns.{AreFree}
@@ -22,8 +22,7 @@ use Rattle.scav_copy.specs.declared.places.Room.{Room}
 use Rattle.scav_copy.specs.Places.{Fixed, size_of, offsets_of}
 use Rattle.scav_copy.specs.Renamings.{RefersToAddress}
 use Rattle.scavenger.specs.Starts.{Start, Begins, IsBegun, IsSlotPlace, IsYoungCell, IsRootAt, IsFreeRun, IsSegmentRoom}
-use Rattle.scavenger.specs.Starts.{room_of, room_of_run, start_of}
-use Rattle.scavenger.proofs.OneSegment.{one_segment}
+use Rattle.scavenger.specs.Starts.{room_of_run, segment_room, start_of}
 use Rattle.scavenger.specs.Laws.{ShownHeapsMayBegin}
 use Rattle.scavenger.proofs.StartReadings.{low_within, size_is, offsets_are}
 use Rattle.scavenger.proofs.StartRows.{young_cells, young_has, young_in}
@@ -38,6 +37,10 @@ use Rattle.scavenger.proofs.StartLaid.{laid_out}
 abbrev root_slots : Space → List ℕ
 root_slots space = map (root_at space) (range_with_len 0 space.variables)
 
+-- the segments of a half as rooms
+abbrev segment_rooms : Space → ℕ → List Room
+segment_rooms space half = map (segment_room space half) (range_with_len 0 (half_segments space))
+
 -- the free runs as rooms
 abbrev run_rooms : Space → List (List Run) → List Room
 run_rooms space rows = flat_map (map (room_of_run space)) rows
@@ -49,7 +52,7 @@ fixed_of start rows = record {
   layouts = layouts_in start.heap.space start.heap.words;
   cells = addresses (young_cells rows.rows);
   slots = root_slots start.heap.space ++ start.recorded;
-  rooms = room_of start.heap.space start.half ∷ run_rooms start.heap.space start.rows;
+  rooms = segment_rooms start.heap.space start.half ++ run_rooms start.heap.space start.rows;
 }
 
 -- its cells are the young ones
@@ -119,22 +122,39 @@ run_rooms_are space rows room =
           (of_one of_row rows is.1.row (room_of_run space run) is.1.of_rows there),
     )
 
--- its rooms are the segment and the free runs
+-- a segment as a room is one of those of all workers
+segments_are : (space : Space) (half : ℕ) (room : Room)
+    → Contains (segment_rooms space half) room ↔ IsSegmentRoom space half room
+segments_are space half room = (
+  λ among.
+      let found = map_from (segment_room space half) (range_with_len 0 (half_segments space)) room among in
+      record {
+        worker = found.0;
+        known = omega (arith, (range_bounds 0 (half_segments space) found.0 found.1).1);
+        is = sym found.2;
+      },
+  λ is.
+      let there = in_range 0 (half_segments space) is.worker (omega arith) (omega (arith, is.known)) in
+      subst (Contains (segment_rooms space half)) (sym is.is)
+      (in_map (segment_room space half) (range_with_len 0 (half_segments space)) is.worker there),
+)
+
+-- its rooms are the segments and the free runs
 rooms_are : (start : Start) (rows : HasRows start.heap) (room : Room) → Contains (fixed_of start rows).rooms room
     ↔ (IsSegmentRoom start.heap.space start.half room
     ⊎ ((run : Run) × IsFreeRun start.rows run × (room ≡ room_of_run start.heap.space run)))
 rooms_are start rows room =
     let space : Space = start.heap.space in
-    let own : Room = room_of space start.half in
-    let one = one_segment space start.half room in
+    let segments : List Room = segment_rooms space start.half in
     let runs : List Room = run_rooms space start.rows in (
-      λ among. elim (in_cases own runs room among) [
-        | inl same ↦ inl (one.1 (sym same))
+      λ among. elim (Contains-append_cases segments runs room among) [
+        | inl segment ↦ inl ((segments_are space start.half room).0 segment)
         | inr there ↦ inr ((run_rooms_are space start.rows room).0 there)
       ],
       λ either. elim either [
-        | inl segment ↦ subst (Contains (own ∷ runs)) (sym (one.0 segment)) (first_in own runs)
-        | inr run ↦ rest_in own runs room ((run_rooms_are space start.rows room).1 run)
+        | inl segment ↦
+            Contains-append_left segments runs room ((segments_are space start.half room).1 segment)
+        | inr run ↦ Contains-append_right segments runs room ((run_rooms_are space start.rows room).1 run)
       ],
     )
 

@@ -133,13 +133,19 @@ pub homes_are : {start : Start} {fixed : Fixed} {words : List ℕ} {rows : List 
 homes_are filled home there = from_is home filled.copying there
 
 -- the copies have no more words than survivors and used words together
+pub few_copied : {start : Start} {fixed : Fixed} {words : List ℕ} {rows : List (List Run)} {homes : List Home}
+    {fill : ℕ} → IsBegun start fixed → CopiesFillRooms start fixed words rows homes fill
+    → sum_of_homes (size_of fixed) homes ≤ start.heap.survivors + start.heap.used
+few_copied {start} {fixed} {homes = homes} begun filled =
+    let few : sum_of_homes (size_of fixed) homes ≤ sum_by (size_of fixed) fixed.cells =
+    few_homes (size_of fixed) fixed.cells homes begun.ascend filled.copying.ascend (homes_are filled) in
+    omega (arith, few, begun.counted)
+
+-- nor have those in the main side's segment
 pub few_filled : {start : Start} {fixed : Fixed} {words : List ℕ} {rows : List (List Run)} {homes : List Home}
     {fill : ℕ} → IsBegun start fixed → CopiesFillRooms start fixed words rows homes fill
     → fill ≤ room_start start.heap.space start.half + (start.heap.survivors + start.heap.used)
-few_filled {start} {fixed} {homes = homes} begun filled =
-    let few : sum_of_homes (size_of fixed) homes ≤ sum_by (size_of fixed) fixed.cells =
-    few_homes (size_of fixed) fixed.cells homes begun.ascend filled.copying.ascend (homes_are filled) in
-    omega (arith, few, filled.long, begun.counted)
+few_filled begun filled = omega (arith, few_copied begun filled, filled.long)
 
 -- the cell has a home afterwards, and the other homes are of cells as before
 more_are : (cells : List ℕ) (homes : List Home) (new : Home) → Contains cells new.from → AreOf cells homes

@@ -19,10 +19,12 @@ use Rattle.scav_copy.specs.declared.places.Home.{Home}
 use Rattle.scav_copy.specs.declared.places.Room.{Room}
 use Rattle.scav_copy.specs.Places.{Fixed, last_address, cell_before, words_in, size_of, IsInCells, IsInRoom, IsInRooms}
 use Rattle.scav_copy.specs.Copies.{Copying}
-use Rattle.scavenger.specs.Starts.{Start, IsBegun, IsYoungCell, IsRootAt, IsFreeRun, room_start, room_of, room_of_run}
-use Rattle.scavenger.proofs.OneSegment.{rooms_tell}
+use Rattle.scavenger.specs.Starts.{Start, IsBegun, IsYoungCell, IsRootAt, IsFreeRun, IsSegmentRoom}
+use Rattle.scavenger.specs.Starts.{segment_from, room_of_run}
+use Rattle.scavenger.specs.Following.{half_start, half_end}
+use Rattle.scavenger.proofs.SegmentRooms.{segment_in_half}
 use Rattle.scavenger.proofs.StartReadings.{low_sized, cell_before_is}
-use Rattle.scavenger.proofs.TargetNumbers.{room_below_roots}
+use Rattle.scavenger.proofs.TargetNumbers.{half_below_roots}
 
 -- the cell that stood at an address before is the young cell there
 pub before_is_young : {start : Start} {fixed : Fixed} {at : ℕ} → IsBegun start fixed
@@ -83,39 +85,48 @@ run_ends run begun is =
     let ends = ends_in_page free.has free.of_page in
     omega (arith, ends, free.stands, free.size)
 
--- the address is one of the main side's segment of the half that is filled
-pub record IsInSegment (start : Start) (at : ℕ) : Type 0 where
-  pub from : room_start start.heap.space start.half ≤ at
-  pub below : at < room_start start.heap.space start.half + start.heap.space.sizes.young
+-- the address is one of the half that is filled
+pub record IsInNewHalf (start : Start) (at : ℕ) : Type 0 where
+  pub from : half_start start.heap.space start.half ≤ at
+  pub below : at < half_end start.heap.space start.half
 
--- a word of a room is one of that segment, or of a page
+-- a word of a segment of it is
+pub segment_in_new : {start : Start} (room : Room) (at : ℕ) → IsInRoom room at
+    → IsSegmentRoom start.heap.space start.half room → IsInNewHalf start at
+segment_in_new {start} room at inside segment =
+    let space = start.heap.space in
+    let within = segment_in_half space start.half segment.worker segment.known in
+    let from : room.from ≡ segment_from space start.half segment.worker = ap (λ (one : Room). one.from) segment.is in
+    let to : room.to ≡ segment_from space start.half segment.worker + space.sizes.young =
+    ap (λ (one : Room). one.to) segment.is in
+    record {
+      from = omega (arith, from, inside.from, within.0);
+      below = omega (arith, to, inside.below, within.1);
+    }
+
+-- a word of a room is one of that half, or of a page
 room_by : {start : Start} {fixed : Fixed} (room : Room) (at : ℕ) → IsBegun start fixed → IsInRoom room at
-    → ((room ≡ room_of start.heap.space start.half)
+    → (IsSegmentRoom start.heap.space start.half room
     ⊎ ((run : Run) × IsFreeRun start.rows run × (room ≡ room_of_run start.heap.space run)))
-    → IsInSegment start at ⊎ (at < eden_start start.heap.space)
-room_by {start} room at begun inside (inl same) =
-    let from : room.from ≡ room_start start.heap.space start.half = ap (λ (one : Room). one.from) same in
-    let to : room.to ≡ room_start start.heap.space start.half + start.heap.space.sizes.young =
-    ap (λ (one : Room). one.to) same in
-    inl (record { from = omega (arith, from, inside.from); below = omega (arith, to, inside.below) })
+    → IsInNewHalf start at ⊎ (at < eden_start start.heap.space)
+room_by room at begun inside (inl segment) = inl (segment_in_new room at inside segment)
 room_by {start} room at begun inside (inr of_run) =
     let run : Run = of_run.0 in
     let to : room.to ≡ run.at + run.words = ap (λ (one : Room). one.to) of_run.2 in
     inr (omega (arith, to, inside.below, run_ends run begun of_run.1))
 
--- the words of rooms are those of that segment, and words of pages
-pub in_segment_or_page : {start : Start} {fixed : Fixed} (at : ℕ) → IsBegun start fixed → IsInRooms fixed at
-    → IsInSegment start at ⊎ (at < eden_start start.heap.space)
-in_segment_or_page at begun inside =
-    room_by inside.0 at begun inside.2 ((rooms_tell begun.begins inside.0).0 inside.1)
+-- the words of rooms are those of that half, and words of pages
+pub in_half_or_page : {start : Start} {fixed : Fixed} (at : ℕ) → IsBegun start fixed → IsInRooms fixed at
+    → IsInNewHalf start at ⊎ (at < eden_start start.heap.space)
+in_half_or_page at begun inside = room_by inside.0 at begun inside.2 ((begun.begins.rooms inside.0).0 inside.1)
 
 -- no word of them is a layout word
 layout_not : {start : Start} (shape : ℕ) → start.half ≤ 1
-    → IsInSegment start (layouts_start start.heap.space + shape)
+    → IsInNewHalf start (layouts_start start.heap.space + shape)
     ⊎ (layouts_start start.heap.space + shape < eden_start start.heap.space) → ⊥
-layout_not {start} shape few (inl segment) =
-    let below = segment.below in
-    let ends = room_below_roots start.heap.space start.half few in
+layout_not {start} shape few (inl in_half) =
+    let below = in_half.below in
+    let ends = half_below_roots start.heap.space start.half few in
     let starts = (kinds_by_number start.heap.space).layouts in
     omega (arith, below, ends, starts)
 layout_not {start} shape few (inr below) = omega (arith, below, layout_above start.heap.space shape)
@@ -124,7 +135,7 @@ layout_not {start} shape few (inr below) = omega (arith, below, layout_above sta
 layout_in_no_room : {start : Start} {fixed : Fixed} (shape : ℕ) → IsBegun start fixed
     → IsInRooms fixed (layouts_start start.heap.space + shape) → ⊥
 layout_in_no_room {start} shape begun inside =
-    layout_not shape begun.is_half (in_segment_or_page (layouts_start start.heap.space + shape) begun inside)
+    layout_not shape begun.is_half (in_half_or_page (layouts_start start.heap.space + shape) begun inside)
 
 -- the layout words are as before
 pub layouts_same : {start : Start} {fixed : Fixed} {words : List ℕ} {homes : List Home} (shape : ℕ)

@@ -1,48 +1,26 @@
--- The room of copies lies in the segments of one half, apart from what is left and from the layout words.
-use Rattle.std.proofs.Common.{ℕ, ◌+◌, ◌*◌, ◌<◌, ◌≤◌, ◌≡◌, ◌⊎◌, ◌-◌, inl, inr, arith, refl, sym, ap, ◌∙◌}
-use Rattle.std.proofs.lemmas.Bool.{cases_lt}
+-- Copies go to the segments of one half, which are apart from what is left and from the layout words.
+use Rattle.std.proofs.Common.{ℕ, zero, suc, ◌+◌, ◌<◌, ◌≤◌, ◌≡◌, ◌⊎◌, inl, inr, arith}
 use Rattle.page_space.specs.Extents.{Space, eden_start, roots_start}
 use Rattle.page_space.proofs.LawsHold.{kinds_by_number}
 use Rattle.scavenger.specs.Starts.{room_start}
 use Rattle.scavenger.specs.Following.{half_start, half_end, IsFromSpace}
+use Rattle.scavenger.proofs.SegmentRooms.{segment_in_half}
 
--- the last segment of the first half ends where the second half begins
-first_room : (young helpers half left : ℕ) → half ≡ 0 → left ≡ 1
-    → young * (half * (helpers + 1) + helpers) + young ≡ young * (left * (helpers + 1))
-first_room young helpers half left e f =
-    ap (λ n. young * (n * (helpers + 1) + helpers) + young) e ∙ omega arith
-    ∙ ap (λ n. young * (n * (helpers + 1))) (sym f)
+-- one half lies before the other
+pub halves_apart : (space : Space) (half left : ℕ) → half + left ≡ 1
+    → (half_end space half ≤ half_start space left) ⊎ (half_end space left ≤ half_start space half)
+halves_apart space zero zero one = absurd (omega arith)
+halves_apart space zero (suc zero) one = inl (omega arith)
+halves_apart space (suc zero) zero one = inr (omega arith)
+halves_apart space zero (suc (suc left)) one = absurd (omega arith)
+halves_apart space (suc half) (suc left) one = absurd (omega arith)
+halves_apart space (suc (suc half)) left one = absurd (omega arith)
 
--- the last segment of the second half begins behind the first half
-second_room : (young helpers half left : ℕ) → half ≡ 1 → left ≡ 0
-    → young * (left * (helpers + 1)) + young * (helpers + 1) ≤ young * (half * (helpers + 1) + helpers)
-second_room young helpers half left e f =
-    let from : young * (half * (helpers + 1) + helpers) ≡ young * (helpers + 1) + young * helpers =
-    ap (λ n. young * (n * (helpers + 1) + helpers)) e ∙ omega arith in
-    let to : young * (left * (helpers + 1)) ≡ 0 = ap (λ n. young * (n * (helpers + 1))) f ∙ omega arith in
-    omega (arith, from, to)
-
--- of two halves that are 0 and 1 one is each
-which_half : (half left : ℕ) → half + left ≡ 1 → ((half ≡ 0) × (left ≡ 1)) ⊎ ((half ≡ 1) × (left ≡ 0))
-which_half half left e = elim (cases_lt half 1) [
-  | inl less ↦ inl (omega (arith, less, e), omega (arith, less, e))
-  | inr more ↦ inr (omega (arith, more, e), omega (arith, more, e))
-]
-
--- the room lies before the half that is left, or behind it
-room_beside : (space : Space) (half left : ℕ) → half + left ≡ 1
-    → (room_start space half + space.sizes.young ≤ half_start space left)
-    ⊎ (half_end space left ≤ room_start space half)
-room_beside space half left both = elim (which_half half left both) [
-  | inl first ↦ inl (omega (arith, first_room space.sizes.young space.sizes.helpers half left first.0 first.1))
-  | inr second ↦ inr (omega (arith, second_room space.sizes.young space.sizes.helpers half left second.0 second.1))
-]
-
--- no address of the room is left
-pub room_is_not_left : (space : Space) (half left at : ℕ) → half + left ≡ 1 → room_start space half ≤ at
-    → at < room_start space half + space.sizes.young → IsFromSpace space left at → ⊥
-room_is_not_left space half left at both from below (inl eden) = omega (arith, from, eden.1)
-room_is_not_left space half left at both from below (inr in_half) = elim (room_beside space half left both) [
+-- no address of the half that is filled is left
+pub half_is_not_left : (space : Space) (half left at : ℕ) → half + left ≡ 1 → half_start space half ≤ at
+    → at < half_end space half → IsFromSpace space left at → ⊥
+half_is_not_left space half left at both from below (inl eden) = omega (arith, from, eden.1)
+half_is_not_left space half left at both from below (inr in_half) = elim (halves_apart space half left both) [
   | inl before ↦ omega (arith, before, below, in_half.0)
   | inr behind ↦ omega (arith, behind, from, in_half.1)
 ]
@@ -52,19 +30,15 @@ pub left_is_young : (space : Space) (left at : ℕ) → IsFromSpace space left a
 left_is_young space left at (inl eden) = eden.0
 left_is_young space left at (inr in_half) = omega (arith, in_half.0)
 
--- a segment of either half ends where the segments of both do, or before
-last_segment : (young helpers half : ℕ) → half ≤ 1
-    → young * (half * (helpers + 1) + helpers) + young ≤ 2 * ((helpers + 1) * young)
-last_segment young helpers half few = elim (which_half half (1 - half) (omega (arith, few))) [
-  | inl first ↦ let e = first_room young helpers half 1 first.0 refl in omega (arith, e)
-  | inr second ↦
-      let e : young * (half * (helpers + 1) + helpers) ≡ young * (1 * (helpers + 1) + helpers) =
-      ap (λ n. young * (n * (helpers + 1) + helpers)) second.0 in
-      omega (arith, e)
-]
+-- the half ends before the roots
+pub half_below_roots : (space : Space) (half : ℕ) → half ≤ 1 → half_end space half ≤ roots_start space
+half_below_roots space zero few = omega (arith, (kinds_by_number space).roots)
+half_below_roots space (suc zero) few = omega (arith, (kinds_by_number space).roots)
+half_below_roots space (suc (suc half)) few = absurd (omega (arith, few))
 
--- the room ends before the roots
+-- and so does the main side's segment of it
 pub room_below_roots : (space : Space) (half : ℕ) → half ≤ 1
     → room_start space half + space.sizes.young ≤ roots_start space
 room_below_roots space half few =
-    omega (arith, last_segment space.sizes.young space.sizes.helpers half few, (kinds_by_number space).roots)
+    let within = segment_in_half space half space.sizes.helpers (omega arith) in
+    omega (arith, within.1, half_below_roots space half few)

@@ -17,8 +17,8 @@ use Rattle.scavenger.specs.Starts.{Start, IsBegun, IsSlotPlace, room_start}
 use Rattle.scavenger.specs.Filling.{CopiesFillRooms}
 use Rattle.scavenger.specs.Following.{IsFromSpace, IsTarget, SlotsHaveTargets}
 use Rattle.scavenger.proofs.Sums.{room_for_one}
-use Rattle.scavenger.proofs.TargetNumbers.{room_is_not_left, left_is_young}
-use Rattle.scavenger.proofs.TargetCells.{IsInSegment, in_segment_or_page, young_size, young_is_cell}
+use Rattle.scavenger.proofs.TargetNumbers.{half_is_not_left, left_is_young}
+use Rattle.scavenger.proofs.TargetCells.{IsInNewHalf, in_half_or_page, young_size, young_is_cell}
 
 -- where the word of a live slot stood before, a slot stood
 pub live_has_place : {fixed : Fixed} {words : List ℕ} {homes : List Home} (slot place : ℕ) → Copying fixed words homes
@@ -27,11 +27,11 @@ live_has_place {fixed} slot place copying (StoodAt.itself there same) = inl (sub
 live_has_place slot place copying (StoodAt.in_cell home offset there is e f) =
     inr (home.from, offset, from_is home copying there, is, f)
 
--- a word of the room, or of a page, is not left
+-- a word of the half that is filled, or of a page, is not left
 room_not_left : {start : Start} (left at : ℕ) → start.half + left ≡ 1
-    → IsInSegment start at ⊎ (at < eden_start start.heap.space) → IsFromSpace start.heap.space left at → ⊥
-room_not_left {start} left at both (inl segment) is_left =
-    room_is_not_left start.heap.space start.half left at both segment.from segment.below is_left
+    → IsInNewHalf start at ⊎ (at < eden_start start.heap.space) → IsFromSpace start.heap.space left at → ⊥
+room_not_left {start} left at both (inl in_half) is_left =
+    half_is_not_left start.heap.space start.half left at both in_half.from in_half.below is_left
 room_not_left {start} left at both (inr below) is_left =
     omega (arith, below, left_is_young start.heap.space left at is_left)
 
@@ -40,7 +40,7 @@ pub home_is_not_left : {start : Start} {fixed : Fixed} {words : List ℕ} {homes
     (home : Home) → IsBegun start fixed → start.half + left ≡ 1 → Copying fixed words homes → Contains homes home
     → IsFromSpace start.heap.space left home.to → ⊥
 home_is_not_left left home begun both copying there =
-    room_not_left left home.to both (in_segment_or_page home.to begun
+    room_not_left left home.to both (in_half_or_page home.to begun
     (copy_in_room home home.to copying there (home_itself home begun.laid copying there)))
 
 -- a word that refers to what is left was not renamed

@@ -1,7 +1,8 @@
 -- How far a scavenge has come: the copies that fill the rooms, what stands in pages, and which slots are to do.
 use Rattle.std.specs.Prelude.{◌≡◌, ℕ, ◌+◌, ◌*◌, ◌<◌, ◌≤◌, ◌↔◌, ◌⊎◌, List, [], ◌∷◌, ◌++◌, Contains, sum_by, slice_get}
 use Rattle.std.specs.Prelude.{Some}
-use Rattle.std.specs.Prelude.{length, IsTrue}
+use Rattle.std.specs.Prelude.{length, map, slice_index, IsTrue}
+use Rattle.std.specs.List.{flat_map}
 use Rattle.tagged_word.specs.Cells.{is_free_kind}
 use Rattle.page_space.specs.declared.region.Region.TheVariants.{Segment}
 use Rattle.page_space.specs.Sizes.{page_words}
@@ -18,7 +19,7 @@ use Rattle.scav_copy.specs.declared.places.Home.{Home}
 use Rattle.scav_copy.specs.Places.{Fixed, size_of, IsInCopy, IsInCopies, StoodAt}
 use Rattle.scav_copy.specs.Renamings.{RefersToAddress}
 use Rattle.scav_copy.specs.Copies.{Copying}
-use Rattle.scavenger.specs.Starts.{Start, IsFreeRun, room_start}
+use Rattle.scavenger.specs.Starts.{Start, SegmentCopies, IsFreeRun, helping_workers, room_start, segment_from}
 use Rattle.scavenger.specs.Backs.{AreBacks}
 
 -- the copies stand one behind another from an address to another, in this order
@@ -26,6 +27,34 @@ pub data Tiles (fixed : Fixed) : ℕ → ℕ → List Home → Type 0 where
   none : (at : ℕ) → Tiles fixed at at []
   next : (home : Home) (end : ℕ) (homes : List Home) → Tiles fixed (home.to + size_of fixed home.from) end homes
       → Tiles fixed home.to end (home ∷ homes)
+
+-- how many words home copies have
+abbrev pub words_of_homes : Fixed → List Home → ℕ
+words_of_homes fixed homes = sum_by (λ home. size_of fixed home.from) homes
+
+-- the address behind the copies in a worker's segment of a half, which fill it from its start on
+abbrev pub segment_filled : Space → ℕ → Fixed → SegmentCopies → ℕ
+segment_filled space half fixed segment =
+    segment_from space half segment.worker + words_of_homes fixed segment.homes
+
+-- they do fill it so
+abbrev pub FillsSegment : Space → ℕ → Fixed → SegmentCopies → Type 0
+FillsSegment space half fixed segment =
+    Tiles fixed (segment_from space half segment.worker) (segment_filled space half fixed segment) segment.homes
+
+-- and behind them a 0 stands, where the segment goes on
+abbrev pub EndsSegment : Space → ℕ → Fixed → List ℕ → SegmentCopies → Type 0
+EndsSegment space half fixed words segment =
+    segment_filled space half fixed segment < segment_from space half segment.worker + space.sizes.young
+    → slice_index words (segment_filled space half fixed segment) ≡ 0
+
+-- the home copies in all segments
+abbrev pub homes_in : List SegmentCopies → List Home
+homes_in segments = flat_map (λ segment. segment.homes) segments
+
+-- how many words these have
+abbrev pub words_of_segments : Fixed → List SegmentCopies → ℕ
+words_of_segments fixed segments = sum_by (λ segment. words_of_homes fixed segment.homes) segments
 
 -- What a cell of a page is while a scavenge goes on: one that stood there before and is no free run; a home copy; or
 -- what a free run is now.
@@ -68,9 +97,9 @@ abbrev pub IsInPromoted : Start → Fixed → List Home → ℕ → Type 0
 IsInPromoted start fixed homes at =
     (home : Home) × Contains homes home × (home.to < eden_start start.heap.space) × IsInCopy fixed home at
 
--- Words, free runs and homes between two slots. Some home copies fill the segment from its start to `fill`, one behind
--- another; the others stand in pages. Each word that was in a free run is in one, or in a copy, and each free run is
--- the back of one that was.
+-- Words, free runs and homes between two slots. Some home copies fill the main side's segment from its start to `fill`,
+-- one behind another; the others stand in pages, or are those that helpers handed over, which fill segments of the same
+-- half. Each word that was in a free run is in one, or in a copy, and each free run is the back of one that was.
 pub record CopiesFillRooms (start : Start) (fixed : Fixed) (words : List ℕ) (rows : List (List Run)) (homes : List Home)
     (fill : ℕ)
     : Type 0 where
@@ -79,8 +108,14 @@ pub record CopiesFillRooms (start : Start) (fixed : Fixed) (words : List ℕ) (r
   pub tiles : Tiles fixed (room_start start.heap.space start.half) fill stayed
   pub promoted : List Home
   pub in_pages : (home : Home) → Contains promoted home → home.to < eden_start start.heap.space
-  pub same : (home : Home) → Contains homes home ↔ Contains (stayed ++ promoted) home
-  pub long : fill ≤ room_start start.heap.space start.half + sum_by (λ home. size_of fixed home.from) homes
+  pub handed_by : map (λ segment. segment.worker) start.handed ≡ helping_workers start.heap.space
+  pub handed : (segment : SegmentCopies) → Contains start.handed segment
+      → FillsSegment start.heap.space start.half fixed segment
+  pub behind : (segment : SegmentCopies) → Contains start.handed segment
+      → EndsSegment start.heap.space start.half fixed words segment
+  pub same : (home : Home) → Contains homes home ↔ Contains (stayed ++ (promoted ++ homes_in start.handed)) home
+  pub long : fill + words_of_segments fixed start.handed
+      ≤ room_start start.heap.space start.half + words_of_homes fixed homes
   pub pages : PagesStand start words rows homes
   pub left : (at : ℕ) → IsFreeWord start.rows at ↔ (IsFreeWord rows at ⊎ IsInPromoted start fixed homes at)
   pub free : AreFree rows

@@ -20,7 +20,7 @@ use Rattle.scav_copy.specs.Places.{Fixed}
 use Rattle.scavenger.specs.Starts.{IsBegun, start_of, room_start}
 use Rattle.scavenger.specs.Filling.{CopiesFillRooms, AllAreDone, IsEmptied}
 use Rattle.scavenger.specs.Walking.{AreKept, IsWellPlaced, IsToPromote, room_end}
-use Rattle.scavenger.specs.Scavenged.{Scavenges}
+use Rattle.scavenger.specs.Scavenged.{Scavenges, StandsInOneSegment}
 
 -- Each graph that the heap showed it shows, and its objects have the rooms that they had, so each command needs as many
 -- words as before.
@@ -54,7 +54,8 @@ pub record IsEnded (old new : Mutator) (all : Bool) (fixed : Fixed) (homes : Lis
   pub rows : length new.free ≡ length old.free
   pub young : new.young ≡ turned old.young (fill - room_start old.seat.space (start_of old).half)
 
--- Then it is a scavenge, and the heap that is left shows the graph, with the same rooms.
+-- Then it is a scavenge, and the heap that is left shows the graph, with the same rooms. No young cell stands in a
+-- helper's segment.
 abbrev pub EndsAreScavenges : Type 0
 EndsAreScavenges =
     (old new : Mutator) (graph : Graph) (all : Bool) (fixed : Fixed) (homes : List Home) (words : List ℕ)
@@ -62,6 +63,7 @@ EndsAreScavenges =
     → IsEnded old new all fixed homes words fill refused
     → Scavenges old new all × MainShows new graph
     × ((rooms : ℕ → Room) → HasRooms (heap_of old) graph rooms ↔ HasRooms (heap_of new) graph rooms)
+    × StandsInOneSegment old new
 
 -- A scavenge of a heap that shows a graph leaves a tight heap.
 abbrev pub ScavengesAreTight : Type 0

@@ -1,8 +1,8 @@
 -- What a scavenge comes to.
 use Rattle.std.specs.Prelude.{◌≡◌, ℕ, ◌+◌, ◌<◌, ◌≤◌, ◌↔◌, ◌⊎◌, Bool, false, ◌||◌, List, [], ◌∷◌, Option, Some, None}
 use Rattle.std.specs.Prelude.{Contains}
-use Rattle.std.specs.Prelude.{length, map, sum_by, slice_get, nat_lt, ◌==◌, if◌then◌else◌}
-use Rattle.page_space.specs.Extents.{Space, eden_start, roots_start}
+use Rattle.std.specs.Prelude.{length, map, slice_get, nat_lt, ◌==◌, if◌then◌else◌}
+use Rattle.page_space.specs.Extents.{eden_start, roots_start}
 use Rattle.nursery.specs.Young.{turned}
 use Rattle.free_runs.specs.FreeRuns.{AreFree, longest_of}
 use Rattle.free_runs.specs.Laws.{IsFreeWord}
@@ -15,9 +15,9 @@ use Rattle.scav_copy.specs.declared.places.Home.{Home}
 use Rattle.scav_copy.specs.Places.{Fixed, size_of}
 use Rattle.scav_copy.specs.Renamings.{Renaming}
 use Rattle.scav_copy.specs.Copies.{AreHoused}
-use Rattle.scavenger.specs.Starts.{Start, Begins, IsRootAt, start_of, copying_workers, segment_from}
+use Rattle.scavenger.specs.Starts.{Start, Begins, SegmentCopies, IsRootAt, start_of, copying_workers, room_start}
 use Rattle.scavenger.specs.Backs.{AreBacks}
-use Rattle.scavenger.specs.Filling.{Tiles, IsInPromoted}
+use Rattle.scavenger.specs.Filling.{FillsSegment, IsInPromoted, words_of_segments}
 use Rattle.scavenger.specs.Walking.{IsToPromote}
 
 -- the home of the cell at an address, if it has one
@@ -43,39 +43,20 @@ place_after start homes at =
     then (if begins_free start.rows at then None else Some at)
     else home_of homes at
 
--- how many words the home copies have
-abbrev pub words_of_homes : Fixed → List Home → ℕ
-words_of_homes fixed homes = sum_by (λ home. size_of fixed home.from) homes
-
--- the home copies in a worker's segment, in the order of their addresses
-pub record SegmentCopies : Type 0 where
-  pub worker : ℕ
-  pub homes : List Home
-
 -- the home copy stands in one of these segments
 pub record StaysIn (segments : List SegmentCopies) (home : Home) : Type 0 where
   pub segment : SegmentCopies
   pub of_all : Contains segments segment
   pub among : Contains segment.homes home
 
--- they fill the segment of a half, from its start on
-abbrev pub FillsSegment : Space → ℕ → Fixed → SegmentCopies → Type 0
-FillsSegment space half fixed segment =
-    let from = segment_from space half segment.worker in
-    Tiles fixed from (from + words_of_homes fixed segment.homes) segment.homes
-
--- how many words the home copies in all segments have
-abbrev pub words_of_segments : Fixed → List SegmentCopies → ℕ
-words_of_segments fixed segments = sum_by (λ segment. words_of_homes fixed segment.homes) segments
-
 -- A scavenge, which promotes survivors alone, or all. Exactly the young cells that were reached, from variables and
 -- recorded slots through slots of such cells, have homes: they stand there, and all that referred to them refers to
--- that. Those that stay young fill segments of the half that was empty, one for each worker that copies, each from its
--- start on; they are the survivors, and eden is empty. A survivor, or any where all are promoted, has its home in a
--- page, unless it is longer than each free run that is left; no other has. Each word that was in a free run is in one,
--- or in such a copy: copies take the fronts of free runs, and what is left are the backs of them. The runs that are
--- left neither overlap nor touch; as many pages have a row of them. Else nothing changed in pages, in second root words
--- and in layout words.
+-- that. Those that stay young fill segments of the half that was empty, one for each helper and one for the main side,
+-- each from its start on; they are the survivors, and eden is empty. A survivor, or any where all are promoted, has its
+-- home in a page, unless it is longer than each free run that is left; no other has. Each word that was in a free run
+-- is in one, or in such a copy: copies take the fronts of free runs, and what is left are the backs of them. The runs
+-- that are left neither overlap nor touch; as many pages have a row of them. Else nothing changed in pages, in second
+-- root words and in layout words.
 pub record Scavenges (old new : Mutator) (all : Bool) : Type 0 where
   pub fixed : Fixed
   pub homes : List Home
@@ -106,3 +87,10 @@ pub record Scavenges (old new : Mutator) (all : Bool) : Type 0 where
   pub backs : AreBacks old.free new.free
   pub apart : AreFree new.free
   pub rows : length new.free ≡ length old.free
+
+-- Where the main side copied alone, no young cell stands in a helper's segment.
+abbrev pub StandsInOneSegment : Mutator → Mutator → Type 0
+StandsInOneSegment old new =
+    (cell : Cell) (words : List ℕ) → HasCell (heap_of new) cell words → eden_start old.seat.space ≤ cell.at
+    → let from = room_start old.seat.space (start_of old).half in
+    (from ≤ cell.at) × (cell.at < from + old.seat.space.sizes.young)

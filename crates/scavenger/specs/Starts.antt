@@ -1,6 +1,8 @@
 -- What a scavenge of a heap begins with: which cells may be copied, which slots outside refer to them, and where copies
 -- go.
-use Rattle.std.specs.Prelude.{◌≡◌, ℕ, ◌+◌, ◌*◌, ◌<◌, ◌≤◌, ◌↔◌, ◌⊎◌, List, [], ◌∷◌, Contains, AllPairs, sum_by}
+use Rattle.std.specs.Prelude.{◌≡◌, ℕ, ◌+◌, ◌*◌, ◌<◌, ◌≤◌, ◌↔◌, ◌⊎◌, List, [], ◌∷◌, ◌++◌, map, Contains, AllPairs}
+use Rattle.std.specs.Prelude.{sum_by}
+use Rattle.std.specs.List.{range_with_len}
 use Rattle.page_space.specs.Extents.{Space, eden_start, segments_start, half_segments}
 use Rattle.cell_layout.specs.Cells.{layouts_in}
 use Rattle.free_runs.specs.FreeRuns.{AreFree}
@@ -12,29 +14,50 @@ use Rattle.heap_model.specs.Wholeness.{Whole}
 use Rattle.heap_model.specs.Collectable.{IsCollectable, AreFreeRuns}
 use Rattle.heap_model.specs.Remembered.{AreRemembered}
 use Rattle.write_barrier.specs.MutatorState.{Mutator, heap_of}
+use Rattle.scav_copy.specs.declared.places.Home.{Home}
 use Rattle.scav_copy.specs.declared.places.Room.{Room}
 use Rattle.scav_copy.specs.Places.{Fixed, size_of, offsets_of, IsLaidOut}
 use Rattle.scav_copy.specs.Renamings.{RefersToAddress}
 
--- the heap before, the half to which copies go, the slots of pages that are recorded, and the free runs of pages
+-- the home copies in a worker's segment, in the order of their addresses
+pub record SegmentCopies : Type 0 where
+  pub worker : ℕ
+  pub homes : List Home
+
+-- The heap before, the half to which copies go, the slots of pages that are recorded, and the free runs of pages; and
+-- the copies that helpers had made in segments of that half when the main side began.
 pub record Start : Type 0 where
   pub heap : Heap
   pub half : ℕ
   pub recorded : List ℕ
   pub rows : List (List Run)
+  pub handed : List SegmentCopies
 
--- those of a mutator
+-- the workers beside the main side: each helper has a segment of each half
+abbrev pub helping_workers : Space → List ℕ
+helping_workers space = range_with_len 0 space.sizes.helpers
+
+-- the workers that have a segment to copy to: the helpers, and the main side, which has the last one of each half
+abbrev pub copying_workers : Space → List ℕ
+copying_workers space = helping_workers space ++ space.sizes.helpers ∷ []
+
+-- a worker's segment with no copy
+abbrev pub nothing_of : ℕ → SegmentCopies
+nothing_of worker = record { worker = worker; homes = [] }
+
+-- no helper made a copy
+abbrev pub nothing_handed : Space → List SegmentCopies
+nothing_handed space = map nothing_of (helping_workers space)
+
+-- what a scavenge of the main side alone begins with
 abbrev pub start_of : Mutator → Start
 start_of main = record {
   heap = heap_of main;
   half = other_half main.young.half;
   recorded = main.recorded.slots;
   rows = main.free;
+  handed = nothing_handed main.seat.space;
 }
-
--- the workers that copy to a segment of their own: the main side alone, which has the last segment of each half
-abbrev pub copying_workers : Space → List ℕ
-copying_workers space = space.sizes.helpers ∷ []
 
 -- the first address of a worker's segment of this half
 abbrev pub segment_from : Space → ℕ → ℕ → ℕ
@@ -48,10 +71,10 @@ segment_room space half worker = record {
   to = segment_from space half worker + space.sizes.young;
 }
 
--- the room is the segment of a worker that copies
+-- the room is a segment of the half: a helper's, or the main side's
 pub record IsSegmentRoom (space : Space) (half : ℕ) (room : Room) : Type 0 where
   pub worker : ℕ
-  pub copies : Contains (copying_workers space) worker
+  pub known : worker < half_segments space
   pub is : room ≡ segment_room space half worker
 
 -- the first address of the main side's segment of this half, and that segment as a room

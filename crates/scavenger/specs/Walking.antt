@@ -65,15 +65,15 @@ pub record IsPromotedSlot (start : Start) (fixed : Fixed) (homes : List Home) (a
   pub visited : Contains (offsets_of fixed home.from) offset
   pub stands : home.to + offset ≡ at
 
--- the word at the address refers to the segment that copies go to
+-- the word at the address refers to a segment of the half that copies go to
 pub record RefersToRoom (start : Start) (words : List ℕ) (at : ℕ) : Type 0 where
   pub cell : ℕ
   pub refers : RefersToAddress words at cell
-  pub from : room_start start.heap.space start.half ≤ cell
-  pub below : cell < room_start start.heap.space start.half + start.heap.space.sizes.young
+  pub from : half_start start.heap.space start.half ≤ cell
+  pub below : cell < half_end start.heap.space start.half
 
 -- Recorded are, of the slots that were, those that refer to a young cell, and of the slots of copies in pages those
--- that refer to a copy in the segment.
+-- that refer to a copy in a segment.
 abbrev pub AreKept : Start → Fixed → List ℕ → List Home → List ℕ → Type 0
 AreKept start fixed words homes now =
     (at : ℕ) → Contains now at

@@ -4,7 +4,7 @@ ghost use Rattle.std.specs.Vec.{vec_capacity};
 ghost use Rattle.object_graph.specs.Graphs.{Graph};
 ghost use Rattle.write_barrier.specs.MutatorState.{MainShows};
 ghost use Rattle.scavenger.specs.Laws.{KeepsGraphs};
-ghost use Rattle.scavenger.specs.Scavenged.{Scavenges};
+ghost use Rattle.scavenger.specs.Scavenged.{Scavenges, StandsInOneSegment};
 
 use crate::emptying::empty_left;
 use crate::progress::Progress;
@@ -24,6 +24,7 @@ pub fn scavenge(main: &mut Main, mut list: Vec<u32>, promote_all: bool) -> Vec<u
     requires shown { (graph : Graph) × MainShows main.old graph }
     requires room { main.old.seat.space.sizes.young ≤ vec_capacity list }
     ensures scavenged { Scavenges main.old main.new promote_all }
+    ensures alone { StandsInOneSegment main.old main.new }
     ensures keeps { KeepsGraphs main.old main.new }
     ensures capacity { vec_capacity result ≡ vec_capacity list }
 {

@@ -99,18 +99,24 @@ module _ {S : Type 0} (counts : Counts) (s : State S View) (main : Overview) (k 
   home_whole marks = subst IsSoundAndBorn (sym (home_is main refl refl refl)) (k.marking marks)
 
 -- the main seat in a cycle
-abbrev entered : Overview → MainView → List ℕ → ℕ → Overview
-entered main view reached made = record main { phase = Mark; view = view; reached = reached; made = made }
+abbrev entered : Overview → MainView → List ℕ → ℕ → List ℕ → Overview
+entered main view reached made dead = record main {
+  phase = Mark;
+  view = view;
+  reached = reached;
+  made = made;
+  dead = dead;
+}
 
 -- a cycle is entered for which the world is whole
 enter_allowed : (counts : Counts) (slots number : ℕ) (main : Overview) (view : MainView) (reached : List ℕ) (made : ℕ)
-    (told : ℕ → Me Own View → Type 0) → main.home ≡ true
-    → IsSoundAndBorn (world_at_home (entered main view reached made))
-    → ((n : ℕ) → told n (Main (entered main view reached made), []))
+    (dead : List ℕ) (told : ℕ → Me Own View → Type 0) → main.home ≡ true
+    → IsSoundAndBorn (world_at_home (entered main view reached made dead))
+    → ((n : ℕ) → told n (Main (entered main view reached made dead), []))
     → Allows (KeepsRule counts) slots 0 (Main main, []) 0 (λ m. either (m == number) number m) told
-enter_allowed counts slots number main view reached made told home whole tells s kept deep at bound =
+enter_allowed counts slots number main view reached made dead told home whole tells s kept deep at bound =
     let k = main_rule counts s main kept at in
-    let q : Overview = entered main view reached made in
+    let q : Overview = entered main view reached made dead in
     let rule : KeptBy counts (stepped s 0 (slice_index s.words 0) 0 [] (Main q) keeps) q =
     view_rule counts s main q 0 k refl refl refl
     (record { lents = k.seats.lents; lent = k.seats.lent; out = k.seats.out; idle = λ e. absurd (e refl) }) k.home
@@ -138,7 +144,8 @@ module _ (key counts : Counts) (id slots number : ℕ) (me : Me Own View) (main 
   open_may chosen =
       rw (is_key, is_id, is_me)
       (enter_allowed counts slots number main (opened main chosen.0).view chosen.0.reached chosen.0.made
-      (tells_opened fits (step slots 0 number number (some own)) (Main main, [])) home (chosen.2.sound, chosen.2.born)
+      chosen.0.dead (tells_opened fits (step slots 0 number number (some own)) (Main main, [])) home
+      (chosen.2.sound, chosen.2.born)
       (λ n. (chosen.0, chosen.1, chosen.2, refl)))
 
   -- a cycle goes on
@@ -148,6 +155,6 @@ module _ (key counts : Counts) (id slots number : ℕ) (me : Me Own View) (main 
       (tells_resumed fits (step slots 0 number number (some own)) me)
   resume_may chosen =
       rw (is_key, is_id, is_me)
-      (enter_allowed counts slots number main (resumed main chosen.0).view main.reached main.made
+      (enter_allowed counts slots number main (resumed main chosen.0).view main.reached main.made main.dead
       (tells_resumed fits (step slots 0 number number (some own)) (Main main, [])) home chosen.3
       (λ n. (chosen.0, chosen.1, chosen.2, chosen.3, refl)))

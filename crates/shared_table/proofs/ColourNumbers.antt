@@ -1,5 +1,5 @@
 -- The numbers of colours.
-use Rattle.std.proofs.Common.{◌≡◌, ◌≢◌, ◌≤◌, ℕ, refl, arith}
+use Rattle.std.proofs.Common.{◌≡◌, ◌≢◌, ◌≤◌, refl, arith}
 use Rattle.mark_world.specs.Steps.{black, white}
 use Rattle.shared_table.specs.declared.colour.Colour.{Colour}
 use Rattle.shared_table.specs.declared.colour.Colour.TheVariants.{White, Grey, Black}

@@ -10,16 +10,12 @@ use Rattle.tagged_word.proofs.Readings.{reference_to}
 use Rattle.page_space.specs.Extents.{board_words}
 use Rattle.mark_laws.specs.Types.{Spot}
 use Rattle.mark_world.specs.declared.event.Event.TheVariants as event
-use Rattle.mark_world.specs.Steps.{black}
-use Rattle.shared_table.specs.declared.colour.Colour.{Colour}
-use Rattle.shared_table.specs.declared.colour.Colour.TheVariants.{White, Grey, Black}
 use Rattle.shared_table.specs.declared.overview.Counts.{Counts}
 use Rattle.shared_table.specs.declared.overview.Overview.{Overview}
 use Rattle.shared_table.specs.declared.overview.View.{View}
 use Rattle.shared_table.specs.declared.overview.View.TheVariants.{Main}
 use Rattle.shared_table.specs.declared.phase.Phase.TheVariants.{Mark}
 use Rattle.shared_table.specs.Keeping.{KeepsRule}
-use Rattle.shared_table.specs.Colours.{number_of}
 use Rattle.shared_table.specs.Changes.{MayDo, told_at}
 use Rattle.shared_table.specs.Told.{tells_event, tells_found, tells_left}
 use Rattle.shared_table.specs.Told.{shade_event, blacken_event, new_event, give_event, take_event, cell_referred}

@@ -1,11 +1,15 @@
 -- Loads of the main seat, by which it learns what the rule says.
 use Rattle.std.proofs.Common.{◌≡◌, ◌≤◌, ℕ, ◌+◌, ◌-◌, ◌<◌, true, List, [], length, get_or, slice_index, refl, sym, ap}
-use Rattle.std.proofs.Common.{◌∙◌, arith, subst}
-use Rattle.std.proofs.lemmas.List.Elements.{All-get_or}
+use Rattle.std.proofs.Common.{◌∙◌, arith, subst, Contains}
+use Rattle.std.proofs.lemmas.List.Elements.{All-contains, All-get_or}
 use mathlib.Core.Option.{none}
 use Rattle.atomic_table.specs.Table.{State, Me, keeps, step, Allows}
-use Rattle.mark_laws.specs.Types.{Spot}
+use Rattle.mark_laws.specs.Types.{Spot, World}
+use Rattle.mark_laws.proofs.Joins.{all_from}
 use Rattle.mark_laws.proofs.PagesTell.{whole_main}
+use Rattle.mark_world.specs.AfterEvents.{IsMarked}
+use Rattle.mark_world.specs.BornCells.{Born}
+use Rattle.mark_world.specs.Soundness.{AreIn, Sound}
 use Rattle.mark_world.specs.Steps.{black}
 use Rattle.shared_table.specs.declared.overview.Counts.{Counts}
 use Rattle.shared_table.specs.declared.overview.Overview.{Overview}
@@ -77,6 +81,12 @@ home_allowed counts slots i main none_out s kept deep at bound =
       (k.colours, k.board, k.sizes.colours ∙ sym k.sizes.old, refl),
     )
 
+-- what waits with the mutator in a sound world is born
+grey_born : (world : World) → Sound world → Born world → AreIn world.main.born world.main.grey
+grey_born world sound born =
+    all_from (Contains world.main.born) world.main.grey (λ at waits.
+    born.reached at (All-contains (IsMarked world) world.main.grey at sound.lists.main waits))
+
 module _ {S : Type 0} (key counts : Counts) (id slots : ℕ) (me : Me S View) (main : Overview) (is_key : key ≡ counts)
     (is_id : id ≡ 0) (is_me : me ≡ (Main main, [])) where
   pub home_may : (i : ℕ) → main.out ≡ 0
@@ -89,7 +99,11 @@ module _ {S : Type 0} (key counts : Counts) (id slots : ℕ) (me : Me S View) (m
   sound_may i marks =
       rw (is_key, is_id, is_me)
       (stays_allowed {S = S} counts slots i main (tells_sound (step slots i 0 0 none) (Main main, []))
-      (λ s k. (refl, whole_main (world main k.others k.colours k.board) (k.marking marks).0 (k.marking marks).1)))
+      (λ s k. (
+        refl,
+        whole_main (world main k.others k.colours k.board) (k.marking marks).0 (k.marking marks).1,
+        grey_born (world main k.others k.colours k.board) (k.marking marks).0 (k.marking marks).1,
+      )))
 
   -- with no seat out the world is whole
   pub whole_may : (i : ℕ) → main.phase ≡ Mark → main.home ≡ true

@@ -39,6 +39,7 @@ opened main cycle = record main {
   view = with_cycle no_cycle cycle;
   reached = cycle.reached;
   made = cycle.made;
+  dead = cycle.dead;
 }
 
 -- The lists of a cycle are those of the mutator's view, with promoted cells joined, which were not published. What was
@@ -52,6 +53,7 @@ pub record IsContinued (main : Overview) (cycle : Cycle) : Type 0 where
   pub sure : HasJoined main.view.sure promoted cycle.sure
   pub reached : cycle.reached ≡ main.reached
   pub made : cycle.made ≡ main.made
+  pub dead : cycle.dead ≡ main.dead
 
 -- a cycle goes on with the lists of this one; what was found at its opening stays
 abbrev pub resumed : Overview → Cycle → Overview
@@ -63,7 +65,7 @@ paused main = record main { phase = Paused }
 
 -- no cycle is open any more
 abbrev pub closed : Overview → Overview
-closed main = record main { phase = Quiet; view = no_cycle; reached = []; made = 0 }
+closed main = record main { phase = Quiet; view = no_cycle; reached = []; made = 0; dead = [] }
 
 -- all cells are white
 abbrev pub whitened : Overview → Overview

@@ -9,6 +9,7 @@ use Rattle.mark_laws.specs.Runs.{IsSoundAndBorn}
 use Rattle.mark_world.specs.declared.event.Event.TheVariants as event
 use Rattle.mark_world.specs.BetweenCommands.{Fresh}
 use Rattle.mark_world.specs.Cycles.{Cycle}
+use Rattle.mark_world.specs.Soundness.{AreIn}
 use Rattle.mark_world.specs.Steps.{becomes, main_spot, black}
 use Rattle.shared_table.specs.declared.overview.Overview.{Overview}
 use Rattle.shared_table.specs.declared.overview.View.{View}
@@ -49,12 +50,6 @@ module _ {S : Type 0} where
   -- the event that a step is, by what the main seat knows
   abbrev pub slot_event : Overview → Step S → Event
   slot_event main st = event.StoreSlot st.word st.first
-
-  abbrev pub owned_event : Overview → Step S → Event
-  owned_event main st = event.StoreOwned st.word st.first
-
-  abbrev pub header_event : Overview → Step S → Event
-  header_event main st = event.StoreHeader st.word st.first
 
   abbrev pub layout_event : Overview → Step S → Event
   layout_event main st = event.AddLayout (st.word - main.old) st.first
@@ -113,10 +108,11 @@ module _ {S : Type 0} where
       → found ≡ slice_index (overview_of me.0).colours (coloured_cell (overview_of me.0) st))
       × ((overview_of me.0).phase ≡ Mark → FindsInMark (overview_of me.0) (coloured_cell (overview_of me.0) st) found)
 
-  -- the mutator's view is as it is in a sound world
+  -- the mutator's view is as it is in a sound world, and what waits with it is born
   abbrev pub tells_sound : Step S → Me S View → ℕ → Me S View → Type 0
   tells_sound st me found now = (now ≡ me) × MainSound (overview_of me.0).old (overview_of me.0).words
       (overview_of me.0).layouts (overview_of me.0).view
+      × AreIn (overview_of me.0).view.born (overview_of me.0).view.grey
 
   -- the world with no seat out is sound, and marking reaches born cells alone
   abbrev pub tells_whole : Step S → Me S View → ℕ → Me S View → Type 0

@@ -27,6 +27,7 @@ beginning counts = record {
   view = no_cycle;
   reached = [];
   made = 0;
+  dead = [];
   out = 0;
   lent = 0;
 }

@@ -8,7 +8,7 @@ ghost use Rattle.shared_table.specs.Spots.{with_spot};
 use crate::overview::{Counts, View};
 use crate::own_words::OwnWords;
 use crate::phase::Phase;
-use crate::plays::{PutsLayout, PutsWord};
+use crate::plays::PutsLayout;
 use crate::rule::SharedTable;
 use atomic_table::Seat;
 use std::alloc::Global;
@@ -67,19 +67,6 @@ impl MainSide {
         ensures same { IfOk result (λ shared. (arc_value shared).table.shared.table_id ≡ self.now.table) }
     {
         Ok(Arc::try_clone(&self.shared)?)
-    }
-
-    /// Puts a word of a page while no cycle is open, or while it waits.
-    #[inline(always)]
-    pub fn put(&mut self, a: u32, word: u64)
-        requires idle { self.old.main.phase ≡ Mark → ⊥ }
-        requires within { a < self.old.main.old }
-        ensures put { self.new ≡ record self.old { main = with_spot self.old.main (Spot.Heap a) word } }
-    {
-        self.shared
-            .table
-            .shared
-            .store::<PutsWord>(&mut self.seat, a as usize, word);
     }
 
     /// Puts a layout word while no cycle is open, or while it waits.

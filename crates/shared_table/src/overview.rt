@@ -62,6 +62,8 @@ pub struct Overview {
     pub reached: Items<u32>,
     /// How many objects there were then.
     pub made: u32,
+    /// The words of pages that were dead then.
+    pub dead: Items<u32>,
     /// How many seats are out.
     pub out: u64,
     /// How many seats were ever lent.

@@ -18,24 +18,6 @@ impl Play<OwnWords, View> for StoresSlot {
     ghost then = { tells_event slot_event };
 }
 
-/// A word is stored where no helper reads one that it visits by.
-pub(crate) struct StoresOwned;
-
-impl Play<OwnWords, View> for StoresOwned {
-    ghost use Rattle.shared_table.specs.Told.{tells_event, owned_event};
-
-    ghost then = { tells_event owned_event };
-}
-
-/// The shape of a plain cell changes.
-pub(crate) struct StoresHeader;
-
-impl Play<OwnWords, View> for StoresHeader {
-    ghost use Rattle.shared_table.specs.Told.{tells_event, header_event};
-
-    ghost then = { tells_event header_event };
-}
-
 /// A layout word comes to its place.
 pub(crate) struct AddsLayout;
 
@@ -108,7 +90,7 @@ impl Play<OwnWords, View> for TakesCell {
     ghost then = { tells_found take_event };
 }
 
-/// A word of a page is put while helpers may not mark.
+/// A word of a page is put that is in no slot which helpers visit.
 pub(crate) struct PutsWord;
 
 impl Play<OwnWords, View> for PutsWord {
@@ -144,7 +126,7 @@ impl Play<OwnWords, View> for SeesColour {
     ghost then = { tells_colour };
 }
 
-/// The mutator's view is as it is in a sound world.
+/// The mutator's view is as it is in a sound world, and what waits with it is born.
 pub(crate) struct IsSound;
 
 impl Play<OwnWords, View> for IsSound {

@@ -1,23 +1,25 @@
-//! The main seat's steps in an open cycle, each one event of marking.
-ghost use Rattle.std.specs.Prelude.{◌≡◌, ◌+◌, ◌<◌, true, false, Contains, IfSome, IsNone, length, slice_index};
+//! The main seat's steps in an open cycle, each one event of marking. Two of them put a word in each phase.
+ghost use Rattle.std.specs.Prelude.{◌≡◌, ◌+◌, ◌<◌, ◌⊎◌, true, false, Contains, IfSome, IsNone, length, slice_index};
 ghost use Rattle.tagged_word.specs.Readings.{reference_in};
 ghost use Rattle.core_parts.specs.Boards.{IsBoardWord};
 ghost use Rattle.mark_laws.specs.PageWords.{MainSound};
 ghost use Rattle.mark_laws.specs.Runs.{IsSoundAndBorn};
+ghost use Rattle.mark_laws.specs.Types.{Spot};
 ghost use Rattle.mark_world.specs.declared.event.Event.TheVariants as event;
+ghost use Rattle.mark_world.specs.Soundness.{AreIn};
 ghost use Rattle.mark_world.specs.Steps.{black};
 ghost use Rattle.shared_table.specs.declared.colour.Colour.TheVariants.{Black};
 ghost use Rattle.shared_table.specs.declared.phase.Phase.TheVariants.{Mark};
 ghost use Rattle.shared_table.specs.Changes.{MayDo, told};
 ghost use Rattle.shared_table.specs.Colours.{number_of};
-ghost use Rattle.shared_table.specs.Spots.{FindsInMark};
+ghost use Rattle.shared_table.specs.Spots.{FindsInMark, with_spot};
 ghost use Rattle.shared_table.specs.Worlds.{world_at_home};
 
 use crate::colour::Colour;
 use crate::main_side::MainSide;
 use crate::plays::{
-    AddsLayout, Blackens, IsSound, IsWhole, LeavesBlack, LeavesColour, MakesBlack, SeesColour,
-    Shades, StoresHeader, StoresOwned, StoresSlot, TakesCell,
+    AddsLayout, Blackens, IsSound, IsWhole, LeavesBlack, LeavesColour, MakesBlack, PutsWord,
+    SeesColour, Shades, StoresSlot, TakesCell,
 };
 
 impl MainSide {
@@ -35,32 +37,29 @@ impl MainSide {
             .store::<StoresSlot>(&mut self.seat, a as usize, word);
     }
 
-    /// Stores a word of a page where no helper reads one that it visits by.
-    #[inline(always)]
-    pub fn store_owned(&mut self, a: u32, word: u64)
-        requires mark { self.old.main.phase ≡ Mark }
-        requires within { a < self.old.main.old }
-        requires may { MayDo self.old.main (event.StoreOwned a word) }
-        ensures stored { self.new ≡ record self.old { main = told self.old.main (event.StoreOwned a word) word } }
-    {
-        self.shared
-            .table
-            .shared
-            .store::<StoresOwned>(&mut self.seat, a as usize, word);
-    }
-
-    /// Changes the header of a plain cell of a page.
+    /// Puts a word of a page. In an open cycle no helper may visit by it, or it is a header that changes safely.
     #[inline(always)]
     pub fn store_header(&mut self, a: u32, word: u64)
-        requires mark { self.old.main.phase ≡ Mark }
         requires within { a < self.old.main.old }
-        requires may { MayDo self.old.main (event.StoreHeader a word) }
-        ensures stored { self.new ≡ record self.old { main = told self.old.main (event.StoreHeader a word) word } }
+        requires may { let main = self.old.main in
+            main.phase ≡ Mark → MayDo main (event.StoreHeader a word) ⊎ MayDo main (event.StoreOwned a word) }
+        ensures put { self.new ≡ record self.old { main = with_spot self.old.main (Spot.Heap a) word } }
     {
+        // The seat knows the words of the pages in each phase, so the step is one store in each.
         self.shared
             .table
             .shared
-            .store::<StoresHeader>(&mut self.seat, a as usize, word);
+            .store::<PutsWord>(&mut self.seat, a as usize, word);
+    }
+
+    /// Puts a word of a page. In an open cycle no helper may visit by it.
+    #[inline(always)]
+    pub fn store_owned(&mut self, a: u32, word: u64)
+        requires within { a < self.old.main.old }
+        requires may { self.old.main.phase ≡ Mark → MayDo self.old.main (event.StoreOwned a word) }
+        ensures put { self.new ≡ record self.old { main = with_spot self.old.main (Spot.Heap a) word } }
+    {
+        self.store_header(a, word);
     }
 
     /// Puts a new layout word in its place.
@@ -242,11 +241,13 @@ impl MainSide {
         Colour::of(found)
     }
 
-    /// The mutator's view is as it is in a sound world. The call says so, by one load, and does nothing else.
+    /// The mutator's view is as it is in a sound world, and the cells that wait with it are born. The call says so, by
+    /// one load, and does nothing else.
     pub fn sound(&mut self)
         requires mark { self.old.main.phase ≡ Mark }
         ensures same { self.new ≡ self.old }
         ensures sound { let main = self.old.main in MainSound main.old main.words main.layouts main.view }
+        ensures grey { AreIn self.old.main.view.born self.old.main.view.grey }
     {
         self.shared.table.shared.load::<IsSound>(&mut self.seat, 0);
     }

@@ -29,7 +29,7 @@ fn is_moved_root(old: &HeapImage, new: &HeapImage, moves: &[Move], variable: u32
     ensures { IsTrue result
         ↔ IsMovedRoot (image_heap old.now) (image_heap new.now) (to_of moves.now) variable }
 {
-    // No address of a heap is past 32 bits.
+    // That the count fits 32 bits bounds the sum `first + 1`; its value is of no use here.
     let _words_count = old.regions.count();
     let first = old.regions.root_at(variable);
     if word_at(new, first + 1) != word_at(old, first + 1) {

@@ -6,7 +6,7 @@ use Rattle.page_space.specs.Extents.{Space}
 use Rattle.remembered_set.specs.Recorded.{Recorded}
 use Rattle.heap_table.specs.Phases.{Quiet}
 use Rattle.write_barrier.specs.Seats.{Seat, RestStays, heap_words}
-use Rattle.write_barrier.specs.Staying.{rest_stays_again}
+use Rattle.write_barrier.specs.Staying.{rest_stays_itself, rest_stays_again}
 use Rattle.heap_model.specs.Types.{Run}
 use Rattle.heap_model.specs.Changes.{Patch}
 use Rattle.write_barrier.specs.MutatorState.{Mutator, heap_of}
@@ -32,7 +32,7 @@ sweep_begins first now marked rows cleared =
     let Rests : Seat → Type 0 = λ one. RestStays first.seat one in
     let Forgotten : Recorded → Type 0 = λ one. AreForgotten [] first.recorded one in
     record {
-      seat = subst Rests (sym seat) (record { space = refl; phase = refl; count = refl; shared = refl });
+      seat = subst Rests (sym seat) (rest_stays_itself first.seat);
       paths = ap (λ (main : Mutator). main.paths) same;
       young = ap (λ (main : Mutator). main.young) same;
       gaps = [];

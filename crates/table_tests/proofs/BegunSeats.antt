@@ -21,14 +21,15 @@ pub marking_on : (seat new : Seat) (grey now : Listing) (words : List ℕ) (cycl
     → StepsTo seat new words cycle → cycle.starts ≡ three_starts → cycle.born ≡ three_starts
     → layouts_in seat.space words ≡ layouts_in seat.space seat.table → IsPaid new now → IsMarking new now
 marking_on seat new grey now words cycle marking steps starts born same paid = record {
-  page = ap (λ (s : Space). eden_start s) steps.space ∙ marking.page;
-  home = steps.home ∙ marking.home;
-  starts = ap (λ (c : Cycle). c.starts) steps.cycle ∙ starts;
-  born = ap (λ (c : Cycle). c.born) steps.cycle ∙ born;
+  mark = steps.moves.phase ∙ marking.mark;
+  page = ap (λ (s : Space). eden_start s) steps.moves.space ∙ marking.page;
+  home = steps.moves.home ∙ marking.home;
+  starts = ap (λ (c : Cycle). c.starts) steps.moves.cycle ∙ starts;
+  born = ap (λ (c : Cycle). c.born) steps.moves.cycle ∙ born;
   layouts =
-      ap (λ (s : Space). layouts_in s new.table) steps.space
-      ∙ ap (λ (ws : List ℕ). layouts_in seat.space ws) steps.table
-      ∙ same ∙ marking.layouts ∙ sym steps.layouts;
+      ap (λ (s : Space). layouts_in s new.table) steps.moves.space
+      ∙ ap (λ (ws : List ℕ). layouts_in seat.space ws) steps.moves.table
+      ∙ same ∙ marking.layouts ∙ sym steps.moves.layouts;
   paid = paid;
 }
 

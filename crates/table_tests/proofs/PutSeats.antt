@@ -74,6 +74,7 @@ bare_layout seat shape word bare =
             view = b.view;
             reached = b.reached;
             made = b.made;
+            dead = b.dead;
             out = b.out;
             lent = b.lent;
           })) (sym (known_put seat.shared shape word bare.shared)) (record {

@@ -12,7 +12,7 @@ use Rattle.shared_table.specs.Owned.{Own}
 
 -- the cells of this list are published and born
 abbrev pub these_cells : List ℕ → Cycle
-these_cells starts = record { starts = starts; born = starts; mine = []; sure = []; reached = []; made = 0 }
+these_cells starts = record { starts = starts; born = starts; mine = []; sure = []; reached = []; made = 0; dead = [] }
 
 -- where the three cells of a page begin
 abbrev pub three_starts : List ℕ

@@ -45,8 +45,8 @@ pub record PageLists : Type 0 where
   pub layouts : List ℕ
   pub starts : List ℕ
 
--- The pages are cut into so many cells of four words, each with one of the two headers. Their tagged slots refer to none
--- but these. The layout words of the two headers are in place.
+-- The pages are cut into so many cells of four words, each with one of the two headers. Their tagged slots refer to
+-- none but these. The layout words of the two headers are in place.
 pub record AreCutPages (pages : PageLists) (old count : ℕ) : Type 0 where
   pub words : length pages.words ≡ old
   pub layouts : length pages.layouts ≡ shapes_most

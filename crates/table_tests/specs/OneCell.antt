@@ -10,14 +10,14 @@ use Rattle.shared_table.specs.Owned.{Own}
 
 -- no cell is published so far, and nothing was reached
 abbrev pub no_cells : Cycle
-no_cells = record { starts = []; born = []; mine = []; sure = []; reached = []; made = 0 }
+no_cells = record { starts = []; born = []; mine = []; sure = []; reached = []; made = 0; dead = [] }
 
 abbrev pub IsEmpty : Own → ℕ → Overview → Cycle → Type 0
 IsEmpty own made main cycle = cycle ≡ no_cells
 
 -- no cell was promoted while the cycle waited: its lists are as they were
 abbrev pub IsSame : Own → ℕ → Overview → Cycle → Type 0
-IsSame own made main cycle = cycle ≡ cycle_of main.view main.reached main.made
+IsSame own made main cycle = cycle ≡ cycle_of main.view main.reached main.made main.dead
 
 -- a table with whole pages and all shapes, on which no cycle is open and no cell has a colour
 pub record IsBare (main : Overview) : Type 0 where

@@ -8,7 +8,7 @@ use Rattle.table_tests.specs.OneCell.{IsBare}
 
 -- the two cells are published and born
 abbrev pub two_cells : Cycle
-two_cells = record { starts = 0 ∷ 3 ∷ []; born = 0 ∷ 3 ∷ []; mine = []; sure = []; reached = []; made = 0 }
+two_cells = record { starts = 0 ∷ 3 ∷ []; born = 0 ∷ 3 ∷ []; mine = []; sure = []; reached = []; made = 0; dead = [] }
 
 abbrev pub IsTwo : Own → ℕ → Overview → Cycle → Type 0
 IsTwo own made main cycle = cycle ≡ two_cells

@@ -28,7 +28,7 @@ fn fill_page(seat: &mut MainSeat, words: &[u64])
 {
     let _regions = seat.regions();
     for a in 0..2_048 {
-        seat.put(a, word_at(words, a as u64));
+        seat.store_owned(a, word_at(words, a as u64));
     }
 }
 
@@ -119,6 +119,16 @@ fn store_both(seat: &mut MainSeat, grey: &mut GreyCells)
     store_in_first(seat, grey, 3, TO_YOUNG);
 }
 
+/// Stores the two references, if it is to.
+fn change_first(seat: &mut MainSeat, grey: &mut GreyCells, stores: bool)
+    requires { HasFirstBlack seat.old grey.old }
+    ensures { HasFirstBlack seat.new grey.new }
+{
+    if stores {
+        store_both(seat, grey);
+    }
+}
+
 /// Visits all that waits.
 fn scan(seat: &mut MainSeat, grey: &mut GreyCells)
     requires { IsMarking seat.old grey.old }
@@ -155,71 +165,76 @@ fn layouts(alloc: Global) -> Result<Vec<u64>, NoMemory> {
     Ok(words)
 }
 
-#[test]
-fn a_scan_goes_along_slots_to_a_table(rt: HostRuntime) -> Result<(), Fail> {
-    let alloc = rt.alloc();
-    let long = long_store(alloc)?;
-    let cases: [(&str, &[u64], [Colour; 3], [Colour; 3]); 2] = [
-        (
-            "two slots",
-            &[38, 0, TO_FIRST, TO_YOUNG],
-            [Colour::Black, Colour::Grey, Colour::White],
-            [Colour::Black; 3],
-        ),
-        (
-            "a store of 1,000",
-            long.as_slice(),
-            [Colour::Black, Colour::White, Colour::Grey],
-            [Colour::Black, Colour::White, Colour::Black],
-        ),
-    ];
-    let layouts = layouts(alloc)?;
-    for (name, cell, shaded, scanned) in cases {
-        let words = page(alloc, cell)?;
-        let mut seat = bare(alloc)?;
-        let mut grey = GreyCells::new(alloc, seat.regions())?;
-        assert!(rt; layouts.len() == 8_200);
-        assert!(rt;
-            begin(
-                &mut seat,
-                &mut grey,
-                words.as_slice(),
-                layouts.as_slice(),
-                &[0, 1_024, 1_026]
-            ),
-            "{name}"
-        );
-        assert!(rt; colours(&mut seat, &grey) == [Colour::White; 3], "{name}");
-        blacken_first(&mut seat, &mut grey);
-        assert!(rt; colours(&mut seat, &grey) == shaded, "{name}");
-        scan(&mut seat, &mut grey);
-        assert!(rt; colours(&mut seat, &grey) == scanned, "{name}");
-    }
-    Ok(())
+/// A page with a cell at its start, whether the mutator stores references in it once it is black, and the colours of
+/// the three cells: after that, and once all that waits is visited.
+#[derive(Clone, Copy)]
+struct Case<'a> {
+    name: &'static str,
+    cell: &'a [u64],
+    stores: bool,
+    blackened: [Colour; 3],
+    scanned: [Colour; 3],
+}
+
+/// The cases: the targets of the cell's slots, and what is stored later.
+fn cases<'a>(long: &'a [u64]) -> [Case<'a>; 3] {
+    [
+        Case {
+            name: "two slots",
+            cell: &[38, 0, TO_FIRST, TO_YOUNG],
+            stores: false,
+            blackened: [Colour::Black, Colour::Grey, Colour::White],
+            scanned: [Colour::Black; 3],
+        },
+        Case {
+            name: "a store of 1,000",
+            cell: long,
+            stores: false,
+            blackened: [Colour::Black, Colour::White, Colour::Grey],
+            scanned: [Colour::Black, Colour::White, Colour::Black],
+        },
+        Case {
+            name: "two slots with integers, and a stored reference",
+            cell: &[38, 0, 10, 10],
+            stores: true,
+            blackened: [Colour::Black, Colour::White, Colour::Grey],
+            scanned: [Colour::Black, Colour::White, Colour::Black],
+        },
+    ]
 }
 
 #[test]
-fn a_stored_target_of_a_page_is_shaded(rt: HostRuntime) -> Result<(), Fail> {
+fn what_a_black_cell_refers_to_is_shaded_and_visited(rt: HostRuntime) -> Result<(), Fail> {
     let alloc = rt.alloc();
+    let long = long_store(alloc)?;
     let layouts = layouts(alloc)?;
-    let words = page(alloc, &[38, 0, 10, 10])?;
-    let mut seat = bare(alloc)?;
-    let mut grey = GreyCells::new(alloc, seat.regions())?;
-    assert!(rt; layouts.len() == 8_200);
-    assert!(rt;
-        begin(
+    for case in cases(long.as_slice()) {
+        let words = page(alloc, case.cell)?;
+        let mut seat = bare(alloc)?;
+        let mut grey = GreyCells::new(alloc, seat.regions())?;
+        assert!(rt; layouts.len() == 8_200);
+        let begins = begin(
             &mut seat,
             &mut grey,
             words.as_slice(),
             layouts.as_slice(),
-            &[0, 1_024, 1_026]
-        )
-    );
-    blacken_first(&mut seat, &mut grey);
-    assert!(rt; colours(&mut seat, &grey) == [Colour::Black, Colour::White, Colour::White]);
-    store_both(&mut seat, &mut grey);
-    assert!(rt; colours(&mut seat, &grey) == [Colour::Black, Colour::White, Colour::Grey]);
-    scan(&mut seat, &mut grey);
-    assert!(rt; colours(&mut seat, &grey) == [Colour::Black, Colour::White, Colour::Black]);
+            &[0, 1_024, 1_026],
+        );
+        assert!(rt; begins, "{}", case.name);
+        assert!(rt;
+            colours(&mut seat, &grey) == [Colour::White; 3],
+            "{}",
+            case.name
+        );
+        blacken_first(&mut seat, &mut grey);
+        change_first(&mut seat, &mut grey, case.stores);
+        assert!(rt;
+            colours(&mut seat, &grey) == case.blackened,
+            "{}",
+            case.name
+        );
+        scan(&mut seat, &mut grey);
+        assert!(rt; colours(&mut seat, &grey) == case.scanned, "{}", case.name);
+    }
     Ok(())
 }

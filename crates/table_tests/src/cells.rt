@@ -3,12 +3,13 @@ ghost use Rattle.std.specs.Prelude.{◌≡◌, ◌<◌, Some, length, slice_inde
 ghost use Rattle.std.specs.List.{list_all, range_with_len};
 ghost use Rattle.tagged_word.specs.Shapes.{shapes_most};
 ghost use Rattle.core_parts.specs.Lists.{is_in};
-ghost use Rattle.mark_world.specs.Pages.{cell_at, page_end, slots_of, target};
+ghost use Rattle.mark_world.specs.Pages.{cell_at, page_end, slots_of};
 ghost use Rattle.table_tests.specs.CellPages.{are_cells, cell_fits, is_apart, is_among, slot_fits, stands};
 ghost use Rattle.table_tests.specs.CellPages.{three_starts, HasThese};
 ghost use Rattle.table_tests.specs.OneCell.{IsBare};
 
 use core_parts::read_cell;
+use mark_world::target;
 use page_space::PAGE_WORDS;
 use shared_table::{Choice, MainSide, OwnWords};
 use tagged_word::{Reading, Word};
@@ -52,14 +53,6 @@ pub(crate) fn is_in(list: &[u64], at: u64) -> bool
     list.contains(&at)
 }
 
-/// The cell of a page that a word refers to.
-pub(crate) fn target(word: u64, old: u32) -> Option<u32>
-    ensures { result ≡ target old word }
-{
-    let at = Word(word).address()?;
-    if at < old { Some(at) } else { None }
-}
-
 /// Whether a target, if there is one, is a cell of the list.
 fn is_among(starts: &[u64], to: Option<u32>) -> bool
     ensures { result ≡ is_among starts.now to }
@@ -84,7 +77,7 @@ fn slot_fits(old: u32, words: &[u64], starts: &[u64], at: u32, cell: Reading, of
 {
     let word = word_at(words, at as u64 + offset as u64);
     let is_free = !is_slot(cell, offset);
-    is_free || is_among(starts, target(word, old))
+    is_free || is_among(starts, target(Word(word), old))
 }
 
 /// Whether another cell begins outside a cell, or is it.
@@ -149,7 +142,7 @@ pub(crate) fn fill_words(side: &mut MainSide, words: &[u64])
 {
     let counts = side.counts();
     for a in 0..counts.old {
-        side.put(a, word_at(words, a as u64));
+        side.store_owned(a, word_at(words, a as u64));
     }
 }
 

@@ -194,15 +194,8 @@ fn finish(
     } = mutator;
     let first = take_home(alloc, &mut side, count, &mut tasks[0])?;
     let second = take_home(alloc, &mut side, count, &mut tasks[1])?;
-    let mut scan = Scan {
-        side,
-        count,
-        waiting: Vec::new(alloc),
-    };
-    scan.wait_for(first.as_slice())?;
-    scan.wait_for(second.as_slice())?;
-    scan.wait_for_flags(grey.as_slice())?;
-    scan.wait_for_board()?;
+    let mut scan = Scan::new(alloc, side, count);
+    scan.wait_for_all([first.as_slice(), second.as_slice()], grey.as_slice())?;
     scan.run(words.as_slice())?;
     Ok(count_cells(&mut scan, before.as_slice(), after.as_slice(), trimmed))
 }

@@ -78,18 +78,6 @@ fn colours(side: &mut MainSide, at: u32) -> [Colour; 3]
     [shaded, blackened, side.colour(at)]
 }
 
-/// Which colours the cell has before and after two seats are lent and taken back.
-fn lent(side: &mut MainSide, at: u32) -> [Colour; 2]
-    requires { HasOneCell side.old.main at }
-{
-    let before = side.colour(at);
-    let first = side.lend();
-    let second = side.lend();
-    side.take_back(first);
-    side.take_back(second);
-    [before, side.colour(at)]
-}
-
 #[test]
 fn a_new_cell_is_black_until_the_end_of_its_cycle(rt: HostRuntime) -> Result<(), Fail> {
     let own = own_words(rt.alloc())?;
@@ -104,21 +92,6 @@ fn a_new_cell_is_black_until_the_end_of_its_cycle(rt: HostRuntime) -> Result<(),
             wait(&mut side, &own, at);
             assert!(rt; colours(&mut side, at) == [Colour::Black; 3]);
         }
-    }
-    Ok(())
-}
-
-#[test]
-fn seats_are_lent_and_come_back(rt: HostRuntime) -> Result<(), Fail> {
-    let own = own_words(rt.alloc())?;
-    let counts = Counts {
-        old: 2_048,
-        shapes: 8_200,
-    };
-    let mut side = bare(rt.alloc(), counts)?;
-    if 10 < side.counts().old {
-        begin(&mut side, &own, 10);
-        assert!(rt; lent(&mut side, 10) == [Colour::Black; 2]);
     }
     Ok(())
 }

@@ -167,6 +167,72 @@ fn run(
     Ok(Some((found, colours)))
 }
 
+/// A change before a visit, one in its middle, and whether the visit is kept.
+#[derive(Clone, Copy)]
+struct Case {
+    name: &'static str,
+    before: Change,
+    between: Change,
+    is_kept: bool,
+}
+
+impl Case {
+    /// A case in which the mutator makes the cell black before the visit, and stores two words in it.
+    fn spoiled(name: &'static str, first: (u32, u64), second: (u32, u64)) -> Case {
+        Case {
+            name,
+            before: Change::Own([first, second]),
+            between: Change::Nothing,
+            is_kept: false,
+        }
+    }
+
+    /// A case in which it makes a change in the middle of the visit.
+    fn passed(name: &'static str, between: Change, is_kept: bool) -> Case {
+        Case {
+            name,
+            before: Change::Nothing,
+            between,
+            is_kept,
+        }
+    }
+}
+
+/// The cases.
+fn cases() -> [Case; 8] {
+    let other_header = Change::Own([(2, 10), (0, 34)]);
+    let no_length = (1, u64::MAX);
+    [
+        Case::passed("no change", Change::Nothing, true),
+        Case::passed("another reference", Change::Refer, true),
+        Case::passed("an integer, another header", other_header, false),
+        Case::spoiled("a header without a shape", (0, 32_802), no_length),
+        Case::spoiled("no header", (0, TO_FIRST), no_length),
+        Case::spoiled("a store of no length", (0, 14), no_length),
+        Case::spoiled("a store past the page", (0, 14), (1, 2_047)),
+        Case::spoiled("a store of a page", (0, 14), (1, 2_046)),
+    ]
+}
+
+/// What a case comes to: what the visit does, and the colours of the three cells.
+fn expected(case: &Case) -> (Found, [Colour; 3]) {
+    let kept = Found::Kept {
+        header: 38,
+        count: 3,
+        second: TO_FIRST,
+    };
+    let found = if case.is_kept {
+        kept
+    } else {
+        Found::Dropped(Colour::Black)
+    };
+    let last = match case.between {
+        Change::Refer => Colour::Grey,
+        _ => Colour::White,
+    };
+    (found, [Colour::Black, Colour::White, last])
+}
+
 #[test]
 fn a_visit_is_dropped_where_the_mutator_made_the_cell_black(rt: HostRuntime) -> Result<(), Fail> {
     let alloc = rt.alloc();
@@ -174,67 +240,15 @@ fn a_visit_is_dropped_where_the_mutator_made_the_cell_black(rt: HostRuntime) -> 
     let layouts = padded(alloc, &LAYOUTS, 8_200)?;
     // A plain cell with two slots besides that of its property store.
     let words = page(alloc, &[38, 0, TO_FIRST, TO_SECOND])?;
-    let nothing = Change::Nothing;
-    let kept = Found::Kept {
-        header: 38,
-        count: 3,
-        second: TO_FIRST,
-    };
-    let dropped = Found::Dropped(Colour::Black);
-    let cases = [
-        ("no change", nothing, nothing, kept),
-        ("another reference", nothing, Change::Refer, kept),
-        (
-            "an integer, another header",
-            nothing,
-            Change::Own([(2, 10), (0, 34)]),
-            dropped,
-        ),
-        (
-            "a header without a shape",
-            Change::Own([(0, 32_802), (1, u64::MAX)]),
-            nothing,
-            dropped,
-        ),
-        (
-            "no header",
-            Change::Own([(0, TO_FIRST), (1, u64::MAX)]),
-            nothing,
-            dropped,
-        ),
-        (
-            "a store of no length",
-            Change::Own([(0, 14), (1, u64::MAX)]),
-            nothing,
-            dropped,
-        ),
-        (
-            "a store past the page",
-            Change::Own([(0, 14), (1, 2_047)]),
-            nothing,
-            dropped,
-        ),
-        (
-            "a store of a page",
-            Change::Own([(0, 14), (1, 2_046)]),
-            nothing,
-            dropped,
-        ),
-    ];
-    for (name, before, between, expected) in cases {
+    for case in cases() {
+        let wanted = expected(&case);
         let side = opened(alloc, &own, words.as_slice(), layouts.as_slice())?;
-        assert!(rt; side.is_some(), "{name}");
+        assert!(rt; side.is_some(), "{}", case.name);
         let Some(side) = side else {
             return Ok(());
         };
-        let result = run(alloc, side, before, between)?;
-        let last = if matches!(between, Change::Refer) {
-            Colour::Grey
-        } else {
-            Colour::White
-        };
-        let colours = [Colour::Black, Colour::White, last];
-        assert_eq!(rt; result, Some((expected, colours)), "{name}");
+        let came = run(alloc, side, case.before, case.between)?;
+        assert_eq!(rt; came, Some(wanted), "{}", case.name);
     }
     Ok(())
 }

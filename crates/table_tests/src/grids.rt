@@ -1,6 +1,6 @@
 //! Pages that are cut into cells of four words: a cycle begins with them, and what the mutator does to one of them in
 //! the open cycle.
-ghost use Rattle.std.specs.Prelude.{◌≡◌, ◌≤◌, ◌<◌, ◌+◌, ◌*◌, ◌%◌, ℕ, Contains, true, slice_index};
+ghost use Rattle.std.specs.Prelude.{◌≡◌, ◌≤◌, ◌<◌, ◌+◌, ◌*◌, ◌%◌, ℕ, Contains, true, length, slice_index};
 ghost use Rattle.tagged_word.specs.declared.word.Class.{Class};
 ghost use Rattle.tagged_word.specs.Shapes.{shapes_most};
 ghost use Rattle.tagged_word.specs.Words.{bits_of};
@@ -62,6 +62,36 @@ fn have_plain_heads(words: &[u64], count: u32) -> bool
     (0..count).all(|cell| is_plain_head(word_at(words, 4 * cell as u64)))
 }
 
+/// Whether the lists of pages have as many elements as the sizes say, and the pages have room for so many cells.
+fn have_lengths(counts: Counts, pages: Pages<'_>, count: u32) -> bool
+    ensures words { result ≡ true → length pages.entry.words.now ≡ counts.old }
+    ensures layouts { result ≡ true → length pages.entry.layouts.now ≡ counts.shapes }
+    ensures starts { result ≡ true → length pages.entry.starts.now ≡ count }
+    ensures room { result ≡ true → 4 * count ≤ counts.old }
+{
+    if pages.words.len() != counts.old as usize {
+        return false;
+    }
+    if pages.layouts.len() != counts.shapes as usize {
+        return false;
+    }
+    if pages.starts.len() != count as usize {
+        return false;
+    }
+    4 * count as u64 <= counts.old as u64
+}
+
+/// Whether the layout words of the two headers are in place.
+fn have_layouts(layouts: &[u64]) -> bool
+    ensures one_raw { result ≡ true → slice_index layouts.now 8 ≡ 8737 }
+    ensures none_raw { result ≡ true → slice_index layouts.now 9 ≡ 545 }
+{
+    if word_at(layouts, 8) != 8_737 {
+        return false;
+    }
+    word_at(layouts, 9) == 545
+}
+
 /// Whether pages of these sizes are cut into so many cells.
 pub(crate) fn are_cut_pages(counts: Counts, pages: Pages<'_>, count: u32) -> bool
     requires { counts.shapes ≡ shapes_most }
@@ -71,22 +101,10 @@ pub(crate) fn are_cut_pages(counts: Counts, pages: Pages<'_>, count: u32) -> boo
       starts = pages.entry.starts.now;
     }) counts.old count }
 {
-    if pages.words.len() != counts.old as usize {
+    if !have_lengths(counts, pages, count) {
         return false;
     }
-    if pages.layouts.len() != counts.shapes as usize {
-        return false;
-    }
-    if 4 * count as u64 > counts.old as u64 {
-        return false;
-    }
-    if word_at(pages.layouts, 8) != 8_737 {
-        return false;
-    }
-    if word_at(pages.layouts, 9) != 545 {
-        return false;
-    }
-    if pages.starts.len() != count as usize {
+    if !have_layouts(pages.layouts) {
         return false;
     }
     if !are_cut(pages.starts, count) {

@@ -44,15 +44,26 @@ fn take_cell(side: &mut MainSide, count: u32, place: u32) -> Option<u32>
 /// The main seat once no other is out, and the cells that wait to be visited.
 #[derive(Drop)]
 pub(crate) struct Scan {
-    pub(crate) side: MainSide,
-    pub(crate) count: u32,
-    pub(crate) waiting: Vec<u32>,
+    side: MainSide,
+    count: u32,
+    waiting: Vec<u32>,
     ghost grid: { IsOpenGrid side.main count },
 }
 
 impl Scan {
+    /// A scan with no cell that waits.
+    pub(crate) fn new(alloc: Global, side: MainSide, count: u32) -> Scan
+        requires { IsOpenGrid side.main count }
+    {
+        Scan {
+            side,
+            count,
+            waiting: Vec::new(alloc),
+        }
+    }
+
     /// Lets the cells at these addresses wait.
-    pub(crate) fn wait_for(&mut self, addresses: &[u32]) -> Result<(), NoMemory> {
+    fn wait_for(&mut self, addresses: &[u32]) -> Result<(), NoMemory> {
         for at in addresses {
             self.waiting.push(*at / 4)?;
         }
@@ -60,7 +71,7 @@ impl Scan {
     }
 
     /// Lets the cells wait that have a flag.
-    pub(crate) fn wait_for_flags(&mut self, flags: &[bool]) -> Result<(), NoMemory> {
+    fn wait_for_flags(&mut self, flags: &[bool]) -> Result<(), NoMemory> {
         for cell in 0..self.count {
             if is_set(flags, cell) {
                 self.waiting.push(cell)?;
@@ -70,13 +81,25 @@ impl Scan {
     }
 
     /// Lets the cells of the board wait.
-    pub(crate) fn wait_for_board(&mut self) -> Result<(), NoMemory> {
+    fn wait_for_board(&mut self) -> Result<(), NoMemory> {
         for place in 0..BOARD_WORDS {
             if let Some(cell) = take_cell(&mut self.side, self.count, place) {
                 self.waiting.push(cell)?;
             }
         }
         Ok(())
+    }
+
+    /// Lets all cells wait that are left: those of both markers' lists, those that have a flag, and those of the board.
+    pub(crate) fn wait_for_all(
+        &mut self,
+        lists: [&[u32]; 2],
+        flags: &[bool],
+    ) -> Result<(), NoMemory> {
+        self.wait_for(lists[0])?;
+        self.wait_for(lists[1])?;
+        self.wait_for_flags(flags)?;
+        self.wait_for_board()
     }
 
     /// Shades a cell, which waits then if it was white.

@@ -84,10 +84,12 @@ fn lay(seat: &mut MainSeat)
     seat.put_layout(5, 0x12);
 }
 
-/// Lends seven seats, and takes them back.
-fn lend_seven(seat: &mut MainSeat, at: u32)
+/// The colours of the cell before seven seats are lent, and after they are taken back.
+fn lend_seven(seat: &mut MainSeat, at: u32) -> [Colour; 2]
     requires { HasOneCellOpen seat.old at }
 {
+    seat.regions().sizes_fit();
+    let before = seat.colour(at);
     let first = seat.lend();
     let second = seat.lend();
     let third = seat.lend();
@@ -102,6 +104,7 @@ fn lend_seven(seat: &mut MainSeat, at: u32)
     seat.take_back(fourth);
     seat.take_back(fifth);
     seat.take_back(sixth);
+    [before, seat.colour(at)]
 }
 
 /// Adds the layout word of a plain object with one field for shape 17.
@@ -167,7 +170,7 @@ fn a_cycle_follows_another_on_a_seat(rt: HostRuntime) -> Result<(), Fail> {
     put_behind(&mut seat, 1_000);
     assert!(rt; word_at(&seat, 2_051) == Some(7) && word_at(&seat, 2_052) == Some(0));
     assert!(rt; word_at(&seat, 2_101) == Some(7) && word_at(&seat, 2_102) == Some(0));
-    lend_seven(&mut seat, 1_000);
+    assert!(rt; lend_seven(&mut seat, 1_000) == [Colour::Black; 2]);
     Ok(())
 }
 

@@ -11,7 +11,7 @@ fn put_at(side: &mut MainSide, a: u32, word: u64)
     ensures { side.new.main.phase ≡ Quiet }
 {
     if a < side.counts().old {
-        side.put(a, word);
+        side.store_owned(a, word);
     }
 }
 

@@ -142,13 +142,11 @@ fn visit_store(seat: &mut HelperSeat, table: &SharedTable, helper: &mut Helper) 
     }
 }
 
-/// What the steps of two seats come to: what was read of the list, its header and the offset of its slot; the colour
-/// that its store had then; the word that was at the place; and the colours that the two seats found.
+/// What the steps of two seats come to: what was read of the list, its header and the offset of its slot, and the
+/// colour that its store had then; the word that was at the place; and the colours that the two seats found.
 #[derive(Clone, Copy, Debug, PartialEq, Eq)]
 struct Meeting {
-    header: u64,
-    offset: u32,
-    shaded: Colour,
+    list: (u64, u32, Colour),
     word: u64,
     found: [Colour; 2],
 }
@@ -176,20 +174,15 @@ fn meet(
     let Some(3) = take_to_main(side, 1) else {
         return None;
     };
-    let (header, offset, shaded) = visit_list(seat, table, helper)?;
+    let list = visit_list(seat, table, helper)?;
     let word = side.give_board(1, 3);
     let Some(3) = take_cell(seat, table, 1) else {
         return None;
     };
-    let colour = side.blacken(3);
-    let found = visit_store(seat, table, helper)?;
-    Some(Meeting {
-        header,
-        offset,
-        shaded,
-        word,
-        found: [colour, found],
-    })
+    let by_main = side.blacken(3);
+    let by_helper = visit_store(seat, table, helper)?;
+    let found = [by_main, by_helper];
+    Some(Meeting { list, word, found })
 }
 
 /// Lends a seat for these steps.
@@ -229,9 +222,7 @@ fn two_seats_hand_cells_to_one_another_and_visit_each_once(rt: HostRuntime) -> R
         let (handed, met) = lend_for(&mut side, &table, &mut helper);
         assert_eq!(rt; handed, Some(13));
         let expected = Meeting {
-            header: 6,
-            offset: 1,
-            shaded: Colour::Grey,
+            list: (6, 1, Colour::Grey),
             word: 0,
             found: [Colour::Grey, Colour::Black],
         };

@@ -24,10 +24,10 @@ pub(crate) fn fill(side: &mut MainSide)
     requires page { 2048 ≤ side.old.main.old }
     ensures { HasTwoCells side.new.main }
 {
-    side.put(0, 6);
-    side.put(1, 13);
-    side.put(3, 14);
-    side.put(4, 0);
+    side.store_owned(0, 6);
+    side.store_owned(1, 13);
+    side.store_owned(3, 14);
+    side.store_owned(4, 0);
     side.put_layout(1, 2);
     side.put_layout(3, 4);
 }

@@ -1,6 +1,6 @@
 //! A table of one page and a nursery of 64 words, with one variable: the heap words are 2,048, 64,
 //! twice 64, 2 and 8,200 (`heap_table`).
-ghost use Rattle.std.specs.Prelude.{◌≡◌};
+ghost use Rattle.std.specs.Prelude.{◌≡◌, None};
 ghost use Rattle.heap_table.specs.Phases.{Quiet};
 
 use cell_layout::cell_at;
@@ -22,14 +22,16 @@ fn one_page() -> Regions {
     Regions::new(sizes, 1)
 }
 
-/// Puts a word of the heap, if it stands before the marks.
+/// Puts a word of the heap, if it stands before the marks, where there is no shared table.
 fn put_at(seat: &mut MainSeat, a: u32, word: u64)
-    requires { seat.old.phase ≡ Quiet }
-    ensures { seat.new.phase ≡ Quiet }
+    requires quiet { seat.old.phase ≡ Quiet }
+    requires alone { seat.old.shared ≡ None }
+    ensures quiet { seat.new.phase ≡ Quiet }
+    ensures alone { seat.new.shared ≡ None }
 {
     let _regions = seat.regions();
     if a < seat.count() {
-        seat.put(a, word);
+        seat.put_own(a, word);
     }
 }
 
@@ -80,8 +82,8 @@ fn a_new_table_is_0_and_what_is_put_and_copied_is_read_again(rt: HostRuntime) ->
     // A gap of 3 words at 3, and the layout word of gaps.
     put_at(&mut seat, 3, 30);
     put_at(&mut seat, 4, 3);
-    put_layout_at(&mut seat, 7, 8);
     put_at(&mut seat, HEAP_WORDS - 1, u64::MAX);
+    put_layout_at(&mut seat, 7, 8);
     copy_three(&mut seat);
     match cell_at(&mut seat, &one_page(), 1_000) {
         Ok(cell) => assert!(rt; cell.size == 3 && cell.length == 3),

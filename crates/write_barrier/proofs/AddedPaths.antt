@@ -1,5 +1,5 @@
 -- Paths that are added with their layout words.
-use Rattle.std.proofs.Common.{◌≡◌, ℕ, ◌+◌, List, ◌++◌, length, Option, Some, IfSome, refl, sym, ◌∙◌, ap, subst}
+use Rattle.std.proofs.Common.{◌≡◌, ◌==◌, ℕ, ◌+◌, List, ◌++◌, length, Option, Some, IfSome, refl, sym, ◌∙◌, ap, subst}
 use Rattle.std.proofs.lemmas.Option.{cond_some}
 use Rattle.tagged_word.specs.Shapes.{first_path_shape}
 use Rattle.page_space.specs.Extents.{Space, eden_start, layouts_start, marks_start}
@@ -9,7 +9,8 @@ use Rattle.object_graph.specs.Limits.{paths_most}
 use Rattle.shape_tree.specs.Shapes.{AreShapes, Leads}
 use Rattle.heap_table.specs.Seats.{Seat as TableSeat}
 use Rattle.write_barrier.specs.declared.main_side.Main.TheInside.{Inside}
-use Rattle.write_barrier.specs.Layouts.{AreLayouts, AreLayoutsBelow, HasBoth, HasBothBelow, HasFirst, PutsLayouts}
+use Rattle.write_barrier.specs.Layouts.{AreLayouts, AreLayoutsBelow, HasBoth, HasBothBelow, HasFirst, IsUnmarked}
+use Rattle.write_barrier.specs.Layouts.{PutsLayouts}
 use Rattle.write_barrier.specs.Model.{mutator_of, IsTold}
 use Rattle.write_barrier.specs.MutatorState.{Mutator}
 use Rattle.write_barrier.specs.Opening.{LaysPath}
@@ -88,5 +89,15 @@ told_again main seat paths told both puts = record {
   layouts = both.read;
   listed = listed_again main.seat seat main.grey puts.rest.shared told.listed;
   lists = bound_again main.grey puts.rest.space told.lists;
-  paid = paid_again main.seat seat main.grey puts.rest.space puts.rest.phase puts.rest.shared puts.view told.paid;
+  home = puts.rest.home ∙ told.home ∙ ap (λ (many : ℕ). many == 0) (sym puts.rest.out);
+  paid = λ mark. paid_again main.seat seat main.grey puts.rest.space puts.view
+      (told.paid (sym puts.rest.phase ∙ mark));
+  paused = λ waits. paid_again main.seat seat main.grey puts.rest.space puts.view
+      (told.paused (sym puts.rest.phase ∙ waits));
+  clean = λ quiet. let was = told.clean (sym puts.rest.phase ∙ quiet) in record {
+    out = puts.rest.out ∙ was.out;
+    listed = was.listed;
+    unmarked = subst (λ (space : Space). IfSome seat.shared (IsUnmarked (eden_start space))) (sym puts.rest.space)
+        (puts.marks (eden_start main.seat.space) was.unmarked);
+  };
 }

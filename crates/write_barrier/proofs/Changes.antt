@@ -96,7 +96,8 @@ gap_put words between new page at is within first second =
     }
 
 -- the words of a blank heap are 0
-pub blank_zero : (space : Space) (shared : Option TableId) → AreZero (heap_words (fresh space shared)) 0 (marks_start space)
+pub blank_zero : (space : Space) (shared : Option TableId)
+    → AreZero (heap_words (fresh space shared)) 0 (marks_start space)
 blank_zero space shared a from below =
     slice_get-get_or (heap_words (fresh space shared)) a 0
     (omega (arith, length-replicate {A = ℕ} (marks_start space) 0))

@@ -1,6 +1,6 @@
 -- What the seat asks of a step in an open cycle, by what is told of it.
 use Rattle.std.proofs.Common.{◌≡◌, ℕ, ◌+◌, ◌<◌, List, length, drop, Option, Some, None, slice_get, IfSome, IsTrue}
-use Rattle.std.proofs.Common.{sym, ◌∙◌, ap, subst, arith}
+use Rattle.std.proofs.Common.{◌⊎◌, inl, inr, sym, ◌∙◌, ap, subst, arith}
 use Rattle.std.specs.Prelude.{is_some}
 use Rattle.std.proofs.lemmas.List.{ext_get_or, length-take, length-drop}
 use Rattle.std.proofs.lemmas.Bool.{false≢true}
@@ -26,7 +26,7 @@ use Rattle.mark_barrier.specs.CycleSteps.{made_black}
 use Rattle.mark_barrier.specs.Paid.{StepsTo}
 use Rattle.write_barrier.specs.declared.main_side.Main.TheInside.{Inside}
 use Rattle.write_barrier.specs.Layouts.{AreLayouts, HasLayouts}
-use Rattle.write_barrier.specs.Marking.{MayPut, MayStepInCycle, blackened}
+use Rattle.write_barrier.specs.Marking.{MayPut, MayPutHeader, MayStepInCycle, blackened}
 use Rattle.write_barrier.specs.Model.{mutator_of, IsTold}
 use Rattle.write_barrier.specs.MutatorState.{Mutator, while_open}
 use Rattle.write_barrier.proofs.SeatSteps.{mutator_steps}
@@ -55,7 +55,7 @@ layouts_alike space words read paths counted long own others =
     (sym (ap (slice_get read) from_none) ∙ others shape few)))
 
 -- so the layout words of the heap are those that helpers read, where there is a shared table
-layouts_by : (space : Space) (words : List ℕ) (paths : List Path) (shared : Option Beside)
+pub layouts_by : (space : Space) (words : List ℕ) (paths : List Path) (shared : Option Beside)
     → length words ≡ marks_start space → AreLayouts words (layouts_start space) paths → IsTrue (is_some shared)
     → IfSome shared (λ beside. length beside.layouts ≡ shapes_most)
     → IfSome shared (λ beside. AreLayouts beside.layouts 0 paths)
@@ -71,30 +71,30 @@ pub record KnowsLayouts (seat : TableSeat) : Type 0 where
   pub long : IfSome seat.shared (λ beside. length beside.layouts ≡ shapes_most)
 
 -- what the mutator owes, which grey cells wait with it, and its log, play no part in what a step that stores asks
-module _ (old : ℕ) (words : List ℕ) (view : MainView) (reached : List ℕ) (made : ℕ) where
+module _ (old : ℕ) (words : List ℕ) (view : MainView) (reached : List ℕ) (made : ℕ) (dead : List ℕ) where
   pub owned_by : (layouts read : List ℕ) (at word : ℕ) → layouts ≡ read
-      → MayMain old words layouts (main_of (cycle_of view reached made)) (event.StoreOwned at word)
+      → MayMain old words layouts (main_of (cycle_of view reached made dead)) (event.StoreOwned at word)
       → MayMain old words read view (event.StoreOwned at word)
   owned_by layouts read at word same may =
       subst (λ (all : List ℕ). MayMain old words all view (event.StoreOwned at word)) same
       (record { place = may.place; alone = may.alone })
 
   pub header_by : (layouts read : List ℕ) (at word : ℕ) → layouts ≡ read
-      → MayMain old words layouts (main_of (cycle_of view reached made)) (event.StoreHeader at word)
+      → MayMain old words layouts (main_of (cycle_of view reached made dead)) (event.StoreHeader at word)
       → MayMain old words read view (event.StoreHeader at word)
   header_by layouts read at word same may =
       subst (λ (all : List ℕ). MayMain old words all view (event.StoreHeader at word)) same
       (record { place = may.place; safe = may.safe; sure = may.sure })
 
   pub slot_by : (layouts read : List ℕ) (at word : ℕ) → layouts ≡ read
-      → MayMain old words layouts (main_of (cycle_of view reached made)) (event.StoreSlot at word)
+      → MayMain old words layouts (main_of (cycle_of view reached made dead)) (event.StoreSlot at word)
       → MayMain old words read view (event.StoreSlot at word)
   slot_by layouts read at word same may =
       subst (λ (all : List ℕ). MayMain old words all view (event.StoreSlot at word)) same
       (record { place = may.place; no_head = may.no_head; slot_word = may.slot_word; born = may.born })
 
   pub new_by : (layouts read : List ℕ) (at : ℕ) → layouts ≡ read
-      → MayMain old words layouts (main_of (cycle_of view reached made)) (event.NewBlack at)
+      → MayMain old words layouts (main_of (cycle_of view reached made dead)) (event.NewBlack at)
       → MayMain old words read view (event.NewBlack at)
   new_by layouts read at same may =
       subst (λ (all : List ℕ). MayMain old words all view (event.NewBlack at)) same
@@ -123,32 +123,48 @@ module _ (main : Inside) (now : Mutator) (is : mutator_of main ≡ now) (told : 
       → MayStepInCycle (mutator_of main) (event.Blacken at)
   may_black at may page = may_here at (event.Blacken at) may page
 
-  pub owned_step : (at word : ℕ) → MayPut now at (event.StoreOwned at word) → at < now.recorded.bound
+  -- the seat may put a word as one that no helper visits by
+  owned_here : (at word : ℕ) → MayStepInCycle (mutator_of main) (event.StoreOwned at word)
       → MayStep main.seat (event.StoreOwned at word)
-  owned_step at word may page =
-      let here = may_here at (event.StoreOwned at word) may page in
-      owned_by _ _ (overview main.seat).view (overview main.seat).reached (overview main.seat).made _ _ at word
+  owned_here at word here =
+      owned_by _ _ (overview main.seat).view (overview main.seat).reached (overview main.seat).made
+      (overview main.seat).dead _ _ at word
       (same_layouts here.layouts) here.may
 
-  pub header_step : (at word : ℕ) → MayPut now at (event.StoreHeader at word) → at < now.recorded.bound
+  -- or as a header that changes safely
+  header_here : (at word : ℕ) → MayStepInCycle (mutator_of main) (event.StoreHeader at word)
       → MayStep main.seat (event.StoreHeader at word)
-  header_step at word may page =
-      let here = may_here at (event.StoreHeader at word) may page in
-      header_by _ _ (overview main.seat).view (overview main.seat).reached (overview main.seat).made _ _ at word
+  header_here at word here =
+      header_by _ _ (overview main.seat).view (overview main.seat).reached (overview main.seat).made
+      (overview main.seat).dead _ _ at word
       (same_layouts here.layouts) here.may
+
+  pub owned_step : (at word : ℕ) → MayPut now at (event.StoreOwned at word) → at < now.recorded.bound
+      → MayStep main.seat (event.StoreOwned at word)
+  owned_step at word may page = owned_here at word (may_here at (event.StoreOwned at word) may page)
+
+  pub header_step : (at word : ℕ) → MayPutHeader now at word → at < now.recorded.bound
+      → MayStep main.seat (event.StoreHeader at word) ⊎ MayStep main.seat (event.StoreOwned at word)
+  header_step at word may page =
+      elim (subst (λ (one : Mutator). MayPutHeader one at word) (sym is) may (of_page main now at is told page) mark) [
+        | inl header ↦ inl (header_here at word header)
+        | inr owned ↦ inr (owned_here at word owned)
+      ]
 
   pub slot_step : (at word : ℕ) → MayPut now at (event.StoreSlot at word) → at < now.recorded.bound
       → MayStep main.seat (event.StoreSlot at word)
   slot_step at word may page =
       let here = may_here at (event.StoreSlot at word) may page in
-      slot_by _ _ (overview main.seat).view (overview main.seat).reached (overview main.seat).made _ _ at word
+      slot_by _ _ (overview main.seat).view (overview main.seat).reached (overview main.seat).made
+      (overview main.seat).dead _ _ at word
       (same_layouts here.layouts) here.may
 
   pub new_step : (at : ℕ) → MayPut now at (event.NewBlack at) → at < now.recorded.bound
       → MayStep main.seat (event.NewBlack at)
   new_step at may page =
       let here = may_here at (event.NewBlack at) may page in
-      new_by _ _ (overview main.seat).view (overview main.seat).reached (overview main.seat).made _ _ at
+      new_by _ _ (overview main.seat).view (overview main.seat).reached (overview main.seat).made
+      (overview main.seat).dead _ _ at
       (same_layouts here.layouts) here.may
 
 -- what is known of the cycle once a cell was made black, by the layout words that helpers read, is so by the heap's

@@ -7,6 +7,7 @@ mod FirstHeaps
 mod Changes
 mod CycleSteps
 mod SeatSteps
+mod FreeStores
 mod PutLayouts
 pub mod AddedPaths
 mod RootsPut
@@ -23,3 +24,8 @@ pub mod ShownHeld
 pub mod PutRanges
 pub mod StretchTouches
 pub mod StoredRanges
+mod KnownSeats
+mod BegunCycles
+mod DroppedCycles
+mod ScannedCycles
+mod LentSeats

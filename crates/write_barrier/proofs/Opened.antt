@@ -1,5 +1,5 @@
 -- A heap with its layout words, made of a seat that was just opened.
-use Rattle.std.proofs.Common.{◌≡◌, ℕ, ◌+◌, ◌<◌, ◌≤◌, ◌⊎◌, Bool, true, false, List, length, Some, slice_get}
+use Rattle.std.proofs.Common.{◌≡◌, ℕ, ◌+◌, ◌<◌, ◌≤◌, ◌⊎◌, Bool, true, false, List, [], length, Some, slice_get}
 use Rattle.std.proofs.Common.{refl, sym, ◌∙◌, ap, subst, arith}
 use Rattle.std.specs.Prelude.{replicate, Option, IfSome, is_some}
 use Rattle.atomic_table.specs.Seated.{TableId}
@@ -16,13 +16,13 @@ use Rattle.heap_model.specs.Types.{Path}
 use Rattle.heap_table.specs.Overviews.{cycle_in, unopened}
 use Rattle.heap_table.specs.Seats.{Seat as TableSeat, IsFresh}
 use Rattle.write_barrier.specs.declared.main_side.Main.TheInside.{Inside}
-use Rattle.write_barrier.specs.Layouts.{AreLayoutsBelow, HasBoth, HasBothBelow, PutsLayouts}
+use Rattle.write_barrier.specs.Layouts.{AreLayoutsBelow, HasBoth, HasBothBelow, IsUnmarked, PutsLayouts}
 use Rattle.write_barrier.specs.Model.{mutator_of, IsTold}
 use Rattle.write_barrier.specs.MutatorState.{none_recorded}
 use Rattle.write_barrier.specs.Opening.{IsLaid}
 use Rattle.write_barrier.specs.Seats.{Seat, RestStays, fresh, table_of, told_of}
 use Rattle.write_barrier.proofs.PutLayouts.{none_below}
-use Rattle.write_barrier.proofs.SeatSteps.{listed_again}
+use Rattle.write_barrier.proofs.SeatSteps.{at_home, listed_again, quiet_paused}
 use Rattle.write_barrier.proofs.SlotCycles.{quiet_idle}
 
 -- so many words of 0
@@ -66,6 +66,15 @@ cycle_fresh : (space : Space) (shared : Bool) (seat : TableSeat) → IsFresh spa
 cycle_fresh space false seat is = ap cycle_in is
 cycle_fresh space true seat is = ap cycle_in is.1
 
+-- and of no cell with a colour
+unmarked_fresh : (space : Space) (shared : Bool) (seat : TableSeat) → IsFresh space shared seat
+    → IfSome seat.shared (IsUnmarked (eden_start space))
+unmarked_fresh space false seat is =
+    subst (λ (one : TableSeat). IfSome one.shared (IsUnmarked (eden_start space))) (sym is) tt
+unmarked_fresh space true seat is =
+    subst (λ (one : TableSeat). IfSome one.shared (IsUnmarked (eden_start space))) (sym is.1)
+    (record { colours = refl; board = refl })
+
 -- the parts of a heap that was just opened, in which the layout words were put
 pub record AreParts (space : Space) (shared : Bool) (old : TableSeat) (main : Inside) : Type 0 where
   pub fresh_is : IsFresh space shared old
@@ -77,6 +86,7 @@ pub record AreParts (space : Space) (shared : Bool) (old : TableSeat) (main : In
   pub recorded : main.remembered ≡ none_recorded space
   pub listed : is_some main.grey ≡ is_some old.shared
   pub lists : IfSome main.grey (λ grey. grey.bound ≡ eden_start space)
+  pub empty : IfSome main.grey (λ grey. grey.addresses ≡ [])
 
 -- nothing is there but the layout words
 pub is_laid : (space : Space) (shared : Bool) (old : TableSeat) (main : Inside) → AreParts space shared old main
@@ -111,10 +121,20 @@ pub is_told : (space : Space) (shared : Bool) (old : TableSeat) (main : Inside) 
 is_told space shared old main parts =
     let told = told_fresh space shared old parts.fresh_is in
     let same : main.seat.space ≡ space = parts.puts.rest.space ∙ ap (λ (seat : Seat). seat.space) told in
+    let quiet = parts.puts.rest.phase ∙ ap (λ (seat : Seat). seat.phase) told in
+    let out = parts.puts.rest.out ∙ ap (λ (seat : Seat). seat.out) told in
     record {
       bound = ap (λ (recorded : Recorded). recorded.bound) parts.recorded ∙ sym (ap eden_start same);
       layouts = parts.both.read;
       listed = listed_again old main.seat main.grey parts.puts.rest.shared parts.listed;
       lists = subst (λ (s : Space). IfSome main.grey (λ grey. grey.bound ≡ eden_start s)) (sym same) parts.lists;
-      paid = λ mark. absurd (quiet_idle (parts.puts.rest.phase ∙ ap (λ (seat : Seat). seat.phase) told) mark);
+      home = at_home (parts.puts.rest.home ∙ ap (λ (seat : Seat). seat.home) told) out;
+      paid = λ mark. absurd (quiet_idle quiet mark);
+      paused = λ waits. absurd (quiet_paused quiet waits);
+      clean = λ again. record {
+        out = out;
+        listed = parts.empty;
+        unmarked = subst (λ (s : Space). IfSome main.seat.shared (IsUnmarked (eden_start s))) (sym same)
+            (parts.puts.marks (eden_start space) (unmarked_fresh space shared old parts.fresh_is));
+      };
     }

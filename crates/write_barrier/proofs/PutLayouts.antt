@@ -20,7 +20,7 @@ use Rattle.mark_world.specs.Cycles.{Cycle, cycle_of}
 use Rattle.mark_world.specs.Conditions.{MayAddLayout}
 use Rattle.heap_table.specs.Overviews.{known}
 use Rattle.heap_table.specs.Seats.{Seat as TableSeat, Beside, with_layout, with_read_layout}
-use Rattle.write_barrier.specs.Layouts.{AreLayouts, AreLayoutsBelow, HasBoth, HasBothBelow, PutsLayouts}
+use Rattle.write_barrier.specs.Layouts.{AreLayouts, AreLayoutsBelow, HasBoth, HasBothBelow, IsUnmarked, PutsLayouts}
 use Rattle.write_barrier.specs.Seats.{told_of}
 use Rattle.write_barrier.specs.Staying.{rest_stays_itself, rest_stays_again}
 
@@ -140,7 +140,7 @@ still_shared None shape word = refl
 
 -- what is known of the cycle
 abbrev cycle_beside : Option Beside → Cycle
-cycle_beside shared = cycle_of (known shared).view (known shared).reached (known shared).made
+cycle_beside shared = cycle_of (known shared).view (known shared).reached (known shared).made (known shared).dead
 
 -- stays, where a layout word is put among those that helpers read
 still_known : (shared : Option Beside) (shape word : ℕ)
@@ -148,15 +148,28 @@ still_known : (shared : Option Beside) (shape word : ℕ)
 still_known (Some beside) shape word = refl
 still_known None shape word = refl
 
--- and so does the mutator's view
-still_seen : (shared : Option Beside) (shape word : ℕ)
-    → (known (option_map (with_read_layout shape word) shared)).view ≡ (known shared).view
-still_seen (Some beside) shape word = refl
-still_seen None shape word = refl
+-- and so does all else that is known of the table
+still_same : {X : Type 0} (of : Beside → X) (shared : Option Beside) (shape word : ℕ)
+    → ((beside : Beside) → of (with_read_layout shape word beside) ≡ of beside)
+    → of (known (option_map (with_read_layout shape word) shared)) ≡ of (known shared)
+still_same of (Some beside) shape word same = same beside
+still_same of None shape word same = refl
+
+-- colours and board too
+still_unmarked : (shared : Option Beside) (shape word many : ℕ) → IfSome shared (IsUnmarked many)
+    → IfSome (option_map (with_read_layout shape word) shared) (IsUnmarked many)
+still_unmarked (Some beside) shape word many none = record { colours = none.colours; board = none.board }
+still_unmarked None shape word many none = none
 
 -- no word has changed
 pub puts_none : (seat : TableSeat) → PutsLayouts seat seat
-puts_none seat = record { rest = rest_stays_itself (told_of seat); cycle = refl; view = refl; beside = λ a out. refl }
+puts_none seat = record {
+  rest = rest_stays_itself (told_of seat);
+  cycle = refl;
+  view = refl;
+  marks = λ many none. none;
+  beside = λ a out. refl;
+}
 
 -- one layout word more has changed
 pub puts_more : (first old new : TableSeat) (shape word : ℕ) → shape < shapes_most → PutsLayouts first old
@@ -171,9 +184,13 @@ puts_more first old new shape word few before is =
         phase = refl;
         count = length-set old.table at word;
         shared = still_shared old.shared shape word;
+        home = still_same (λ beside. beside.home) old.shared shape word (λ beside. refl);
+        out = still_same (λ beside. beside.out) old.shared shape word (λ beside. refl);
+        lent = still_same (λ beside. beside.lent) old.shared shape word (λ beside. refl);
       });
       cycle = still_known old.shared shape word ∙ before.cycle;
-      view = still_seen old.shared shape word ∙ before.view;
+      view = still_same (λ beside. beside.view) old.shared shape word (λ beside. refl) ∙ before.view;
+      marks = λ many none. still_unmarked old.shared shape word many (before.marks many none);
       beside = λ a out.
           let start : layouts_start old.space ≡ layouts_start first.space = ap layouts_start same in
           let apart : a ≢ at = omega (arith, out, start, marks_start_is first.space) in

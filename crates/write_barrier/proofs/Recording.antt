@@ -1,7 +1,7 @@
 -- How the recorded addresses are touched where the mutator puts words and forgets them.
-use Rattle.std.proofs.Common.{◌≡◌, ◌≢◌, ℕ, ◌+◌, ◌<◌, ◌≤◌, ◌⊎◌, ◌↔◌, inl, inr, true, List, Contains}
+use Rattle.std.proofs.Common.{◌≡◌, ◌≢◌, ℕ, ◌+◌, ◌<◌, ◌≤◌, ◌⊎◌, ◌↔◌, inl, inr, true, false, List, Contains}
 use Rattle.std.proofs.Common.{Some, length, slice_get, refl, sym, ◌∙◌, ap, subst, arith}
-use Rattle.std.proofs.lemmas.Bool.{cases_lt, cases_eq}
+use Rattle.std.proofs.lemmas.Bool.{cases_lt, cases_eq, false≢true}
 use Rattle.std.proofs.lemmas.Option.{same_Some}
 use Rattle.tagged_word.specs.Readings.{reference_in}
 use Rattle.page_space.specs.Extents.{eden_start, marks_start}
@@ -239,6 +239,31 @@ judged_touch main new at word of_page free is stands others =
         beyond = λ other behind there.
             let apart : other ≢ at = λ same. omega (arith, same, behind, of_page) in
             (judges.others other apart).0 there;
+      };
+    }
+
+-- a word of a page that refers to no young cell, and is not recorded, needs no judgement
+pub unjudged_touch : (main : Mutator) (at word : ℕ) → slice_get (heap_words main.seat) at ≡ Some word
+    → is_young main.recorded.bound (reference_in word) ≡ false → (Contains main.recorded.slots at → ⊥)
+    → Touches main main (touched_one Touch.Stored at)
+unjudged_touch main at word stands none out =
+    let eden = main.recorded.bound in
+    let By : ℕ → Touch → Type 0 = λ other touch. IsRecordedBy eden (heap_words main.seat) (heap_words main.seat)
+    main.recorded.slots main.recorded.slots other touch in
+    let told = refers_as_told eden at word (heap_words main.seat) stands in
+    let here : By at Touch.Stored =
+    (λ there. absurd (out there), λ refers. absurd (false≢true (sym none ∙ told.1 refers))) in
+    record {
+      free = refl;
+      bound = refl;
+      records = record {
+        each = λ other below. elim (cases_eq other at) [
+          | inl same ↦ subst (λ (one : ℕ). By one (touched_one Touch.Stored at one)) (sym same)
+              (subst (By at) (sym (touched_here Touch.Stored at)) here)
+          | inr apart ↦ subst (By other) (sym (touched_other Touch.Stored at other apart))
+              (refl, (λ there. there, λ there. there))
+        ];
+        beyond = λ other behind there. there;
       };
     }
 

@@ -1,5 +1,6 @@
 -- What the mutator is, and what it keeps, after steps on its seat.
-use Rattle.std.proofs.Common.{◌≡◌, ℕ, List, Option, Some, None, IfSome, IsTrue, refl, sym, ◌∙◌, ap, subst}
+use Rattle.std.proofs.Common.{◌≡◌, ◌↔◌, ◌==◌, ℕ, Bool, true, List, [], Contains, Option, Some, None, IfSome, IsTrue}
+use Rattle.std.proofs.Common.{eq-eqb, refl, sym, ◌∙◌, ap, subst}
 use Rattle.std.specs.Prelude.{is_some, option_map, IsSomeAnd}
 use Rattle.std.proofs.lemmas.Bool.{false≢true}
 use Rattle.atomic_table.specs.Seated.{TableId}
@@ -9,19 +10,19 @@ use Rattle.mark_world.specs.declared.views.MainView.{MainView}
 use Rattle.mark_world.specs.Cycles.{Cycle}
 use Rattle.mark_world.specs.Soundness.{AreIn}
 use Rattle.heap_table.specs.Overviews.{known, overview}
-use Rattle.heap_table.specs.Phases.{Phase, Mark}
+use Rattle.heap_table.specs.Phases.{Phase, Quiet, Mark, Paused}
 use Rattle.heap_table.specs.Seats.{Seat as TableSeat, Beside}
-use Rattle.mark_barrier.specs.Paid.{IsPaid, StepsTo}
+use Rattle.mark_barrier.specs.Paid.{IsPaid, MovesTo, StepsTo}
 use Rattle.write_barrier.specs.declared.main_side.Main.TheInside.{Inside}
 use Rattle.write_barrier.specs.Layouts.{AreLayouts}
 use Rattle.write_barrier.specs.Model.{mutator_of, without_words, IsTold}
+use Rattle.write_barrier.specs.MutatorState.{Mutator}
 use Rattle.write_barrier.specs.Seats.{Seat, table_of, told_of}
 
 -- own words play no part in what the mutator owes
 pub paid_without : {seat : TableSeat} {grey : Listing} → IsPaid seat grey → IsPaid (without_words seat) grey
 paid_without paid = record {
   lists = record {
-    mark = paid.lists.mark;
     bound = paid.lists.bound;
     listed = paid.lists.listed;
     born = paid.lists.born;
@@ -33,7 +34,6 @@ paid_without paid = record {
 pub paid_with : {seat : TableSeat} {grey : Listing} → IsPaid (without_words seat) grey → IsPaid seat grey
 paid_with paid = record {
   lists = record {
-    mark = paid.lists.mark;
     bound = paid.lists.bound;
     listed = paid.lists.listed;
     born = paid.lists.born;
@@ -52,59 +52,115 @@ pub no_list : (main : Inside) → IsTold main → main.grey ≡ None → main.se
 no_list main told none mark =
     subst (λ (list : Option Listing). IsSomeAnd list (IsPaid (without_words main.seat))) none (told.paid mark)
 
+-- the seat is in an open cycle where the mutator is
+pub in_mark : (main : Inside) (now : Mutator) → mutator_of main ≡ now → now.seat.phase ≡ Mark → main.seat.phase ≡ Mark
+in_mark main now is mark = ap (λ (one : Mutator). one.seat.phase) is ∙ mark
+
+-- what is owed in an open cycle, where there is a list
+owed_by : (seat : TableSeat) (list : Option Listing) → IsSomeAnd list (IsPaid (without_words seat))
+    → (overview seat).view.owed ≡ []
+owed_by seat (Some grey) paid = paid.owed
+owed_by seat None paid = absurd paid
+
+-- so nothing is
+pub nothing_owed : (main : Inside) → IsTold main → main.seat.phase ≡ Mark → (overview main.seat).view.owed ≡ []
+nothing_owed main told mark = owed_by main.seat main.grey (told.paid mark)
+
 -- the table of a seat that has one
-table_there : (shared : Option Beside) → IsTrue (is_some shared)
+pub table_there : (shared : Option Beside) → IsTrue (is_some shared)
     → option_map (λ (beside : Beside). beside.id) shared ≡ Some (known shared).id
 table_there (Some beside) some = refl
 table_there None some = absurd (false≢true some)
 
 -- what is said of the layout words that helpers read goes on where these stay
-read_same : (P : List ℕ → Type 0) (old new : Option Beside) → IsTrue (is_some old) → IsTrue (is_some new)
+pub read_same : (P : List ℕ → Type 0) (old new : Option Beside) → IsTrue (is_some old) → IsTrue (is_some new)
     → (known new).layouts ≡ (known old).layouts → IfSome old (λ beside. P beside.layouts)
     → IfSome new (λ beside. P beside.layouts)
 read_same P (Some a) (Some b) old new same is = subst P (sym same) is
 read_same P None new old_some new_some same is = absurd (false≢true old_some)
 read_same P (Some a) None old new same is = absurd (false≢true new)
 
+-- a cycle that is open does not wait
+pub mark_paused : {phase : Phase} → phase ≡ Mark → phase ≡ Paused → ⊥
+mark_paused mark paused = let no : Mark ≡ Paused = sym mark ∙ paused in cc
+
+-- and none waits in Quiet
+pub quiet_paused : {phase : Phase} → phase ≡ Quiet → phase ≡ Paused → ⊥
+quiet_paused quiet paused = let no : Quiet ≡ Paused = sym quiet ∙ paused in cc
+
+-- with none out colours and board are known
+pub at_home : {home : Bool} {out : ℕ} → home ≡ true → out ≡ 0 → home ≡ (out == 0)
+at_home home out = home ∙ sym (eq-eqb _ 0 out)
+
+-- nor is one open
+pub mark_quiet : {phase : Phase} → phase ≡ Mark → phase ≡ Quiet → ⊥
+mark_quiet mark quiet = let no : Mark ≡ Quiet = sym mark ∙ quiet in cc
+
 module _ (main : Inside) (seat : TableSeat) (grey : Listing) (words : List ℕ) (next : Cycle)
-    (shared : IsTrue (is_some main.seat.shared)) (steps : StepsTo main.seat seat words next) where
+    (shared : IsTrue (is_some main.seat.shared)) (moves : MovesTo main.seat seat words next) where
   -- the mutator after whole steps of marking
   abbrev pub stepped_to : Inside
   stepped_to = record main { seat = seat; grey = Some grey }
 
+  -- which shared table there is
+  named_moves : table_of seat ≡ table_of main.seat
+  named_moves =
+      table_there seat.shared moves.shared ∙ ap (λ (id : TableId). Some id) moves.id
+      ∙ sym (table_there main.seat.shared shared)
+
   -- what is told of its seat
-  told_steps : told_of seat ≡ record (told_of main.seat) { table = words }
-  told_steps =
-      let named : table_of seat ≡ table_of main.seat =
-      table_there seat.shared steps.shared ∙ ap (λ (id : TableId). Some id) steps.id
-      ∙ sym (table_there main.seat.shared shared) in
+  told_moves : told_of seat ≡ record (told_of main.seat) { table = words }
+  told_moves =
       let old : Seat = told_of main.seat in
       let new : Seat = told_of seat in
-      ap (λ (one : Space). record new { space = one }) steps.space
-      ∙ ap (λ (one : Phase). record new { space = old.space; phase = one }) steps.phase
-      ∙ ap (λ (one : List ℕ). record new { space = old.space; phase = old.phase; table = one }) steps.table
-      ∙ ap (λ (one : Option TableId). record old { table = words; shared = one }) named
+      ap (λ (one : Space). record new { space = one }) moves.space
+      ∙ ap (λ (one : Phase). record new { space = old.space; phase = one }) moves.phase
+      ∙ ap (λ (one : List ℕ). record new { space = old.space; phase = old.phase; table = one }) moves.table
+      ∙ ap (λ (one : Option TableId). record new {
+        space = old.space;
+        phase = old.phase;
+        table = words;
+        shared = one;
+      }) named_moves
+      ∙ ap (λ (one : Bool). record old { table = words; home = one; out = new.out; lent = new.lent }) moves.home
+      ∙ ap (λ (one : ℕ). record old { table = words; out = one; lent = new.lent }) moves.out
+      ∙ ap (λ (one : ℕ). record old { table = words; lent = one }) moves.lent
 
   -- the words and the cycle are others, and nothing else
-  pub mutator_steps : mutator_of stepped_to
+  pub mutator_moves : mutator_of stepped_to
       ≡ record (mutator_of main) { seat = record (told_of main.seat) { table = words }; cycle = next }
-  mutator_steps =
-      ap (λ (one : Seat). record (mutator_of stepped_to) { seat = one }) told_steps
+  mutator_moves =
+      ap (λ (one : Seat). record (mutator_of stepped_to) { seat = one }) told_moves
       ∙ ap (λ (one : Cycle). record (mutator_of main) {
         seat = record (told_of main.seat) { table = words };
         cycle = one;
-      }) steps.cycle
+      }) moves.cycle
 
   -- it keeps what it kept
-  pub told_steps_on : IsTold main → IsPaid seat grey → IsTold stepped_to
-  told_steps_on told paid = record {
-    bound = told.bound ∙ sym (ap eden_start steps.space);
-    layouts = read_same (λ all. AreLayouts all 0 main.shapes) main.seat.shared seat.shared shared steps.shared
-        steps.layouts told.layouts;
-    listed = sym steps.shared;
+  pub told_moves_on : IsTold main → main.seat.phase ≡ Mark → IsPaid seat grey → IsTold stepped_to
+  told_moves_on told mark paid = record {
+    bound = told.bound ∙ sym (ap eden_start moves.space);
+    layouts = read_same (λ all. AreLayouts all 0 main.shapes) main.seat.shared seat.shared shared moves.shared
+        moves.layouts told.layouts;
+    listed = sym moves.shared;
     lists = paid.lists.bound;
-    paid = λ mark. paid_without paid;
+    home = moves.home ∙ told.home ∙ ap (λ (many : ℕ). many == 0) (sym moves.out);
+    paid = λ again. paid_without paid;
+    paused = λ waits. absurd (mark_paused (moves.phase ∙ mark) waits);
+    clean = λ quiet. absurd (mark_quiet (moves.phase ∙ mark) quiet);
   }
+
+module _ (main : Inside) (seat : TableSeat) (grey : Listing) (words : List ℕ) (next : Cycle)
+    (shared : IsTrue (is_some main.seat.shared)) (steps : StepsTo main.seat seat words next) where
+  -- so after steps that give no cell to the board
+  pub mutator_steps : mutator_of (record main { seat = seat; grey = Some grey })
+      ≡ record (mutator_of main) { seat = record (told_of main.seat) { table = words }; cycle = next }
+  mutator_steps = mutator_moves main seat grey words next shared steps.moves
+
+  -- it keeps what it kept
+  pub told_steps_on : IsTold main → main.seat.phase ≡ Mark → IsPaid seat grey
+      → IsTold (record main { seat = seat; grey = Some grey })
+  told_steps_on told mark paid = told_moves_on main seat grey words next shared steps.moves told mark paid
 
 -- words of its own may be any
 pub told_put : (main : Inside) (words : List ℕ) → IsTold main
@@ -115,31 +171,32 @@ told_put main words told =
       layouts = told.layouts;
       listed = told.listed;
       lists = told.lists;
+      home = told.home;
       paid = told.paid;
+      paused = told.paused;
+      clean = told.clean;
     }
 
 -- there is a shared table where there is its name
-named_some : (shared : Option Beside) → is_some (option_map (λ (beside : Beside). beside.id) shared) ≡ is_some shared
+pub named_some : (shared : Option Beside)
+    → is_some (option_map (λ (beside : Beside). beside.id) shared) ≡ is_some shared
 named_some (Some beside) = refl
 named_some None = refl
 
--- a list of grey cells is right for a seat with the same phase, regions and view
-pub paid_again : (old new : TableSeat) (list : Option Listing) → new.space ≡ old.space → new.phase ≡ old.phase
-    → table_of new ≡ table_of old → (overview new).view ≡ (overview old).view
-    → (old.phase ≡ Mark → IsSomeAnd list (IsPaid (without_words old)))
-    → new.phase ≡ Mark → IsSomeAnd list (IsPaid (without_words new))
-paid_again old new None space phase named view paid mark = paid (sym phase ∙ mark)
-paid_again old new (Some grey) space phase named view paid mark =
-    let was = paid (sym phase ∙ mark) in
-    record {
-      lists = record {
-        mark = mark;
-        bound = was.lists.bound ∙ sym (ap eden_start space);
-        listed = subst (λ (one : MainView). AreIn grey.addresses one.grey) (sym view) was.lists.listed;
-        born = subst (λ (one : MainView). AreIn one.born grey.addresses) (sym view) was.lists.born;
-      };
-      owed = ap (λ (one : MainView). one.owed) view ∙ was.owed;
-    }
+-- a list of grey cells is right for a seat with the same regions and view
+pub paid_again : (old new : TableSeat) (list : Option Listing) → new.space ≡ old.space
+    → (overview new).view ≡ (overview old).view → IsSomeAnd list (IsPaid (without_words old))
+    → IsSomeAnd list (IsPaid (without_words new))
+paid_again old new None space view was = was
+paid_again old new (Some grey) space view was = record {
+  lists = record {
+    bound = was.lists.bound ∙ sym (ap eden_start space);
+    listed = subst (λ (one : MainView). (at : ℕ) → Contains grey.addresses at ↔ Contains one.grey at) (sym view)
+        was.lists.listed;
+    born = subst (λ (one : MainView). AreIn one.born grey.addresses) (sym view) was.lists.born;
+  };
+  owed = ap (λ (one : MainView). one.owed) view ∙ was.owed;
+}
 
 -- it is there where there is a shared table
 pub listed_again : (old new : TableSeat) (list : Option Listing) → table_of new ≡ table_of old

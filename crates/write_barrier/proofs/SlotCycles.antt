@@ -5,7 +5,7 @@ use Rattle.std.proofs.lemmas.Bool.{cases_lt, lt-ltb, le-ltb}
 use Rattle.page_space.specs.Extents.{eden_start}
 use Rattle.remembered_set.specs.Recorded.{Recorded}
 use Rattle.mark_world.specs.Cycles.{Cycle}
-use Rattle.mark_barrier.specs.CycleSteps.{surer}
+use Rattle.mark_barrier.specs.CycleSteps.{sure_of_target}
 use Rattle.heap_table.specs.Phases.{Phase, Quiet, Mark, Paused}
 use Rattle.write_barrier.specs.MutatorState.{Mutator, put_word, judged, while_open, cycle_after, with_slot, with_weak}
 use Rattle.mark_world.specs.declared.event.Event.{Event}
@@ -48,7 +48,7 @@ cycle_idle main at next idle = elim (cases_lt at main.recorded.bound) [
 pub young_slot : (main : Mutator) (at word : ℕ) → main.recorded.bound ≤ at
     → with_slot main at word ≡ put_word main at word
 young_slot main at word behind =
-    let next : Cycle = surer (eden_start main.seat.space) main.cycle word in
+    let next : Cycle = sure_of_target (eden_start main.seat.space) main.cycle word in
     ap (λ (one : Recorded). put_word (record main { recorded = one; cycle = cycle_after main at next }) at word)
     (judged_behind main.recorded at word behind)
     ∙ ap (λ (one : Cycle). put_word (record main { cycle = one }) at word)
@@ -65,10 +65,10 @@ young_weak main at word behind =
 pub page_slot : (main : Mutator) (at word : ℕ) → at < main.recorded.bound
     → put_word (record main {
       recorded = judged main.recorded at word;
-      cycle = while_open main.seat.phase main.cycle (surer (eden_start main.seat.space) main.cycle word);
+      cycle = while_open main.seat.phase main.cycle (sure_of_target (eden_start main.seat.space) main.cycle word);
     }) at word ≡ with_slot main at word
 page_slot main at word below =
-    let next : Cycle = surer (eden_start main.seat.space) main.cycle word in
+    let next : Cycle = sure_of_target (eden_start main.seat.space) main.cycle word in
     sym (ap (λ (one : Cycle). put_word (record main { recorded = judged main.recorded at word; cycle = one }) at word)
     (cycle_inside main at next below))
 
@@ -76,7 +76,7 @@ page_slot main at word below =
 pub weak_is_slot : (main : Mutator) (at word : ℕ) → (main.seat.phase ≡ Mark → ⊥)
     → with_weak main at word ≡ with_slot main at word
 weak_is_slot main at word idle =
-    let next : Cycle = surer (eden_start main.seat.space) main.cycle word in
+    let next : Cycle = sure_of_target (eden_start main.seat.space) main.cycle word in
     sym (ap (λ (one : Cycle). record (with_weak main at word) { cycle = one }) (cycle_idle main at next idle))
 
 -- where a step changes nothing but what is known of the cycle: behind the pages nothing changes

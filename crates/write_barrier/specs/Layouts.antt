@@ -1,11 +1,13 @@
 -- The layout words of a heap, which the mutator reads, and those of the shared table, which helpers read.
-use Rattle.std.specs.Prelude.{◌≡◌, ℕ, ◌+◌, ◌<◌, ◌≤◌, ◌⊎◌, List, ◌++◌, length, IfSome, Some, slice_get}
+use Rattle.std.specs.Prelude.{◌≡◌, ℕ, ◌+◌, ◌<◌, ◌≤◌, ◌⊎◌, List, ◌++◌, length, replicate, IfSome, Some, slice_get}
 use Rattle.tagged_word.specs.Shapes.{shapes_most}
 use Rattle.page_space.specs.Extents.{layouts_start, marks_start}
 use Rattle.heap_model.specs.Types.{Path}
 use Rattle.shape_tree.specs.ShapeLayouts.{layout_word}
+use Rattle.core_parts.specs.Boards.{empty_board}
+use Rattle.mark_world.specs.Steps.{white}
 use Rattle.heap_table.specs.Overviews.{cycle_in, overview}
-use Rattle.heap_table.specs.Seats.{Seat as TableSeat}
+use Rattle.heap_table.specs.Seats.{Seat as TableSeat, Beside}
 use Rattle.write_barrier.specs.Seats.{RestStays, heap_words, told_of}
 use Rattle.write_barrier.specs.MutatorState.{Mutator}
 
@@ -13,6 +15,11 @@ use Rattle.write_barrier.specs.MutatorState.{Mutator}
 abbrev pub AreLayouts : List ℕ → ℕ → List Path → Type 0
 AreLayouts words from paths =
     (shape : ℕ) → shape < shapes_most → slice_get words (from + shape) ≡ Some (layout_word paths shape)
+
+-- no cell of so many words has a colour, and none is on the board
+pub record IsUnmarked (many : ℕ) (beside : Beside) : Type 0 where
+  pub colours : beside.colours ≡ replicate many white
+  pub board : beside.board ≡ empty_board
 
 -- the layout words of the heap are those of the shapes, and else 0
 abbrev pub HasLayouts : Mutator → Type 0
@@ -46,10 +53,12 @@ pub record HasFirst (seat : TableSeat) (paths : List Path) (count : ℕ) : Type 
   pub counted : length first ≡ count
   pub both : HasBoth seat first
 
--- no word has changed but layout words, and what is known of the cycle has not, nor the mutator's view of it
+-- no word has changed but layout words, and what is known of the cycle has not, nor the mutator's view of it, nor
+-- colours and board
 pub record PutsLayouts (old new : TableSeat) : Type 0 where
   pub rest : RestStays (told_of old) (told_of new)
   pub cycle : cycle_in new ≡ cycle_in old
   pub view : (overview new).view ≡ (overview old).view
+  pub marks : (many : ℕ) → IfSome old.shared (IsUnmarked many) → IfSome new.shared (IsUnmarked many)
   pub beside : (a : ℕ) → (a < layouts_start old.space) ⊎ (marks_start old.space ≤ a)
       → slice_get new.table a ≡ slice_get old.table a

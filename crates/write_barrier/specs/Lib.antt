@@ -6,6 +6,7 @@ pub mod FreeCells
 pub mod Layouts
 pub mod Marking
 pub mod Model
+pub mod Cycles
 pub mod Lending
 pub mod Reading
 pub mod Opening

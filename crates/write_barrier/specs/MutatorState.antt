@@ -17,7 +17,7 @@ use Rattle.remembered_set.specs.Recorded.{Recorded, noted, forgotten}
 use Rattle.mark_world.specs.Cycles.{Cycle}
 use Rattle.heap_table.specs.Overviews.{unopened}
 use Rattle.heap_table.specs.Phases.{Phase, Quiet, Mark, Paused}
-use Rattle.mark_barrier.specs.CycleSteps.{surer}
+use Rattle.mark_barrier.specs.CycleSteps.{sure_of_target}
 use Rattle.write_barrier.specs.Seats.{Seat, RestStays, fresh, heap_words}
 use Rattle.heap_model.specs.Heaps.{Heap}
 use Rattle.heap_model.specs.Showing.{Shows}
@@ -126,7 +126,7 @@ with_weak main at word = put_word (record main { recorded = judged main.recorded
 abbrev pub with_slot : Mutator → ℕ → ℕ → Mutator
 with_slot main at word =
     record (with_weak main at word) {
-      cycle = cycle_after main at (surer (eden_start main.seat.space) main.cycle word);
+      cycle = cycle_after main at (sure_of_target (eden_start main.seat.space) main.cycle word);
     }
 
 -- so many words more are used: of eden, or of what is granted

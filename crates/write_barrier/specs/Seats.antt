@@ -1,18 +1,23 @@
 -- The seat of the thread that runs commands, as the mutator and those above it see it.
-use Rattle.std.specs.Prelude.{◌≡◌, ℕ, List, length, replicate, Option, option_map}
+use Rattle.std.specs.Prelude.{◌≡◌, ◌+◌, ◌-◌, ◌==◌, ℕ, Bool, true, false, List, length, replicate, Option, option_map}
 use Rattle.atomic_table.specs.Seated.{TableId}
 use Rattle.page_space.specs.Extents.{Space, marks_start}
 use Rattle.heap_table.specs.Phases.{Phase, Quiet}
+use Rattle.heap_table.specs.Overviews.{known}
 use Rattle.heap_table.specs.Seats.{Seat as TableSeat, Beside}
 
 -- The regions of the heap, the phase, the words before the marks, and which shared table there is, which helpers read,
--- if there is one. Its words of pages are those of the heap, and its layout words those of the shapes. What else the
--- table has is not told.
+-- if there is one. Its words of pages are those of the heap, and its layout words those of the shapes. Then whether its
+-- colours and its board are known, how many seats are out, and how many were ever lent. A heap without a shared table
+-- is at home, with no seat out. What else the table has is not told.
 pub record Seat : Type 0 where
   pub space : Space
   pub phase : Phase
   pub table : List ℕ
   pub shared : Option TableId
+  pub home : Bool
+  pub out : ℕ
+  pub lent : ℕ
 
 -- the words that stand before the marks: pages, eden, segments, roots and layout words; the table has these alone
 abbrev pub heap_words : Seat → List ℕ
@@ -24,17 +29,42 @@ table_of seat = option_map (λ (beside : Beside). beside.id) seat.shared
 
 -- what is told of a seat at the table of a heap's words
 abbrev pub told_of : TableSeat → Seat
-told_of seat =
-    record { space = seat.space; phase = seat.phase; table = seat.table; shared = table_of seat }
+told_of seat = record {
+  space = seat.space;
+  phase = seat.phase;
+  table = seat.table;
+  shared = table_of seat;
+  home = (known seat.shared).home;
+  out = (known seat.shared).out;
+  lent = (known seat.shared).lent;
+}
 
--- all words are 0, the phase is quiet, and this is the shared table, if there is one
+-- all words are 0, the phase is quiet, this is the shared table, if there is one, and no seat was ever lent
 abbrev pub fresh : Space → Option TableId → Seat
-fresh space shared =
-    record { space = space; phase = Quiet; table = replicate (marks_start space) 0; shared = shared }
+fresh space shared = record {
+  space = space;
+  phase = Quiet;
+  table = replicate (marks_start space) 0;
+  shared = shared;
+  home = true;
+  out = 0;
+  lent = 0;
+}
 
--- The regions, the phase, how many heap words there are, and which shared table there is, stay.
+-- The regions, the phase, how many heap words there are, which shared table there is, and its seats, stay.
 pub record RestStays (old new : Seat) : Type 0 where
   pub space : new.space ≡ old.space
   pub phase : new.phase ≡ old.phase
   pub count : length new.table ≡ length old.table
   pub shared : new.shared ≡ old.shared
+  pub home : new.home ≡ old.home
+  pub out : new.out ≡ old.out
+  pub lent : new.lent ≡ old.lent
+
+-- one seat more is out, so colours and board are not known
+abbrev pub seat_lent : Seat → Seat
+seat_lent seat = record seat { home = false; out = seat.out + 1; lent = seat.lent + 1 }
+
+-- one seat fewer is out, and colours and board are known if it was the last one
+abbrev pub seat_back : Seat → Seat
+seat_back seat = record seat { home = seat.out == 1; out = seat.out - 1 }

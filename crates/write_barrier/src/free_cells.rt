@@ -5,10 +5,9 @@ ghost use Rattle.page_space.specs.Sizes.{page_words};
 ghost use Rattle.page_space.specs.Extents.{marks_start};
 ghost use Rattle.free_runs.specs.FreeRuns.{AreFree, FitsNowhere, IsBehind, LiesIn, TakesFront, longest_of, row_of};
 ghost use Rattle.remembered_set.specs.Recorded.{HasNoneFrom, IsNextRecorded};
-ghost use Rattle.heap_table.specs.Phases.{Mark};
 ghost use Rattle.write_barrier.specs.Seats.{RestStays, heap_words};
 ghost use Rattle.heap_model.specs.Remembered.{Touch};
-ghost use Rattle.write_barrier.specs.Marking.{MayFill};
+ghost use Rattle.write_barrier.specs.Marking.{MayPutFree};
 ghost use Rattle.write_barrier.specs.FreeCells.{with_free_cell};
 ghost use Rattle.write_barrier.specs.Recording.{Touches, touched};
 
@@ -93,7 +92,7 @@ impl Main {
     /// more. Nothing is recorded of them.
     #[inline]
     pub fn put_free_cell(&mut self, at: u32, count: u32)
-        requires quiet { MayFill self.old at }
+        requires may_store { MayPutFree self.old at count }
         requires within { at + count ≤ marks_start self.old.seat.space }
         ensures beside { RestStays self.old.seat self.new.seat }
         ensures paths { self.new.paths ≡ self.old.paths }
@@ -137,7 +136,7 @@ impl Main {
     /// The same of words of a page.
     #[inline(never)]
     fn put_free_in_page(&mut self, at: u32, count: u32)
-        requires quiet { self.old.seat.phase ≡ Mark → ⊥ }
+        requires may_store { MayPutFree self.old at count }
         requires within { at + count ≤ marks_start self.old.seat.space }
         ensures beside { RestStays self.old.seat self.new.seat }
         ensures paths { self.new.paths ≡ self.old.paths }

@@ -19,15 +19,31 @@ impl Main {
         ensures published { self.new ≡ with_published self.old a }
         ensures same { (self.old.seat.phase ≡ Mark → ⊥) → self.new ≡ self.old }
     {
+        // Other calls for the cell make this test too, so it comes first.
         if self.remembered.covers(a) {
             self.publish_in_page(a);
         }
     }
 
     /// The same of a cell of a page.
+    #[inline(always)]
+    fn publish_in_page(&mut self, a: u32)
+        requires may_store { MayPut self.old a (event.NewBlack a) }
+        requires of_page { a < self.old.recorded.bound }
+        ensures { let next = published self.old.cycle a in
+            self.new ≡ record self.old { cycle = while_open self.old.seat.phase self.old.cycle next } }
+    {
+        // No cycle is open where there is no shared table.
+        self.seat.layouts_fit();
+        if self.seat.is_shared() {
+            self.publish_to_helpers(a);
+        }
+    }
+
+    /// The same where there is a shared table.
     #[cold]
     #[inline(never)]
-    fn publish_in_page(&mut self, a: u32)
+    fn publish_to_helpers(&mut self, a: u32)
         requires may_store { MayPut self.old a (event.NewBlack a) }
         requires of_page { a < self.old.recorded.bound }
         ensures { let next = published self.old.cycle a in
@@ -57,9 +73,23 @@ impl Main {
     }
 
     /// The same of a cell of a page.
+    #[inline(always)]
+    fn blacken_in_page(&mut self, cell: u32)
+        requires may_store { MayPut self.old cell (event.Blacken cell) }
+        requires of_page { cell < self.old.recorded.bound }
+        ensures { let next = blackened self.old cell in
+            self.new ≡ record self.old { cycle = while_open self.old.seat.phase self.old.cycle next } }
+    {
+        self.seat.layouts_fit();
+        if self.seat.is_shared() {
+            self.blacken_for_helpers(cell);
+        }
+    }
+
+    /// The same where there is a shared table.
     #[cold]
     #[inline(never)]
-    fn blacken_in_page(&mut self, cell: u32)
+    fn blacken_for_helpers(&mut self, cell: u32)
         requires may_store { MayPut self.old cell (event.Blacken cell) }
         requires of_page { cell < self.old.recorded.bound }
         ensures { let next = blackened self.old cell in

@@ -1,5 +1,5 @@
 //! How a heap is opened: into words of 0 goes what is not 0.
-ghost use Rattle.std.specs.Prelude.{◌≡◌, ℕ, ◌+◌, ◌*◌, ◌<◌, Bool, slice_get, IfOk, IfSome, is_some};
+ghost use Rattle.std.specs.Prelude.{◌≡◌, ℕ, ◌+◌, ◌*◌, ◌<◌, Bool, [], slice_get, IfOk, IfSome, is_some};
 ghost use Rattle.page_space.specs.Sizes.{page_words};
 ghost use Rattle.page_space.specs.Extents.{eden_start, roots_start, layouts_start};
 ghost use Rattle.object_graph.specs.Graphs.{start};
@@ -30,6 +30,7 @@ use tagged_word::{Header, NoMemory, Word, odd, shape};
 fn list_for(alloc: Global, seat: &MainSeat, regions: Regions) -> Result<Option<GreyCells>, NoMemory>
     ensures listed { IfOk result (λ grey. is_some grey ≡ is_some seat.now.shared) }
     ensures bound { IfOk result (λ grey. IfSome grey (λ list. list.bound ≡ eden_start regions)) }
+    ensures empty { IfOk result (λ grey. IfSome grey (λ list. list.addresses ≡ [])) }
 {
     if seat.is_shared() {
         let grey = GreyCells::new(alloc, regions)?;
@@ -100,8 +101,8 @@ impl Main {
             shape: shape::GAP,
             object: 0,
         };
-        self.put(at, header.word().0);
-        self.put(at + LENGTH, PAGE_WORDS as u64);
+        self.put_owned(at, header.word().0);
+        self.put_owned(at + LENGTH, PAGE_WORDS as u64);
     }
 
     /// Makes each page one gap.

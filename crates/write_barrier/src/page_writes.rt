@@ -3,9 +3,9 @@
 ghost use Rattle.std.specs.Prelude.{◌≡◌, ◌<◌, slice_set};
 ghost use Rattle.page_space.specs.Extents.{eden_start, marks_start};
 ghost use Rattle.mark_world.specs.declared.event.Event.TheVariants as event;
-ghost use Rattle.mark_barrier.specs.CycleSteps.{surer};
+ghost use Rattle.mark_barrier.specs.CycleSteps.{sure_of_target};
 ghost use Rattle.write_barrier.specs.Seats.{heap_words};
-ghost use Rattle.write_barrier.specs.Marking.{MayPut};
+ghost use Rattle.write_barrier.specs.Marking.{MayPut, MayPutHeader};
 ghost use Rattle.write_barrier.specs.MutatorState.{put_word, while_open, with_slot, with_weak, with_word};
 
 use crate::main_side::Main;
@@ -15,7 +15,7 @@ use tagged_word::Word;
 impl Main {
     /// Puts a word in a page where no helper reads one that it visits by. Nothing is recorded.
     #[inline(always)]
-    fn put_owned(&mut self, a: u32, word: u64)
+    pub(crate) fn put_owned(&mut self, a: u32, word: u64)
         requires may_store { MayPut self.old a (event.StoreOwned a word) }
         requires within { a < marks_start self.old.seat.space }
         requires of_page { a < self.old.recorded.bound }
@@ -24,28 +24,20 @@ impl Main {
         // What helpers read of layouts is what the mutator reads.
         self.seat.layouts_fit();
         self.addresses_fit();
-        if self.seat.phase() == Phase::Mark {
-            self.seat.store_owned(a, word);
-        } else {
-            self.seat.put(a, word);
-        }
+        self.seat.store_owned(a, word);
     }
 
     /// The same of a header.
     #[inline(always)]
     fn put_header(&mut self, a: u32, word: u64)
-        requires may_store { MayPut self.old a (event.StoreHeader a word) }
+        requires may_store { MayPutHeader self.old a word }
         requires within { a < marks_start self.old.seat.space }
         requires of_page { a < self.old.recorded.bound }
         ensures { self.new ≡ put_word self.old a word }
     {
         self.seat.layouts_fit();
         self.addresses_fit();
-        if self.seat.phase() == Phase::Mark {
-            self.seat.store_header(a, word);
-        } else {
-            self.seat.put(a, word);
-        }
+        self.seat.store_header(a, word);
     }
 
     /// Puts a value in a slot of a page. In an open cycle its target is shaded, if it is one of a page.
@@ -54,7 +46,27 @@ impl Main {
         requires may_store { MayPut self.old slot (event.StoreSlot slot value.0) }
         requires within { slot < marks_start self.old.seat.space }
         requires of_page { slot < self.old.recorded.bound }
-        ensures { let cycle = surer (eden_start self.old.seat.space) self.old.cycle value.0 in
+        ensures { let cycle = sure_of_target (eden_start self.old.seat.space) self.old.cycle value.0 in
+            let next = while_open self.old.seat.phase self.old.cycle cycle in
+            self.new ≡ put_word (record self.old { cycle = next }) slot value.0 }
+    {
+        // No cycle is open where there is no shared table.
+        self.seat.layouts_fit();
+        if self.seat.is_shared() {
+            self.share_slot(slot, value);
+        } else {
+            self.seat.put_own(slot, value.0);
+        }
+    }
+
+    /// The same where there is a shared table.
+    #[cold]
+    #[inline(never)]
+    fn share_slot(&mut self, slot: u32, value: Word)
+        requires may_store { MayPut self.old slot (event.StoreSlot slot value.0) }
+        requires within { slot < marks_start self.old.seat.space }
+        requires of_page { slot < self.old.recorded.bound }
+        ensures { let cycle = sure_of_target (eden_start self.old.seat.space) self.old.cycle value.0 in
             let next = while_open self.old.seat.phase self.old.cycle cycle in
             self.new ≡ put_word (record self.old { cycle = next }) slot value.0 }
     {
@@ -66,13 +78,12 @@ impl Main {
             };
             grey.store(&mut self.seat, slot, value);
         } else {
-            self.seat.put(slot, value.0);
+            self.seat.store_owned(slot, value.0);
         }
     }
 
     /// Puts a word in a page: one that is no slot of a cell. Nothing is recorded of it any more.
-    #[cold]
-    #[inline(never)]
+    #[inline(always)]
     pub(crate) fn write_in_page(&mut self, a: u32, word: u64)
         requires may_store { MayPut self.old a (event.StoreOwned a word) }
         requires within { a < marks_start self.old.seat.space }
@@ -86,10 +97,9 @@ impl Main {
     }
 
     /// Puts a header in a page. Nothing is recorded of it any more.
-    #[cold]
-    #[inline(never)]
+    #[inline(always)]
     pub(crate) fn set_header_in_page(&mut self, at: u32, word: u64)
-        requires may_store { MayPut self.old at (event.StoreHeader at word) }
+        requires may_store { MayPutHeader self.old at word }
         requires within { at < marks_start self.old.seat.space }
         requires of_page { at < self.old.recorded.bound }
         ensures written { self.new ≡ with_word self.old at word }
@@ -101,8 +111,7 @@ impl Main {
     }
 
     /// Puts a value in a slot of a page, and judges it.
-    #[cold]
-    #[inline(never)]
+    #[inline]
     pub(crate) fn store_in_page(&mut self, slot: u32, value: Word)
         requires may_store { MayPut self.old slot (event.StoreSlot slot value.0) }
         requires within { slot < marks_start self.old.seat.space }
@@ -116,8 +125,7 @@ impl Main {
     }
 
     /// Puts a value in a slot of a page that marking never visits, and judges it.
-    #[cold]
-    #[inline(never)]
+    #[inline]
     pub(crate) fn store_weak_in_page(&mut self, at: u32, value: Word)
         requires may_store { MayPut self.old at (event.StoreOwned at value.0) }
         requires within { at < marks_start self.old.seat.space }

@@ -8,27 +8,14 @@ ghost use Rattle.page_space.specs.Extents.{eden_start, marks_start};
 ghost use Rattle.mark_world.specs.declared.event.Event.TheVariants as event;
 ghost use Rattle.heap_table.specs.Phases.{Mark};
 ghost use Rattle.write_barrier.specs.Seats.{heap_words};
-ghost use Rattle.write_barrier.specs.Marking.{MayPut};
-ghost use Rattle.write_barrier.specs.MutatorState.{MayStore, put_word, forgets, is_young, judged};
+ghost use Rattle.write_barrier.specs.Marking.{MayPut, MayPutHeader};
+ghost use Rattle.write_barrier.specs.MutatorState.{put_word, forgets, is_young, judged};
 ghost use Rattle.write_barrier.specs.MutatorState.{with_slot, with_weak, with_word};
 
 use crate::main_side::Main;
 use tagged_word::{Header, Word};
 
 impl Main {
-    /// Puts a word at an address before the marks: in the shared table too, where it is one of a page. Nothing is
-    /// recorded.
-    #[inline(always)]
-    pub(crate) fn put(&mut self, a: u32, word: u64)
-        requires may_store { MayStore self.old }
-        requires within { a < marks_start self.old.seat.space }
-        ensures put { self.new ≡ put_word self.old a word }
-        ensures heap { let words = heap_words self.old.seat in
-            heap_words self.new.seat ≡ slice_set words a word }
-    {
-        self.seat.put(a, word);
-    }
-
     /// Puts a word behind all pages, and before the marks: among the own ones alone.
     #[inline(always)]
     pub(crate) fn put_own(&mut self, a: u32, word: u64)
@@ -179,7 +166,7 @@ impl Main {
     /// Puts the header of a cell at an address. No other word changes.
     #[inline(always)]
     pub fn set_header(&mut self, a: u32, header: Header)
-        requires may_store { MayPut self.old a (event.StoreHeader a (header_bits header)) }
+        requires may_store { MayPutHeader self.old a (header_bits header) }
         requires within { a < marks_start self.old.seat.space }
         requires is { IsHeader header }
         ensures written { self.new ≡ with_word self.old a (header_bits header) }

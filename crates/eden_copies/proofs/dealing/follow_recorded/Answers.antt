@@ -1,11 +1,10 @@
 -- The next recorded slot is followed, if its number is dealt.
-use Rattle.std.proofs.Common.{◌≡◌, ◌∙◌, ℕ, ◌+◌, ◌-◌, ◌≤◌, Some, length, subst, arith}
-use Rattle.std.specs.List.{slice_get}
-use Rattle.eden_copies.specs.Eden.{Deal, deal_of, outer_slots}
+use Rattle.std.proofs.Common.{◌≡◌, ◌∙◌, ℕ, ◌+◌, ◌-◌, ◌≤◌, length, subst, arith}
+use Rattle.eden_copies.specs.Eden.{Deal, deal_of}
 use Rattle.eden_copies.specs.Copied.{IsDealing}
 use Rattle.eden_copies.proofs.KnownCells.{eden_before_marks}
 use Rattle.eden_copies.proofs.Stepping.{goes_again}
-use Rattle.eden_copies.proofs.DealtSlots.{AreSplit, recorded_slot, next_is, split_behind, split_over}
+use Rattle.eden_copies.proofs.DealtSlots.{AreSplit, next_outer, split_behind, split_over}
 use Rattle.eden_copies.proofs.DealtSlots.{may_deal, deals, skips}
 use Rattle.eden_copies.proofs.dealing.follow_recorded.Goals as goal
 use Rattle.eden_copies.proofs.dealing.follow_recorded.Goals.{then-number-every, else-number-every}
@@ -15,18 +14,11 @@ follow_slot-requires-clause-may g c =
     let own = c.args.words.now in
     let recorded = c.args.recorded.now in
     let inv = c.recorded.invariant in
-    let number : ℕ = c.recorded.number in
-    let slot : ℕ = c.in-Some.slot in
-    let count : ℕ = number - own.space.variables in
-    let next = next_is recorded c.recorded.from count slot inv.split c.in-Some.ensures.ascending
-    c.in-Some.ensures.next in
-    let here : own.space.variables + count ≡ number = omega (arith, inv.behind) in
-    let stands : slice_get (outer_slots own.space recorded.slots) number ≡ Some slot =
-    subst (λ (n : ℕ). slice_get (outer_slots own.space recorded.slots) n ≡ Some slot) here
-    (recorded_slot own.space recorded.slots count slot next.0 next.1) in
-    may_deal own (deal_of recorded.slots c.args.first c.args.every) number c.recorded.worker c.recorded.seat inv.dealing
-    c.requires.may c.count-count.ensures.counted (inv.goes.most ∙ c.requires.ready.most) slot stands
-    c.if-number-every.true
+    let next = next_outer own recorded c.recorded.from c.recorded.number c.in-Some.slot inv.split
+    c.in-Some.ensures.ascending c.in-Some.ensures.next inv.behind in
+    may_deal own (deal_of recorded.slots c.args.first c.args.every) c.recorded.number c.recorded.worker c.recorded.seat
+    inv.dealing c.requires.may c.count-count.ensures.counted (inv.goes.most ∙ c.requires.ready.most) c.in-Some.slot
+    next.stands c.if-number-every.true
 
 pub follow_slot-requires-clause-there : goal.follow_slot-requires-clause-there
 follow_slot-requires-clause-there g c =
@@ -43,23 +35,19 @@ recorded-preserved g c =
     let number : ℕ = c.recorded.number in
     let slot : ℕ = c.in-Some.slot in
     let count : ℕ = number - own.space.variables in
-    let next = next_is recorded c.recorded.from count slot inv.split c.in-Some.ensures.ascending
-    c.in-Some.ensures.next in
-    let here : own.space.variables + count ≡ number = omega (arith, inv.behind) in
-    let stands : slice_get (outer_slots own.space recorded.slots) number ≡ Some slot =
-    subst (λ (n : ℕ). slice_get (outer_slots own.space recorded.slots) n ≡ Some slot) here
-    (recorded_slot own.space recorded.slots count slot next.0 next.1) in
+    let next = next_outer own recorded c.recorded.from number slot inv.split c.in-Some.ensures.ascending
+    c.in-Some.ensures.next inv.behind in
     let more : count + 1 ≡ number + 1 - own.space.variables = omega (arith, inv.behind) in
     let split : AreSplit recorded.slots (slot + 1) (number + 1 - own.space.variables) =
     subst (AreSplit recorded.slots (slot + 1)) more
-    (split_behind recorded.slots c.recorded.from count slot inv.split c.in-Some.ensures.ascending next.0 next.1
+    (split_behind recorded.slots c.recorded.from count slot inv.split c.in-Some.ensures.ascending next.inside next.is
     c.in-Some.ensures.next.not_below) in
     let behind : own.space.variables ≤ number + 1 = omega (arith, inv.behind) in
     let below : slot + 1 ≤ recorded.bound = omega (arith, c.in-Some.ensures.below) in
     elim c.if-number-every.branch [
       | then-number-every w ↦
           let step = deals own deal number worker seat inv.dealing c.requires.may c.count-count.ensures.counted
-          (inv.goes.most ∙ c.requires.ready.most) slot stands w.if-number-every.true w.follow_slot.new.worker
+          (inv.goes.most ∙ c.requires.ready.most) slot next.stands w.if-number-every.true w.follow_slot.new.worker
           w.follow_slot.new.seat w.follow_slot.ensures.now w.follow_slot.ensures.followed in
           rw w.worker-is (rw w.seat-is (record {
             dealing = step.dealing;

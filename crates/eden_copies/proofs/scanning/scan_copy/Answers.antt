@@ -1,110 +1,71 @@
 -- Each offset of the copy is a slot, which is followed, or is passed over.
-use Rattle.std.proofs.Common.{◌≡◌, ◌∙◌, ℕ, ◌+◌, ◌<◌, List, refl, sym, subst, arith, rules}
+use Rattle.std.proofs.Common.{◌≡◌, ◌∙◌, ℕ, ◌+◌, ◌<◌, List, sym, subst, arith, rules}
 use Rattle.std.specs.List.{Contains}
 use Rattle.std.proofs.lemmas.Bool.{false≢true}
 use Rattle.eden_copies.specs.Eden.{Deal, size_in, slots_in, MayCopy}
 use Rattle.eden_copies.specs.Copied.{IsCopying}
-use Rattle.eden_copies.proofs.Stepping.{goes_again, room_fits}
-use Rattle.eden_copies.proofs.ScannedSlots.{slot_within, passes_offset}
-use Rattle.eden_copies.proofs.CopySteps.{Scanned, in_more, word_there, left_fits, may_scan, scans}
+use Rattle.eden_copies.proofs.Stepping.{goes_again}
+use Rattle.eden_copies.proofs.ScannedSlots.{passes_offset}
+use Rattle.eden_copies.proofs.CopySteps.{Scanned, at_slot, in_more, scans}
 use Rattle.eden_copies.proofs.scanning.scan_copy.Goals as goal
 use Rattle.eden_copies.proofs.scanning.scan_copy.Goals.{then-is_scavenge_slot, else-is_scavenge_slot}
 
 pub overflow_add-home : goal.overflow_add-home
 overflow_add-home g c =
     let (deal, may, begun) = c.requires.copying in
-    let own = c.args.words.now in
-    let goes = c.loop-offset.invariant.goes in
-    let among = in_more c.args.worker.now c.loop-offset.worker c.args.seat.now c.loop-offset.seat c.args.home goes
-    c.requires.among in
-    let low : c.loop-offset.offset < size_in own c.args.home.from =
-    omega (arith, c.loop-offset-test.true, c.known_cell-cell.ensures.size) in
+    let at = at_slot c.args.words.now deal c.args.home c.loop-offset.offset c.args.worker.now c.loop-offset.worker
+    c.args.seat.now c.loop-offset.seat may c.count-count.ensures.counted c.requires.ready.most
+    c.loop-offset.invariant.goes (c.loop-offset.invariant.copying deal may begun) c.requires.among
+    (omega (arith, c.loop-offset-test.true, c.known_cell-cell.ensures.size)) in
     let range : c.count-count.result < 4294967296 = search rules in
-    omega (
-      arith,
-      range,
-      c.count-count.ensures.count,
-      word_there own deal c.args.home c.loop-offset.offset c.loop-offset.worker c.loop-offset.seat may
-          c.count-count.ensures.counted (goes.most ∙ c.requires.ready.most)
-          (c.loop-offset.invariant.copying deal may begun) among low,
-    )
+    omega (arith, range, c.count-count.ensures.count, at.there)
 
 pub overflow_add-home-then-is_scavenge_slot : goal.overflow_add-home-then-is_scavenge_slot
 overflow_add-home-then-is_scavenge_slot g c =
     let (deal, may, begun) = c.requires.copying in
-    let own = c.args.words.now in
+    let at = at_slot c.args.words.now deal c.args.home c.loop-offset.offset c.args.worker.now c.loop-offset.worker
+    c.args.seat.now c.loop-offset.seat may c.count-count.ensures.counted c.requires.ready.most
+    c.loop-offset.invariant.goes (c.loop-offset.invariant.copying deal may begun) c.requires.among
+    (omega (arith, c.loop-offset-test.true, c.known_cell-cell.ensures.size)) in
     let goes = c.loop-offset.invariant.goes in
-    let among = in_more c.args.worker.now c.loop-offset.worker c.args.seat.now c.loop-offset.seat c.args.home goes
-    c.requires.among in
-    let low : c.loop-offset.offset < size_in own c.args.home.from =
-    omega (arith, c.loop-offset-test.true, c.known_cell-cell.ensures.size) in
-    let copying = c.loop-offset.invariant.copying deal may begun in
-    omega (
-      arith,
-      (slot_within own deal c.args.home c.loop-offset.offset c.loop-offset.worker c.loop-offset.seat copying among low
-          (c.args.home.to + c.loop-offset.offset + 1) refl).1,
-      room_fits own deal (c.args.home.to + c.loop-offset.offset) c.loop-offset.worker c.loop-offset.seat may
-          c.count-count.ensures.counted (goes.most ∙ c.requires.ready.most) copying,
-      goes.start,
-      goes.most,
-      c.requires.ready.fits,
-    )
+    omega (arith, at.inside, at.fits, goes.start, goes.most, c.requires.ready.fits)
 
 pub scan_slot-requires-clause-may : goal.scan_slot-requires-clause-may
 scan_slot-requires-clause-may g c =
     let (deal, may, begun) = c.requires.copying in
-    let own = c.args.words.now in
-    let goes = c.loop-offset.invariant.goes in
-    let among = in_more c.args.worker.now c.loop-offset.worker c.args.seat.now c.loop-offset.seat c.args.home goes
-    c.requires.among in
-    let low : c.loop-offset.offset < size_in own c.args.home.from =
-    omega (arith, c.loop-offset-test.true, c.known_cell-cell.ensures.size) in
-    let visited : Contains (slots_in own c.args.home.from) c.loop-offset.offset =
-    subst (λ (offsets : List ℕ). Contains offsets c.loop-offset.offset) c.known_cell-cell.ensures.slots
-    (c.is_scavenge_slot.ensures.0 c.if-is_scavenge_slot.true) in
-    may_scan own deal c.args.home c.loop-offset.offset c.loop-offset.worker c.loop-offset.seat may
-    c.count-count.ensures.counted (goes.most ∙ c.requires.ready.most) (c.loop-offset.invariant.copying deal
-    may begun) among
-    low visited
+    let at = at_slot c.args.words.now deal c.args.home c.loop-offset.offset c.args.worker.now c.loop-offset.worker
+    c.args.seat.now c.loop-offset.seat may c.count-count.ensures.counted c.requires.ready.most
+    c.loop-offset.invariant.goes (c.loop-offset.invariant.copying deal may begun) c.requires.among
+    (omega (arith, c.loop-offset-test.true, c.known_cell-cell.ensures.size)) in
+    at.may (subst (λ (offsets : List ℕ). Contains offsets c.loop-offset.offset) c.known_cell-cell.ensures.slots
+    (c.is_scavenge_slot.ensures.0 c.if-is_scavenge_slot.true))
 
 pub scan_slot-requires-clause-there : goal.scan_slot-requires-clause-there
 scan_slot-requires-clause-there g c =
     let (deal, may, begun) = c.requires.copying in
-    let own = c.args.words.now in
-    let goes = c.loop-offset.invariant.goes in
-    let among = in_more c.args.worker.now c.loop-offset.worker c.args.seat.now c.loop-offset.seat c.args.home goes
-    c.requires.among in
-    let low : c.loop-offset.offset < size_in own c.args.home.from =
-    omega (arith, c.loop-offset-test.true, c.known_cell-cell.ensures.size) in
-    word_there own deal c.args.home c.loop-offset.offset c.loop-offset.worker c.loop-offset.seat may
-    c.count-count.ensures.counted (goes.most ∙ c.requires.ready.most) (c.loop-offset.invariant.copying deal
-    may begun) among
-    low
+    let at = at_slot c.args.words.now deal c.args.home c.loop-offset.offset c.args.worker.now c.loop-offset.worker
+    c.args.seat.now c.loop-offset.seat may c.count-count.ensures.counted c.requires.ready.most
+    c.loop-offset.invariant.goes (c.loop-offset.invariant.copying deal may begun) c.requires.among
+    (omega (arith, c.loop-offset-test.true, c.known_cell-cell.ensures.size)) in
+    at.there
 
 pub scan_slot-requires-clause-ends : goal.scan_slot-requires-clause-ends
 scan_slot-requires-clause-ends g c =
     let (deal, may, begun) = c.requires.copying in
-    let own = c.args.words.now in
-    let among = in_more c.args.worker.now c.loop-offset.worker c.args.seat.now c.loop-offset.seat c.args.home
-    c.loop-offset.invariant.goes c.requires.among in
-    let low : c.loop-offset.offset < size_in own c.args.home.from =
-    omega (arith, c.loop-offset-test.true, c.known_cell-cell.ensures.size) in
-    (slot_within own deal c.args.home c.loop-offset.offset c.loop-offset.worker c.loop-offset.seat
-    (c.loop-offset.invariant.copying deal may begun) among low (c.args.home.to + c.loop-offset.offset + 1) refl).1
+    let at = at_slot c.args.words.now deal c.args.home c.loop-offset.offset c.args.worker.now c.loop-offset.worker
+    c.args.seat.now c.loop-offset.seat may c.count-count.ensures.counted c.requires.ready.most
+    c.loop-offset.invariant.goes (c.loop-offset.invariant.copying deal may begun) c.requires.among
+    (omega (arith, c.loop-offset-test.true, c.known_cell-cell.ensures.size)) in
+    at.inside
 
 pub scan_slot-requires-clause-few : goal.scan_slot-requires-clause-few
 scan_slot-requires-clause-few g c =
     let (deal, may, begun) = c.requires.copying in
-    let own = c.args.words.now in
-    let goes = c.loop-offset.invariant.goes in
-    let among = in_more c.args.worker.now c.loop-offset.worker c.args.seat.now c.loop-offset.seat c.args.home goes
-    c.requires.among in
-    let low : c.loop-offset.offset < size_in own c.args.home.from =
-    omega (arith, c.loop-offset-test.true, c.known_cell-cell.ensures.size) in
-    left_fits own deal c.args.home c.loop-offset.offset c.loop-offset.worker c.loop-offset.seat may
-    c.count-count.ensures.counted (goes.most ∙ c.requires.ready.most) (c.loop-offset.invariant.copying deal
-    may begun) among
-    low
+    let at = at_slot c.args.words.now deal c.args.home c.loop-offset.offset c.args.worker.now c.loop-offset.worker
+    c.args.seat.now c.loop-offset.seat may c.count-count.ensures.counted c.requires.ready.most
+    c.loop-offset.invariant.goes (c.loop-offset.invariant.copying deal may begun) c.requires.among
+    (omega (arith, c.loop-offset-test.true, c.known_cell-cell.ensures.size)) in
+    at.few
 
 pub loop-offset-preserved : goal.loop-offset-preserved
 loop-offset-preserved g c =

@@ -83,7 +83,8 @@ soak-requires-clause-few g c κs bounds =
 
 pub returns-in-Ok-Soak : goal.returns-in-Ok-Soak
 returns-in-Ok-Soak g c =
-    let asks : AsksFor (map string_bytes c.args.words.now) (Soak c.in-Ok-Soak.sizes c.in-Ok-Soak.seed c.in-Ok-Soak.forms) =
+    let asks : AsksFor (map string_bytes c.args.words.now)
+    (Soak c.in-Ok-Soak.sizes c.in-Ok-Soak.seed c.in-Ok-Soak.forms) =
     c.in-Ok-Soak.ensures.invocation ∙ ap Some c.in-Ok-Soak.field-0-is in
     let soak = c.in-Ok-Soak in
     record {

@@ -26,7 +26,8 @@ returns g c checks sizes bytes is ready =
     (g.K.Sink.faults ran.new.sink) = record {
       finishes = led;
       judged = λ came comes.
-          checked_as_asked checks opened.heap space opened.inspection later ran.result.heap.main script (image_heap image)
+          checked_as_asked checks opened.heap space opened.inspection later ran.result.heap.main script
+          (image_heap image)
           led.led.last.rows led.led.collections finished.executed led.reached.so_far came finished.line ready.inspected
           ends comes;
     } in

@@ -59,7 +59,8 @@ returns-in-New-clause-executed g c = (
   c.new_plain.result,
   c.counted.ensures.says,
   rw c.in-New.is
-      (executes_making c.main_mut-main.ensures.main refl refl refl c.counted.ensures.counted c.new_plain.ensures.carried),
+      (executes_making c.main_mut-main.ensures.main refl refl refl c.counted.ensures.counted
+      c.new_plain.ensures.carried),
 )
 
 pub returns-in-List-clause-executed : goal.returns-in-List-clause-executed
@@ -67,7 +68,8 @@ returns-in-List-clause-executed g c = (
   c.new_list.result,
   c.counted-in-List.ensures.says,
   rw c.in-List.is
-      (executes_making c.main_mut-main.ensures.main refl refl refl c.counted-in-List.ensures.counted c.new_list.ensures.carried),
+      (executes_making c.main_mut-main.ensures.main refl refl refl c.counted-in-List.ensures.counted
+      c.new_list.ensures.carried),
 )
 
 pub returns-in-Weak-clause-executed : goal.returns-in-Weak-clause-executed
@@ -75,7 +77,8 @@ returns-in-Weak-clause-executed g c = (
   c.new_weak.result,
   c.counted-in-Weak.ensures.says,
   rw c.in-Weak.is
-      (executes_making c.main_mut-main.ensures.main refl refl refl c.counted-in-Weak.ensures.counted c.new_weak.ensures.carried),
+      (executes_making c.main_mut-main.ensures.main refl refl refl c.counted-in-Weak.ensures.counted
+      c.new_weak.ensures.carried),
 )
 
 pub returns-in-LetValue-clause-executed : goal.returns-in-LetValue-clause-executed
@@ -134,8 +137,12 @@ returns-in-Put-clause-executed g c = (
 )
 
 pub returns-in-At-clause-executed : goal.returns-in-At-clause-executed
-returns-in-At-clause-executed g c =
-    (c.at.result, c.of-in-At.ensures, rw c.in-At.is (executes c.main_mut-main.ensures.main refl refl refl c.at.ensures.carried))
+returns-in-At-clause-executed g c = (
+  c.at.result,
+  c.of-in-At.ensures,
+  rw c.in-At.is
+      (executes c.main_mut-main.ensures.main refl refl refl c.at.ensures.carried),
+)
 
 pub returns-in-Shift-clause-executed : goal.returns-in-Shift-clause-executed
 returns-in-Shift-clause-executed g c = (

@@ -44,8 +44,11 @@ returns-in-Some c =
     let (came, is, executed) = c.in-Some.ensures.executed in
     let did = executes_told c.in-Some.told.came came is executed in
     record {
-      carried = λ graph shown made.
-          ([], did.tries c.args.script.now.fields graph shown made, written_nothing (is_ok c.in-Some.told.came) c.args.out.now);
+      carried = λ graph shown made. (
+        [],
+        did.tries c.args.script.now.fields graph shown made,
+        written_nothing (is_ok c.in-Some.told.came) c.args.out.now,
+      );
       rest = did.rest;
       noted = did.noted;
       counted = did.counted;

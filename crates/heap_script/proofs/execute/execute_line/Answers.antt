@@ -2,7 +2,8 @@ use Rattle.std.proofs.Common.{◌∙◌, [], append-nil, add-zero, arith, refl, 
 use Rattle.heap_script.specs.Collecting.{CarriesCommand}
 use Rattle.heap_script.proofs.Asking.{rest_stays}
 use Rattle.heap_script.proofs.LinesRun.{no_command}
-use Rattle.heap_script.proofs.execute.execute_line.Goals.{then-asks_collector, else-asks_collector+in_ok-carry_out-in-Run}
+use Rattle.heap_script.proofs.execute.execute_line.Goals.{then-asks_collector}
+use Rattle.heap_script.proofs.execute.execute_line.Goals.{else-asks_collector+in_ok-carry_out-in-Run}
 use Rattle.heap_script.proofs.execute.execute_line.Goals as goal
 
 pub returns-after-asks_collector-clause-carried : goal.returns-after-asks_collector-clause-carried

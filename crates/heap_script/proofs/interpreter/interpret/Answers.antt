@@ -29,7 +29,8 @@ loop-at-init g c =
     let taken = g.K.Sink.HasTaken c.args.sink.now in
     record {
       running = rw (c.requires.empty, c.new-turns.ensures)
-          (Running-start c.args.script.now c.args.heap.now taken (rw c.lines-lines.ensures.all at c.lines-lines.ensures.placed) c.requires.shown
+          (Running-start c.args.script.now c.args.heap.now taken
+          (rw c.lines-lines.ensures.all at c.lines-lines.ensures.placed) c.requires.shown
           c.requires.opened c.requires.closed c.requires.variables);
       holds = rw c.requires.empty OutputHolds.nothing;
       space = refl;

@@ -19,7 +19,8 @@ returns-in-SinkFault-clause-finishes g c =
     let ran = c.interpret-ran in
     let (found, ended, at_end, inspected, paused) = ran.ensures.pauses in
     let is = pauses_inspected g.J.Judge.Judged g.J.Judge.regions c.args.heap.now c.args.inspection.now
-    c.args.script.now ran.new.heap c.inspect_end.new.heap ran.new.out ran.result.line ran.result.executed (g.K.Sink.HasTaken c.args.sink.now)
+    c.args.script.now ran.new.heap c.inspect_end.new.heap ran.new.out ran.result.line ran.result.executed
+    (g.K.Sink.HasTaken c.args.sink.now)
     (g.K.Sink.HasTaken ran.new.sink) (g.K.Sink.faults c.args.sink.now) (g.K.Sink.faults ran.new.sink)
     ran.new.inspection c.inspect_end.new.inspection ran.result.how c.inspect_end.result at_end inspected paused
     c.inspect_end.ensures in
@@ -37,7 +38,8 @@ returns-in-SinkFault-clause-shows g c =
     let ran = c.interpret-ran in
     let (found, ended, at_end, inspected, paused) = ran.ensures.pauses in
     let is = pauses_inspected g.J.Judge.Judged g.J.Judge.regions c.args.heap.now c.args.inspection.now
-    c.args.script.now ran.new.heap c.inspect_end.new.heap ran.new.out ran.result.line ran.result.executed (g.K.Sink.HasTaken c.args.sink.now)
+    c.args.script.now ran.new.heap c.inspect_end.new.heap ran.new.out ran.result.line ran.result.executed
+    (g.K.Sink.HasTaken c.args.sink.now)
     (g.K.Sink.HasTaken ran.new.sink) (g.K.Sink.faults c.args.sink.now) (g.K.Sink.faults ran.new.sink)
     ran.new.inspection c.inspect_end.new.inspection ran.result.how c.inspect_end.result at_end inspected paused
     c.inspect_end.ensures in
@@ -49,7 +51,8 @@ returns-in-SinkFault-clause-space g c =
     let ran = c.interpret-ran in
     let (found, ended, at_end, inspected, paused) = ran.ensures.pauses in
     let (graph, shown) = shown_found paused in
-    inspected_space g.J.Judge.Judged ran.new.inspection c.inspect_end.new.inspection ran.new.heap c.inspect_end.new.heap graph
+    inspected_space g.J.Judge.Judged ran.new.inspection c.inspect_end.new.inspection ran.new.heap
+    c.inspect_end.new.heap graph
     ran.result.how c.inspect_end.result (c.inspect_end.ensures graph shown) ∙ ran.ensures.space
 
 pub returns-in-Ok : goal.returns-in-Ok
@@ -57,7 +60,8 @@ returns-in-Ok g c =
     let ran = c.interpret-ran in
     let (found, ended, at_end, inspected, paused) = ran.ensures.pauses in
     let is = pauses_inspected g.J.Judge.Judged g.J.Judge.regions c.args.heap.now c.args.inspection.now
-    c.args.script.now ran.new.heap c.inspect_end.new.heap ran.new.out ran.result.line ran.result.executed (g.K.Sink.HasTaken c.args.sink.now)
+    c.args.script.now ran.new.heap c.inspect_end.new.heap ran.new.out ran.result.line ran.result.executed
+    (g.K.Sink.HasTaken c.args.sink.now)
     (g.K.Sink.HasTaken ran.new.sink) (g.K.Sink.faults c.args.sink.now) (g.K.Sink.faults ran.new.sink)
     ran.new.inspection c.inspect_end.new.inspection ran.result.how c.inspect_end.result at_end inspected paused
     c.inspect_end.ensures in
@@ -73,7 +77,8 @@ returns-in-Ok g c =
           c.in_default.not-SinkFault ends.paused ends.ends c.in-Ok.ensures.appended c.in-Ok.ensures.steady);
       emptied = λ other. c.in-Ok.ensures.emptied;
       shows = shown_found ends.paused;
-      space = inspected_space g.J.Judge.Judged ran.new.inspection c.inspect_end.new.inspection ran.new.heap c.inspect_end.new.heap graph
+      space = inspected_space g.J.Judge.Judged ran.new.inspection c.inspect_end.new.inspection ran.new.heap
+          c.inspect_end.new.heap graph
           ran.result.how c.inspect_end.result (c.inspect_end.ensures graph shown) ∙ ran.ensures.space;
     }
 
@@ -82,7 +87,8 @@ returns-in-Err g c =
     let ran = c.interpret-ran in
     let (found, ended, at_end, inspected, paused) = ran.ensures.pauses in
     let is = pauses_inspected g.J.Judge.Judged g.J.Judge.regions c.args.heap.now c.args.inspection.now
-    c.args.script.now ran.new.heap c.inspect_end.new.heap ran.new.out ran.result.line ran.result.executed (g.K.Sink.HasTaken c.args.sink.now)
+    c.args.script.now ran.new.heap c.inspect_end.new.heap ran.new.out ran.result.line ran.result.executed
+    (g.K.Sink.HasTaken c.args.sink.now)
     (g.K.Sink.HasTaken ran.new.sink) (g.K.Sink.faults c.args.sink.now) (g.K.Sink.faults ran.new.sink)
     ran.new.inspection c.inspect_end.new.inspection ran.result.how c.inspect_end.result at_end inspected paused
     c.inspect_end.ensures in
@@ -100,6 +106,7 @@ returns-in-Err g c =
           c.in-Err.ensures.stopped c.in-Err.ensures.failed));
       emptied = λ other. absurd (other tt);
       shows = shown_found ends.paused;
-      space = inspected_space g.J.Judge.Judged ran.new.inspection c.inspect_end.new.inspection ran.new.heap c.inspect_end.new.heap graph
+      space = inspected_space g.J.Judge.Judged ran.new.inspection c.inspect_end.new.inspection ran.new.heap
+          c.inspect_end.new.heap graph
           ran.result.how c.inspect_end.result (c.inspect_end.ensures graph shown) ∙ ran.ensures.space;
     }

@@ -64,7 +64,12 @@ jump-after-requires g c =
     let r = ran.runs c.args.script.now c.args.out.now taken c.loop-spare.turns c.loop-spare.spare c.min-last.result
     (c.loop-spare.invariant.runs taken start) in
     let begins = rw c.in-Some.is at ran.begins in
-    record { small = search rules; jumps = begins.none; inside = stands_inside r _ begins.first; deep = deep_jump r begins all }
+    record {
+      small = search rules;
+      jumps = begins.none;
+      inside = stands_inside r _ begins.first;
+      deep = deep_jump r begins all;
+    }
 
 pub overflow_add-spare : goal.overflow_add-spare
 overflow_add-spare g c =
@@ -148,7 +153,8 @@ returns-clause-runs g c taken start =
       | else-loop-spare-test w ↦ rw (w.heap-is, w.objects-is, w.rest-is, all) kept.running
       | then-loop-spare-test+in_default w ↦
           let ran = w.run_commands.ensures in
-          let r = ran.runs c.args.script.now c.args.out.now taken c.loop-spare.turns c.loop-spare.spare c.min-last.result kept in
+          let r = ran.runs c.args.script.now c.args.out.now taken c.loop-spare.turns c.loop-spare.spare
+          c.min-last.result kept in
           rw (w.heap-is, w.objects-is, w.rest-is, all) r.running
     ]
 
@@ -163,7 +169,8 @@ returns-clause-passes g c taken start none =
       | else-loop-spare-test w ↦ rw (w.heap-is, w.rest-is) (kept.passes taken start none)
       | then-loop-spare-test+in_default w ↦
           rw (w.heap-is, w.rest-is)
-          (w.run_commands.ensures.passes c.args.script.now c.args.out.now taken c.loop-spare.turns c.loop-spare.spare c.min-last.result
+          (w.run_commands.ensures.passes c.args.script.now c.args.out.now taken c.loop-spare.turns c.loop-spare.spare
+          c.min-last.result
           c.args.heap.now c.args.from.executed (kept.runs taken start) (kept.noted ∙ none)
           (kept.passes taken start none))
     ]
@@ -176,7 +183,8 @@ returns-clause-holds g c held =
       | else-loop-spare-test w ↦ rw w.rest-is (kept.holds held)
       | then-loop-spare-test+in_default w ↦
           rw w.rest-is
-          (w.run_commands.ensures.holds c.args.script.now c.args.out.now taken c.loop-spare.turns c.loop-spare.spare c.min-last.result
+          (w.run_commands.ensures.holds c.args.script.now c.args.out.now taken c.loop-spare.turns c.loop-spare.spare
+          c.min-last.result
           (kept.runs taken start) (c.if-is_full.ensures refl) (kept.holds held))
     ]
 

@@ -9,9 +9,9 @@ use Rattle.heap_table.specs.Sharing.{AgreesOutside}
 use Rattle.heap_table.proofs.SharedStretches.{agrees_all, besides_stay, next_page}
 use Rattle.heap_table.proofs.sharing.share_stretch.Goals as goal
 
-pub put-requires-clause-idle : goal.put-requires-clause-idle
-put-requires-clause-idle c =
-    λ marks. c.requires.idle (sym (ap (λ (side : Side). side.main.phase) c.loop-a.invariant.same) ∙ marks)
+pub store_owned-requires-clause-may : goal.store_owned-requires-clause-may
+store_owned-requires-clause-may c =
+    λ marks. absurd (c.requires.idle (sym (ap (λ (side : Side). side.main.phase) c.loop-a.invariant.same) ∙ marks))
 
 pub loop-a-preserved : goal.loop-a-preserved
 loop-a-preserved c =
@@ -31,8 +31,10 @@ loop-a-preserved c =
     let now : AgreesOutside own (a + 1) c.args.to (with_spot side.main (Spot.Heap a) c.word.result) =
     next_page own a c.args.to side.main c.word.result c.loop-a.invariant.outside word below in
     record {
-      same = besides_stay c.args.side.now side c.put.new.self a c.word.result c.loop-a.invariant.same c.put.ensures.put;
-      outside = subst (λ (one : Side). AgreesOutside own (a + 1) c.args.to one.main) (sym c.put.ensures.put) now;
+      same = besides_stay c.args.side.now side c.store_owned.new.self a c.word.result c.loop-a.invariant.same
+          c.store_owned.ensures.put;
+      outside = subst (λ (one : Side). AgreesOutside own (a + 1) c.args.to one.main) (sym c.store_owned.ensures.put)
+          now;
     }
 
 pub returns : goal.returns

@@ -114,7 +114,8 @@ overflow_add-at c =
 pub store-requires-2-clause-within : goal.store-requires-2-clause-within
 store-requires-2-clause-within c =
     let within = slot_within c.requires.can.ready.whole.whole c.requires.can.ready.there in
-    let space = ap (λ (main : Mutator). main.seat.space) c.store.ensures.stored ∙ c.boxed_word-word.ensures.made.beside.space
+    let space = ap (λ (main : Mutator). main.seat.space) c.store.ensures.stored
+    ∙ c.boxed_word-word.ensures.made.beside.space
     ∙ c.begin_store.ensures.puts.beside.space ∙ ap (λ (main : Mutator). main.seat.space) c.in_ok-at.ensures.reserved in
     omega (arith, within, ap (λ (s : Space). marks_start s) space)
 

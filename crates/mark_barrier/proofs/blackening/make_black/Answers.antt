@@ -1,13 +1,16 @@
 -- The cell is made black, and its targets are shaded.
 use Rattle.std.proofs.Common.{◌≡◌, ◌≢◌, ◌<◌, ℕ, true, length, Some, Contains, IsSome, slice_index, sym, ap, subst}
 use Rattle.std.proofs.Common.{◌∙◌, arith}
+use Rattle.std.proofs.lemmas.List.Elements.{All-contains}
 use Rattle.page_space.specs.Extents.{eden_start}
 use Rattle.cell_layout.specs.Cells.{reading_of}
 use Rattle.mark_laws.proofs.MainStays.{born_old}
+use Rattle.mark_world.specs.BetweenCommands.{Settled}
 use Rattle.mark_world.specs.Cycles.{Cycle}
 use Rattle.mark_world.specs.declared.event.Event.TheVariants as event
 use Rattle.mark_world.specs.Steps.{black}
 use Rattle.shared_table.specs.declared.colour.Colour.{Colour}
+use Rattle.shared_table.specs.declared.phase.Phase.TheVariants.{Mark}
 use Rattle.shared_table.specs.Colours.{number_of}
 use Rattle.shared_table.specs.Worlds.{world_at_home}
 use Rattle.shared_table.proofs.ColourNumbers.{black_is}
@@ -16,10 +19,10 @@ use Rattle.heap_table.specs.Seats.{Seat}
 use Rattle.mark_barrier.specs.CycleSteps.{made_black}
 use Rattle.mark_barrier.specs.Owing.{Owes, own_cell}
 use Rattle.mark_barrier.specs.Paid.{AreNoMore, IsBlackened, IsPaid, ListsGrey, StepsTo}
-use Rattle.mark_barrier.proofs.Blackened.{black_colours, black_lists, black_owed, black_owes, black_steps}
-use Rattle.mark_barrier.proofs.Blackened.{blackened_later, cell_is_read}
+use Rattle.mark_barrier.proofs.Blackened.{black_lists, black_owed, black_owes, blackened_later, cell_is_read}
 use Rattle.mark_barrier.proofs.LeftToDo.{black_no_more, no_more_on}
-use Rattle.mark_barrier.proofs.Steps.{steps_after}
+use Rattle.mark_barrier.proofs.Settling.{black_settles}
+use Rattle.mark_barrier.proofs.Steps.{black_steps, black_there, steps_after}
 use Rattle.mark_barrier.proofs.blackening.make_black.Goals as goal
 
 -- the seat before the step is the one that was handed over
@@ -56,6 +59,7 @@ shade_slots-requires c =
     let reads = subst (λ (s : Seat). own_cell s.space s.table c.args.at ≡ Some (reading_of c.known_cell-cell.result))
     (sym is) c.known_cell-cell.ensures.reads in
     record {
+      mark = subst (λ (s : Seat). s.phase ≡ Mark) is c.requires.mark;
       lists = subst (λ (s : Seat). ListsGrey s c.args.list.now) is
           (black_lists now c.args.at c.blacken.result c.args.list.now c.requires.lists);
       owes = subst (λ (s : Seat). Owes s c.known_cell-cell.result 0) is
@@ -89,14 +93,34 @@ returns-in_default c =
     let counted = subst (λ (s : Seat). length (overview s).colours ≡ eden_start s.space) c.sound.ensures.same
     c.colours_fit.ensures.counted in
     let is_black = subst (λ (s : Seat). IsBlackened s c.args.at) is
-    (black_colours now c.args.at c.blacken.result (omega (arith, inside, counted))) in
+    (black_there now c.args.at
+    (overview (stepped now (event.Blacken c.args.at) (number_of c.blacken.result))).view
+    (omega (arith, inside, counted))) in
+    let all = steps_after now after c.shade_slots.new.seat now.table cycle steps c.shade_slots.ensures.steps in
+    let start = All-contains (Contains (overview now).view.starts) (overview now).view.born c.args.at
+    c.sound.ensures.sound.born c.requires.born in
     record {
       paid = record { lists = c.shade_slots.ensures.lists; owed = c.shade_slots.ensures.owed };
-      steps = steps_after now after c.shade_slots.new.seat now.table cycle steps c.shade_slots.ensures.steps;
+      steps = all;
+      settled = black_settles now c.shade_slots.new.seat c.args.at start all.moves c.shade_slots.ensures.owed;
       no_more = no_more_on now after c.shade_slots.new.seat c.args.list.now c.args.list.now c.shade_slots.new.list
-          steps.home (subst (λ (s : Seat). AreNoMore now c.args.list.now s c.args.list.now) is
+          steps.moves.home (subst (λ (s : Seat). AreNoMore now c.args.list.now s c.args.list.now) is
           (black_no_more now c.args.list.now c.args.at c.blacken.result (omega (arith, inside, counted))))
           c.shade_slots.ensures.no_more;
       black = blackened_later after c.shade_slots.new.seat c.args.at after.table (cycle_in after) is_black
           c.shade_slots.ensures.steps;
     }
+
+pub returns-in-Black-clause-settled : goal.returns-in-Black-clause-settled
+returns-in-Black-clause-settled c =
+    let now : Seat = c.args.seat.now in
+    let is = after_is now c.sound.new.self c.blacken.new.self c.sound.ensures.same c.args.at c.blacken.result
+    c.blacken.ensures.blackened in
+    let found = subst (λ (s : Seat). (overview s).home ≡ true → number_of c.blacken.result
+    ≡ slice_index (overview s).colours c.args.at) c.sound.ensures.same c.blacken.ensures.home in
+    let start = All-contains (Contains (overview now).view.starts) (overview now).view.born c.args.at
+    c.sound.ensures.sound.born c.requires.born in
+    subst (λ (s : Seat). Settled (world_at_home (overview now)) → Settled (world_at_home (overview s))) is
+    (black_settles now (stepped now (event.Blacken c.args.at) (number_of c.blacken.result)) c.args.at start
+    (black_steps now c.args.at c.blacken.result found).moves
+    (black_owed now c.args.at c.blacken.result (ap number_of c.in-Black.is) ∙ c.requires.owed))

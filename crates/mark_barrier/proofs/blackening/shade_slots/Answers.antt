@@ -10,10 +10,10 @@ use Rattle.tagged_word.proofs.Cells.{size_bounds}
 use Rattle.shared_table.proofs.PageEnds.{pages_before_marks}
 use Rattle.heap_table.specs.Overviews.{cycle_in, overview}
 use Rattle.heap_table.specs.Seats.{Seat}
-use Rattle.mark_barrier.specs.CycleSteps.{surer}
+use Rattle.mark_barrier.specs.CycleSteps.{sure_of_target}
 use Rattle.mark_barrier.specs.Owing.{Owes, slot_word}
 use Rattle.mark_barrier.specs.Paid.{StepsTo, without_target}
-use Rattle.mark_barrier.proofs.Owing.{ends_old, none_later, owes_on, paid_next, sized, slot_in, surer_again}
+use Rattle.mark_barrier.proofs.Owing.{ends_old, none_later, owes_on, paid_next, sized, slot_in, sure_again}
 use Rattle.mark_barrier.proofs.ReadCells.{word_there}
 use Rattle.mark_barrier.proofs.LeftToDo.{no_more_on}
 use Rattle.mark_barrier.proofs.Steps.{steps_after}
@@ -93,12 +93,12 @@ loop-offset-smaller c =
 module _ (seat new : Seat) (cell : Cell) (from offset word : ℕ) (owes : Owes seat cell from)
     (least : IsLeastFrom (slots_of (reading_of cell)) from offset)
     (is : word ≡ slot_word seat.space seat.table cell offset)
-    (steps : StepsTo seat new seat.table (surer (eden_start seat.space) (cycle_in seat) word))
+    (steps : StepsTo seat new seat.table (sure_of_target (eden_start seat.space) (cycle_in seat) word))
     (owed : (overview new).view.owed ≡ without_target (eden_start seat.space) (overview seat).view.owed word) where
   -- the mutator was sure of it
-  same_cycle : surer (eden_start seat.space) (cycle_in seat) word ≡ cycle_in seat
+  same_cycle : sure_of_target (eden_start seat.space) (cycle_in seat) word ≡ cycle_in seat
   same_cycle =
-      surer_again (eden_start seat.space) (cycle_in seat) word
+      sure_again (eden_start seat.space) (cycle_in seat) word
       (subst (λ (w : ℕ). OfTarget (eden_start seat.space) w (Contains (overview seat).view.sure)) (sym is)
       (All-contains (λ (o : ℕ). OfTarget (eden_start seat.space) (slot_word seat.space seat.table cell o)
       (Contains (overview seat).view.sure)) (slots_of (reading_of cell)) offset owes.sure least.among))
@@ -108,7 +108,7 @@ module _ (seat new : Seat) (cell : Cell) (from offset word : ℕ) (owes : Owes s
   owes_next =
       owes_on seat new cell (offset + 1)
       (without_target (eden_start seat.space) (overview seat).view.owed (slot_word seat.space seat.table cell offset))
-      steps.space steps.table (steps.cycle ∙ same_cycle)
+      steps.moves.space steps.moves.table (steps.moves.cycle ∙ same_cycle)
       (owed ∙ ap (without_target (eden_start seat.space) (overview seat).view.owed) is)
       (paid_next seat.space seat.table (cycle_in seat) (overview seat).view.owed cell from owes offset least)
 
@@ -135,7 +135,7 @@ loop-offset-preserved c =
           (no_steps seat new cell c.loop-offset.from c.in-Some.offset c.slot.result before.owes least is after.steps
           after.owed);
       no_more = no_more_on c.args.seat.now seat new c.args.list.now c.loop-offset.list c.shade_target.new.list
-          before.steps.home before.no_more after.no_more;
+          before.steps.moves.home before.no_more after.no_more;
     }
 
 pub returns-clause-owed : goal.returns-clause-owed

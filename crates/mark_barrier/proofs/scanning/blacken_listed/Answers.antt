@@ -11,12 +11,14 @@ loop-at-init c = record {
 
 pub make_black-requires-clause-lists : goal.make_black-requires-clause-lists
 make_black-requires-clause-lists c =
-    popped_lists c.loop-at.seat c.loop-at.list c.pop.new.self c.in-Some.at c.in-Some.ensures.last c.pop.ensures.bound
+    popped_lists c.loop-at.seat c.loop-at.list c.pop.new.self c.in-Some.at c.in-Some.ensures.last c.in-Some.ensures.gone
+    c.pop.ensures.bound
     c.loop-at.invariant.paid
 
 pub make_black-requires-clause-born : goal.make_black-requires-clause-born
 make_black-requires-clause-born c =
-    popped_born c.loop-at.seat c.loop-at.list c.pop.new.self c.in-Some.at c.in-Some.ensures.last c.pop.ensures.bound
+    popped_born c.loop-at.seat c.loop-at.list c.pop.new.self c.in-Some.at c.in-Some.ensures.last c.in-Some.ensures.gone
+    c.pop.ensures.bound
     c.loop-at.invariant.paid
 
 pub loop-at-preserved : goal.loop-at-preserved
@@ -25,5 +27,5 @@ loop-at-preserved c =
     record {
       paid = c.make_black.ensures.paid;
       scans = scans_on c.args.seat.now c.loop-at.seat c.make_black.new.seat seat.old c.in-Some.at seat.words
-          seat.layouts c.loop-at.invariant.scans c.make_black.ensures.steps;
+          seat.layouts c.loop-at.invariant.scans c.make_black.ensures.steps c.make_black.ensures.settled;
     }

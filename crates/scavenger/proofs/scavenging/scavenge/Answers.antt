@@ -181,6 +181,13 @@ returns-clause-scavenged c =
     (ends_are_scavenges c.args.main.now _ shown.0 c.args.promote_all end.fixed end.homes end.words end.fill end.refused
     shown.1 c.used_fits.ensures.is_young (left_apart c) end.ended).0
 
+pub returns-clause-alone : goal.returns-clause-alone
+returns-clause-alone c =
+    let end = ended c in
+    let shown = c.requires.shown in
+    (ends_are_scavenges c.args.main.now _ shown.0 c.args.promote_all end.fixed end.homes end.words end.fill end.refused
+    shown.1 c.used_fits.ensures.is_young (left_apart c) end.ended).3
+
 pub returns-clause-keeps : goal.returns-clause-keeps
 returns-clause-keeps c =
     let end = ended c in

@@ -15,6 +15,6 @@ returns c =
     record {
       marking = marking_on now c.blacken.new.seat c.args.grey.now c.blacken.new.self now.table cycle c.requires
           c.blacken.ensures.steps c.requires.starts c.requires.born refl c.blacken.ensures.paid;
-      mine = subst (λ (one : Cycle). Contains one.mine 0) (sym c.blacken.ensures.steps.cycle)
+      mine = subst (λ (one : Cycle). Contains one.mine 0) (sym c.blacken.ensures.steps.moves.cycle)
           (joined_in (cycle_in now).mine 0);
     }

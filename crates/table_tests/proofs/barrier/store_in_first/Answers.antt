@@ -7,7 +7,7 @@ use Rattle.mark_world.specs.Cycles.{Cycle}
 use Rattle.mark_world.specs.Pages.{OfTarget}
 use Rattle.heap_table.specs.Overviews.{cycle_in, overview}
 use Rattle.heap_table.specs.Seats.{Seat}
-use Rattle.mark_barrier.specs.CycleSteps.{surer}
+use Rattle.mark_barrier.specs.CycleSteps.{sure_of_target}
 use Rattle.mark_barrier.proofs.ReadCells.{layouts_stay}
 use Rattle.table_tests.proofs.BegunSeats.{marking_on, no_heads}
 use Rattle.table_tests.proofs.barrier.store_in_first.Goals as goal
@@ -43,7 +43,8 @@ returns c =
     let inside : c.args.at < eden_start now.space = omega (arith, c.requires.before, marking.page) in
     record {
       marking = marking_on now later c.args.grey.now c.store.new.self (slice_set now.table c.args.at c.args.word)
-          (surer (eden_start now.space) (cycle_in now) c.args.word) marking c.store.ensures.steps marking.starts
-          marking.born (layouts_stay now.space now.table c.args.at c.args.word inside) c.store.ensures.paid;
-      mine = subst (λ (one : Cycle). Contains one.mine 0) (sym c.store.ensures.steps.cycle) c.requires.first.mine;
+          (sure_of_target (eden_start now.space) (cycle_in now) c.args.word) marking c.store.ensures.steps
+          marking.starts marking.born (layouts_stay now.space now.table c.args.at c.args.word inside)
+          c.store.ensures.paid;
+      mine = subst (λ (one : Cycle). Contains one.mine 0) (sym c.store.ensures.steps.moves.cycle) c.requires.first.mine;
     }

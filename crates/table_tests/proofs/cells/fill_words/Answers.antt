@@ -10,14 +10,14 @@ use Rattle.table_tests.proofs.cells.fill_words.Goals as goal
 pub loop-a-init : goal.loop-a-init
 loop-a-init c = refl
 
-pub put-requires-clause-idle : goal.put-requires-clause-idle
-put-requires-clause-idle c = λ marks.
+pub store_owned-requires-clause-may : goal.store_owned-requires-clause-may
+store_owned-requires-clause-may c = λ marks.
     let quiet : c.loop-a.side.main.phase ≡ Quiet =
     ap (λ (v : Side). v.main.phase) c.loop-a.invariant ∙ c.requires.bare.phase in
     absurd cc
 
-pub put-requires-clause-within : goal.put-requires-clause-within
-put-requires-clause-within c =
+pub store_owned-requires-clause-within : goal.store_owned-requires-clause-within
+store_owned-requires-clause-within c =
     omega (arith, ap (λ (v : Side). v.main.old) c.loop-a.invariant, c.counts-counts.ensures.old, c.loop-a-test.true)
 
 pub loop-a-preserved : goal.loop-a-preserved
@@ -32,7 +32,7 @@ loop-a-preserved c =
       c.loop-a-test.true,
     ) in
     let same : length words ≡ length entry.main.words = c.requires.count ∙ sym c.counts-counts.ensures.words in
-    c.put.ensures.put ∙ ap (λ (v : Side). record v { main = with_spot v.main (Spot.Heap a) c.word_at.result })
+    c.store_owned.ensures.put ∙ ap (λ (v : Side). record v { main = with_spot v.main (Spot.Heap a) c.word_at.result })
     c.loop-a.invariant
     ∙ ap (λ (ws : List ℕ). record entry { main = record entry.main { words = ws } })
     (filled_more a words entry.main.words c.word_at.result c.word_at.ensures inside same)

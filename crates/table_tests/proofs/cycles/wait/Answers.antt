@@ -19,7 +19,7 @@ has_stayed list =
     record { kept = λ at has. has; new = λ at none. absurd (none_in at none); from = λ at has. inl has }
 
 -- no cell was promoted
-goes_on : (main : Overview) → IsContinued main (cycle_of main.view main.reached main.made)
+goes_on : (main : Overview) → IsContinued main (cycle_of main.view main.reached main.made main.dead)
 goes_on main = record {
   promoted = [];
   unpublished = λ at none has. none_in at none;
@@ -29,11 +29,12 @@ goes_on main = record {
   sure = has_stayed main.view.sure;
   reached = refl;
   made = refl;
+  dead = refl;
 }
 
 pub resume_cycle-requires-clause-chosen : goal.resume_cycle-requires-clause-chosen
 resume_cycle-requires-clause-chosen c =
-    let same : Side → Cycle = λ side. cycle_of side.main.view side.main.reached side.main.made in (
+    let same : Side → Cycle = λ side. cycle_of side.main.view side.main.reached side.main.made side.main.dead in (
       same c.pause_cycle.new.self,
       refl,
       goes_on c.pause_cycle.new.self.main,

@@ -1,5 +1,6 @@
 -- The slot is no head of a free start's cell, and the second box is born.
-use Rattle.std.proofs.Common.{◌<◌, ◌≤◌, ◌⊎◌, inl, inr, ◌+◌, ℕ, zero, suc, List, Contains, refl, sym, subst, arith, rules}
+use Rattle.std.proofs.Common.{◌<◌, ◌≤◌, ◌⊎◌, inl, inr, ◌+◌, ℕ, zero, suc, List, Contains, refl, sym, subst, arith}
+use Rattle.std.proofs.Common.{rules}
 use Rattle.tagged_word.specs.declared.word.Class.TheVariants.{Ref}
 use Rattle.mark_laws.proofs.Stores.{free_is}
 use Rattle.mark_world.specs.Pages.{cell_at}

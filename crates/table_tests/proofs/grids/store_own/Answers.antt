@@ -7,5 +7,5 @@ use Rattle.table_tests.proofs.grids.store_own.Goals as goal
 
 pub returns-clause-whole : goal.returns-clause-whole
 returns-clause-whole c =
-    subst (λ (side : Side). IsWholeGrid side.main c.args.count c.args.trimmed) (sym c.store_owned.ensures.stored)
+    subst (λ (side : Side). IsWholeGrid side.main c.args.count c.args.trimmed) (sym c.store_owned.ensures.put)
     (owned_whole c.args.side.now.main c.args.count c.args.trimmed c.args.at c.args.word c.requires.own c.requires.whole)

@@ -20,7 +20,7 @@ store_header-requires-clause-may c =
       c.requires.among,
       c.counts-counts.ensures.old,
     ) in
-    record {
+    λ mark. inl (record {
       place = inl (whole.free c.args.cell c.requires.open c.requires.within);
       safe = is_safe main.layouts whole.one_raw whole.none_raw (slice_index main.words at)
           (whole.heads c.args.cell c.requires.open c.requires.within);
@@ -30,10 +30,10 @@ store_header-requires-clause-may c =
           (of_reference main.old (slice_index main.words (at + 3)) (4 * c.args.to) (Contains main.view.sure)
           (reference_to (slice_index main.words (at + 3)) (4 * c.args.to) fits c.store-was_white.ensures.word)
           c.store-was_white.ensures.sure);
-    }
+    })
 
 pub returns-clause-whole : goal.returns-clause-whole
 returns-clause-whole c =
-    subst (λ (side : Side). IsWholeGrid side.main c.args.count c.args.trimmed) (sym c.store_header.ensures.stored)
+    subst (λ (side : Side). IsWholeGrid side.main c.args.count c.args.trimmed) (sym c.store_header.ensures.put)
     (widened_whole c.store-was_white.new.side.main c.args.count c.args.trimmed c.args.cell
     c.requires.open c.requires.within c.store-was_white.ensures.whole)

@@ -21,6 +21,6 @@ invariant_of-self c =
       agrees = own_alone_agrees own c.copy.new.self c.self.inside.shared
           (copied own.words c.args.from c.args.to c.args.count)
           c.copy.ensures
-          (first-copied own.words c.args.from c.args.to c.args.count (eden_start own.space) within room behind)
+          (λ some. first-copied own.words c.args.from c.args.to c.args.count (eden_start own.space) within room behind)
           c.self.invariant.agrees;
     }

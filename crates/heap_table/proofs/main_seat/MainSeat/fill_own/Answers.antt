@@ -20,6 +20,6 @@ invariant_of-self c =
       agrees = own_alone_agrees own c.fill.new.self c.self.inside.shared
           (filled own.words c.args.at c.args.count c.args.word)
           c.fill.ensures
-          (first-filled own.words c.args.at c.args.count c.args.word (eden_start own.space) within behind)
+          (λ some. first-filled own.words c.args.at c.args.count c.args.word (eden_start own.space) within behind)
           c.self.invariant.agrees;
     }

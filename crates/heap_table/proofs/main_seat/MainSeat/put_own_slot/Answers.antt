@@ -15,5 +15,6 @@ invariant_of-self c =
     omega (arith, ap (λ (seat : Seat). eden_start seat.space) c.self.view_is, c.requires.own) in
     record {
       agrees = own_alone_agrees own c.put_slot.new.self c.self.inside.shared (slice_set own.words at c.args.word)
-          c.put_slot.ensures (pages-set_behind own.space own.words at c.args.word behind) c.self.invariant.agrees;
+          c.put_slot.ensures (λ some. pages-set_behind own.space own.words at c.args.word behind)
+          c.self.invariant.agrees;
     }

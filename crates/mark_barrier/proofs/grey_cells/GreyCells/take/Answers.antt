@@ -1,15 +1,16 @@
 -- The cell that was on the board is listed.
-use Rattle.std.proofs.Common.{◌≡◌, ℕ, Contains, IfSome, Some, sym, ap, subst, ◌∙◌, arith}
+use Rattle.std.proofs.Common.{◌≡◌, ℕ, true, Contains, IfSome, Some, slice_index, refl, sym, ap, subst, ◌∙◌, arith}
 use Rattle.tagged_word.specs.Readings.{reference_in}
 use Rattle.cell_list.specs.Listing.{Listing}
 use Rattle.mark_laws.proofs.MainStays.{born_old}
 use Rattle.mark_laws.proofs.Slots.{some_at}
 use Rattle.mark_world.specs.declared.event.Event.TheVariants as event
 use Rattle.shared_table.specs.Worlds.{world_at_home}
-use Rattle.heap_table.specs.Overviews.{overview, stepped}
+use Rattle.heap_table.specs.Overviews.{cycle_in, overview, stepped}
 use Rattle.heap_table.specs.Seats.{Seat}
-use Rattle.mark_barrier.specs.Paid.{IsPaid, ListsGrey}
+use Rattle.mark_barrier.specs.Paid.{IsPaid, ListsGrey, StepsTo, Takes}
 use Rattle.mark_barrier.proofs.Listed.{none_taken, taken_paid}
+use Rattle.mark_barrier.proofs.Steps.{take_steps}
 use Rattle.mark_barrier.proofs.grey_cells.GreyCells.take.Goals as goal
 
 -- the seat before the step is the one that was handed over
@@ -57,3 +58,45 @@ returns-in_default-clause-paid c =
     c.take_board.ensures.taken)
     (none_taken now c.args.self.now c.args.place c.take_board.result (sym c.address.ensures ∙ c.in_default.is)
     c.requires.paid)
+
+pub returns-in-Some-clause-steps : goal.returns-in-Some-clause-steps
+returns-in-Some-clause-steps c =
+    let now : Seat = c.args.seat.now in
+    subst (λ (s : Seat). StepsTo now s now.table (cycle_in now))
+    (taken_is now c.sound.new.self c.take_board.new.self c.args.place c.take_board.result c.sound.ensures.same
+    c.take_board.ensures.taken) (take_steps now c.args.place c.take_board.result)
+
+pub returns-in_default-clause-steps : goal.returns-in_default-clause-steps
+returns-in_default-clause-steps c =
+    let now : Seat = c.args.seat.now in
+    subst (λ (s : Seat). StepsTo now s now.table (cycle_in now))
+    (taken_is now c.sound.new.self c.take_board.new.self c.args.place c.take_board.result c.sound.ensures.same
+    c.take_board.ensures.taken) (take_steps now c.args.place c.take_board.result)
+
+-- what was found at a place of the board, by the seat that was handed over
+takes_of : (now before : Seat) (place found : ℕ) → before ≡ now
+    → ((overview before).home ≡ true → found ≡ slice_index (overview before).board place)
+    → Takes now (stepped now (event.TakeMain place) found) place
+takes_of now before place found same home = record {
+  found = found;
+  there = subst (λ (s : Seat). (overview s).home ≡ true → found ≡ slice_index (overview s).board place) same home;
+  board = refl;
+  log = refl;
+  grey = refl;
+}
+
+pub returns-in-Some-clause-takes : goal.returns-in-Some-clause-takes
+returns-in-Some-clause-takes c =
+    let now : Seat = c.args.seat.now in
+    subst (λ (s : Seat). Takes now s c.args.place)
+    (taken_is now c.sound.new.self c.take_board.new.self c.args.place c.take_board.result c.sound.ensures.same
+    c.take_board.ensures.taken)
+    (takes_of now c.sound.new.self c.args.place c.take_board.result c.sound.ensures.same c.take_board.ensures.home)
+
+pub returns-in_default-clause-takes : goal.returns-in_default-clause-takes
+returns-in_default-clause-takes c =
+    let now : Seat = c.args.seat.now in
+    subst (λ (s : Seat). Takes now s c.args.place)
+    (taken_is now c.sound.new.self c.take_board.new.self c.args.place c.take_board.result c.sound.ensures.same
+    c.take_board.ensures.taken)
+    (takes_of now c.sound.new.self c.args.place c.take_board.result c.sound.ensures.same c.take_board.ensures.home)

@@ -1,11 +1,12 @@
--- The store is an event.
-use Rattle.std.proofs.Common.{◌≡◌, ◌<◌, ◌∙◌, sym, ap, subst, arith, rules}
+-- The word may be put, in an open cycle too.
+use Rattle.std.proofs.Common.{◌≡◌, ◌<◌, ◌⊎◌, refl, sym, ap, subst, arith, rules}
 use Rattle.mark_world.specs.declared.event.Event.TheVariants as event
+use Rattle.shared_table.specs.declared.overview.Overview.{Overview}
 use Rattle.shared_table.specs.declared.phase.Phase.TheVariants.{Mark}
 use Rattle.shared_table.specs.Changes.{MayDo}
 use Rattle.shared_table.specs.Seats.{Side}
 use Rattle.shared_table.specs.Worlds.{overview_of}
-use Rattle.shared_table.proofs.StoreSteps.{header_may}
+use Rattle.shared_table.proofs.StoreSteps.{word_may}
 use Rattle.shared_table.proofs.main_side.MainSide.store_header.Goals as goal
 
 pub store-requires : goal.store-requires
@@ -14,13 +15,11 @@ store-requires c =
     let inv = c.self.invariant in
     let inside : c.args.a < s.counts.old =
     omega (arith, ap (λ (v : Side). v.main.old) c.self.view_is, inv.old, c.requires.within) in
-    let marks : (overview_of s.seat.me.0).phase ≡ Mark =
-    ap (λ (v : Side). v.main.phase) c.self.view_is ∙ c.requires.mark in
-    let may : MayDo (overview_of s.seat.me.0) (event.StoreHeader c.args.a c.args.word) =
-    subst (λ (v : Side). MayDo v.main (event.StoreHeader c.args.a c.args.word)) (sym c.self.view_is) c.requires.may in (
+    let main : Overview = overview_of s.seat.me.0 in
+    let may = subst (λ (v : Side). v.main.phase ≡ Mark → MayDo v.main (event.StoreHeader c.args.a c.args.word)
+    ⊎ MayDo v.main (event.StoreOwned c.args.a c.args.word)) (sym c.self.view_is) c.requires.may in (
       search rules,
       omega (arith, inside, ap (λ t. t.table.shared.table_id.words) c.deref.ensures, inv.counted),
-      header_may _ s.counts _ _ c.args.word s.seat.me (overview_of s.seat.me.0) (search rules) inv.id inv.me marks
-          c.args.a inside
+      word_may _ s.counts _ _ c.args.word s.seat.me main (search rules) inv.id inv.me c.args.a inside main.phase refl
           may,
     )

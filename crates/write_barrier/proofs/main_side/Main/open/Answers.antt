@@ -29,6 +29,7 @@ invariant_of-main c =
           ∙ ap none_of c.sizes-pages.ensures;
       listed = c.in_ok-grey.ensures.listed;
       lists = c.in_ok-grey.ensures.bound;
+      empty = c.in_ok-grey.ensures.empty;
     })
 
 pub start-requires : goal.start-requires
@@ -44,6 +45,7 @@ start-requires c =
           ∙ ap none_of c.sizes-pages.ensures;
       listed = c.in_ok-grey.ensures.listed;
       lists = c.in_ok-grey.ensures.bound;
+      empty = c.in_ok-grey.ensures.empty;
     })
 
 pub returns-clause-table : goal.returns-clause-table

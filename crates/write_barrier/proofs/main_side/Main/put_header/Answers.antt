@@ -1,12 +1,10 @@
--- The step may be made in the open cycle.
-use Rattle.std.proofs.Common.{◌≡◌, rules}
-use Rattle.heap_table.specs.Phases.{Mark}
+-- The step may be made in an open cycle.
+use Rattle.std.proofs.Common.{rules}
 use Rattle.write_barrier.proofs.CycleSteps.{of_page, header_step}
 use Rattle.write_barrier.proofs.main_side.Main.put_header.Goals as goal
 
 pub store_header-requires-clause-may : goal.store_header-requires-clause-may
-store_header-requires-clause-may c =
-    let mark : c.self.inside.seat.phase ≡ Mark = search rules in
+store_header-requires-clause-may c = λ mark.
     header_step c.self.inside c.args.self.now c.self.view_is c.self.invariant (record {
       counted = search rules;
       shared = c.layouts_fit.ensures.shared mark;

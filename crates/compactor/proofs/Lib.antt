@@ -1,0 +1,17 @@
+pub mod Copied
+pub mod PageRows
+pub mod Placing
+pub mod PlacedPages
+pub mod PackedPages
+pub mod PassedPages
+pub mod PageEnds
+pub mod YoungSteps
+pub mod RootSteps
+pub mod FinalState
+pub mod MovedRows
+pub mod EndCells
+pub mod MovedHeap
+pub mod MovedPlaces
+pub mod MovedCells
+pub mod CompactedHeap
+pub mod CountedCells
