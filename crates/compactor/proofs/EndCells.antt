@@ -1,5 +1,6 @@
 -- The free cell at the end of a page stands there.
-use Rattle.std.proofs.Common.{◌≡◌, ℕ, zero, suc, ◌+◌, ◌-◌, ◌≤◌, ◌<◌, inl, inr, List, [], ◌∷◌, Some}
+use Rattle.std.proofs.Common.{◌≡◌, ℕ, zero, suc, ◌+◌, ◌-◌, ◌≤◌, ◌<◌}
+use Rattle.std.proofs.Common.{inl, inr, List, [], ◌∷◌, Some}
 use Rattle.std.proofs.Common.{length, slice_get, slice_set, nat_lt, if◌then◌else◌, refl, sym, ◌∙◌, ap, subst, arith}
 use Rattle.std.proofs.Common.{length-set}
 use Rattle.std.proofs.lemmas.Bool.{cases_lt, lt-ltb, le-ltb}
@@ -27,7 +28,8 @@ set_there (first ∷ words) zero word is = ap (λ (one : ℕ). one ∷ words) (s
 set_there (first ∷ words) (suc at) word is = ap (λ (more : List ℕ). first ∷ more) (set_there words at word is)
 
 -- So does a free cell that is put where one was put.
-put_again : (words put : List ℕ) (at count : ℕ) → 1 ≤ count → at + count ≤ length words → length put ≡ length words
+put_again : (words put : List ℕ) (at count : ℕ) → 1 ≤ count → at + count ≤ length words
+    → length put ≡ length words
     → ((a : ℕ) → at ≤ a → a < at + count → slice_get words a ≡ slice_get (with_free_cell put at count) a)
     → with_free_cell words at count ≡ words
 put_again words put at count some long same_long alike = elim (put_as put at count) [
@@ -65,8 +67,8 @@ put_again words put at count some long same_long alike = elim (put_as put at cou
 
 -- So a free cell stands where the words are those of one that was put.
 pub free_there : {space : Space} {words : List ℕ} (put : List ℕ) (at count end : ℕ) → HasFreeLayouts space words
-    → CellsEndAt space at end → 1 ≤ count → count ≤ cell_words_most → at + count ≤ end → at + count ≤ length words
-    → length put ≡ length words
+    → CellsEndAt space at end → 1 ≤ count → count ≤ cell_words_most → at + count ≤ end
+    → at + count ≤ length words → length put ≡ length words
     → ((a : ℕ) → at ≤ a → a < at + count → slice_get words a ≡ slice_get (with_free_cell put at count) a)
     → IsCell space words (free_cell at count)
 free_there {space} {words} put at count end has stands some few within long same_long alike =
