@@ -10,6 +10,7 @@ ENTRIES_MOST = 256
 PAIRS_MOST = 2 * ENTRIES_MOST
 FIRST_CAPACITY = 4
 HEAD_WORDS = 2
+PLAIN_HEAD = 3
 COUNTED_WORDS = 3
 BOX_WORDS = 2
 SMALL_LEAST, SMALL_MOST = -(1 << 30), (1 << 30) - 1
@@ -101,7 +102,7 @@ class Plain(Object):
     """An object with fields."""
 
     def __init__(self, number, cap):
-        super().__init__(number, HEAD_WORDS + cap)
+        super().__init__(number, PLAIN_HEAD + cap)
         self.cap, self.fields = cap, []
 
     def held(self):

@@ -22,6 +22,7 @@ use Rattle.nursery.specs.Young.{Young}
 use Rattle.write_barrier.specs.MutatorState.{Mutator, heap_of, MainShows}
 use Rattle.write_barrier.specs.Recording.{Touches}
 use Rattle.object_cells.specs.CellWrites.{IsInCell}
+use Rattle.object_cells.specs.ListObjects.{IsListAt}
 use Rattle.object_cells.specs.ElementChanges.{AreNewElements}
 use Rattle.object_cells.specs.Made.{PutsWords}
 use Rattle.object_cells.proofs.TouchedCells.{none_made, remembers}
@@ -150,7 +151,8 @@ module _ {old new : Mutator} {at store : ℕ} {list : ListObject} (stored : List
   list_word k = ap (λ n. slice_get (heap_words new.seat) (n + k)) stored.shown.stands ∙ cut_reads (at + k)
 
   module _ {graph : Graph} {came : Cell} {pieces : List Cell} (shows : MainShows old graph)
-      (within : AreWithin old.seat.space.sizes old.seat.space.variables) (are : AreNewElements graph after)
+      (is : IsListAt old graph at list) (within : AreWithin old.seat.space.sizes old.seat.space.variables)
+      (are : AreNewElements graph after)
       (into : IsCutInto (heap_of new) store (store + (store_head + stored.cell.length)) start kept came pieces)
       (stay : AreKept list.elements after from kept) (touch : ℕ → Touch) (touches : Touches old new touch)
       (each : (a : ℕ) → CutTouch stored.shown.cell stored.cell came touch a) where
@@ -195,6 +197,7 @@ module _ {old new : Mutator} {at store : ℕ} {list : ListObject} (stored : List
     abbrev trimmed : Trimmed old new graph at list after
     trimmed = record {
       shows = shows;
+      is = is;
       within = within;
       shown = stored.shown;
       are = are;

@@ -171,7 +171,7 @@ module _ {old new : Mutator} {graph : Graph} {at : ℕ} {list : ListObject} {gon
       (capacity_at (heap_of old) at - gone)
   shifted_has_trimmed =
       subst (λ n. HasTrimmed old new graph at list (drop gone list.elements) (n - gone)) (sym stored.capacity)
-      (cut_has_trimmed stored (header_bits store_header) cut after words_put shows within
+      (cut_has_trimmed stored (header_bits store_header) cut after words_put shows is within
       (dropped_are_new graph list.elements gone (list_are_new shows is)) into
       (record {
         elements = λ k value there. sym (later_element gone list.elements k) ∙ there;

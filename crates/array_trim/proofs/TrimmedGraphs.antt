@@ -1,11 +1,13 @@
 -- A heap in which a list was trimmed shows the graph in which the list has the elements that stay.
 use Rattle.std.proofs.Common.{ℕ, ◌+◌, List, [], ◌∷◌, length, take, drop, sym, ◌∙◌, ap, subst, arith}
 use Rattle.std.proofs.Common.{length-take, length-drop}
+use Rattle.std.specs.Prelude.{option_and_then}
 use Rattle.std.proofs.lemmas.List.Elements.{All-take, All-drop}
 use Rattle.tagged_word.proofs.Members.{first_in}
 use Rattle.heap_model.specs.Types.{Value, Cell}
 use Rattle.object_graph.specs.declared.object.Object.TheVariants.{List as ListOf}
-use Rattle.object_graph.specs.Graphs.{Graph, ListObject}
+use Rattle.object_graph.specs.declared.value.Value.TheVariants.{Ref}
+use Rattle.object_graph.specs.Graphs.{Graph, ListObject, as_list}
 use Rattle.object_graph.specs.Invariants.{IsValue}
 use Rattle.object_graph.specs.Meaning.{relist}
 use Rattle.graph_laws.proofs.MadeGraphs.{relists}
@@ -64,6 +66,7 @@ list_are_new {graph = graph} {list = list} shows is = elements_are_new graph lis
 -- what is known where words of a trim were put for a list that is shown
 pub record Trimmed (old new : Mutator) (graph : Graph) (at : ℕ) (list : ListObject) (after : List Value) : Type 0 where
   pub shows : MainShows old graph
+  pub is : IsListAt old graph at list
   pub within : AreWithin old.seat.space.sizes old.seat.space.variables
   pub shown : ListShown (heap_of old) at list
   pub are : AreNewElements graph after
@@ -106,7 +109,9 @@ module _ {old new : Mutator} {graph : Graph} {at : ℕ} {list : ListObject} {aft
   graph_shown : MainShows new (relist graph list after)
   graph_shown =
       replaced_shows list.number (ListOf after) graph.paths trimmed.shows
-      (relists graph list after trimmed.shows.is_graph trimmed.are.are) (trimmed.puts.paths ∙ trimmed.shows.shows.paths)
+      (relists graph (Ref list.number) list after trimmed.shows.is_graph
+      (ap (λ found. option_and_then (as_list list.number) found) trimmed.is.object) trimmed.are.are)
+      (trimmed.puts.paths ∙ trimmed.shows.shows.paths)
       (links_reached graph after trimmed.are) rests replaces
 
   -- no word more is used

@@ -53,7 +53,7 @@ module _ {old new : Heap} {cell store came : Cell} {pieces : List Cell} {before 
     writing = trim_writing trim;
     numbers = has_numbers trim.whole.rows trim.has (is_object trim)
         (λ k word there. element_of_number k word trim.has trim.shown.of_kind (slots_were trim) there)
-        (λ at word slot. element_slot (list_now trim) trim.shown.of_kind (elements_now trim) slot);
+        (λ at word slot names. element_slot (list_now trim) trim.shown.of_kind (elements_now trim) slot);
     origin = λ k. from + k;
     apart = λ k other word another there there_too same. omega (arith, same);
     one = 0;

@@ -57,7 +57,7 @@ module _ {old new : Heap} {cell store came : Cell} {pieces : List Cell} {before 
     whole = trim.whole;
     cells = (trimmed_cells trim).1;
     object = is_object;
-    still_object = is_object;
+    same_kind = refl;
     place = refl;
     number = refl;
     went_none = λ one there. ap (λ (c : Cell). is_object_kind c.layout.kind) (sym (one_in store one there))

@@ -228,7 +228,7 @@ module _ {old new : Mutator} {graph : Graph} {at : ℕ} {list : ListObject} {kep
   -- so the heap shows the list with these elements, and its store has as many slots
   pub truncated_has_trimmed : HasTrimmed old new graph at list (take kept list.elements) kept
   truncated_has_trimmed =
-      cut_has_trimmed stored header cut after words_put shows within
+      cut_has_trimmed stored header cut after words_put shows is within
       (taken_are_new graph list.elements kept (list_are_new shows is)) into
       (record {
         elements = λ k value there.

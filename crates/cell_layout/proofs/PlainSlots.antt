@@ -8,10 +8,10 @@ use Rattle.std.proofs.lemmas.Nat.{shr-shr, shr_le}
 use Rattle.std.proofs.lemmas.Nat.Bits.{bit_at-trailing_ones}
 use Rattle.tagged_word.specs.declared.layout.LayoutWord.{LayoutWord}
 use Rattle.tagged_word.specs.Layouts.{HasInObjectSlots, is_raw}
-use Rattle.tagged_word.specs.Cells.{store_slot, in_object_offsets, plain_head}
+use Rattle.tagged_word.specs.Cells.{store_slot, proto_slot, in_object_offsets, plain_head}
 use Rattle.tagged_word.proofs.Masks.{eight_bits}
-use Rattle.tagged_word.proofs.Members.{in_cases, rest_in, first_in}
-use Rattle.tagged_word.proofs.Offsets.{IsInObject, in_object_in, in_object_is}
+use Rattle.tagged_word.proofs.Offsets.{IsInObject, IsPlainSlot, plain_slot_is, in_object_in}
+use Rattle.tagged_word.proofs.Offsets.{plain_has_store, plain_has_proto, plain_has_own}
 use Rattle.cell_layout.specs.Slots.{IsLeastFrom}
 use Rattle.cell_layout.proofs.NextSlots.{all_below}
 
@@ -49,19 +49,21 @@ raw_run layout slot has =
       };
     }
 
--- what is visited behind the store's slot is an in-object slot
-behind_store : (layout : LayoutWord) (from other : ℕ) → store_slot < from →
-    Contains (store_slot ∷ in_object_offsets layout) other → from ≤ other → IsInObject layout other
-behind_store layout from other past among at =
-    ⊎_elim (λ store. absurd (omega (arith, store))) (λ has. in_object_is layout other has)
-    (in_cases store_slot (in_object_offsets layout) other among)
+-- what is visited after the prototype's slot is an in-object slot
+after_proto : (layout : LayoutWord) (from other : ℕ) → proto_slot < from →
+    Contains (store_slot ∷ proto_slot ∷ in_object_offsets layout) other → from ≤ other → IsInObject layout other
+after_proto layout from other past among at = elim (plain_slot_is layout other among) [
+  | IsPlainSlot.store same ↦ absurd (omega (arith, same, past, at))
+  | IsPlainSlot.proto same ↦ absurd (omega (arith, same, past, at))
+  | IsPlainSlot.own inside ↦ inside
+]
 
 -- and so none of those that are raw
-past_raw : (layout : LayoutWord) (from next other : ℕ) → store_slot < from → AreRaw layout (from - plain_head) next →
-    Contains (store_slot ∷ in_object_offsets layout) other → from ≤ other →
+past_raw : (layout : LayoutWord) (from next other : ℕ) → proto_slot < from → AreRaw layout (from - plain_head) next →
+    Contains (store_slot ∷ proto_slot ∷ in_object_offsets layout) other → from ≤ other →
     (plain_head + next ≤ other) × (other < plain_head + layout.used)
 past_raw layout from next other past raw among at =
-    let slot = behind_store layout from other past among at in
+    let slot = after_proto layout from other past among at in
     let used : other < plain_head + layout.used = omega (arith, slot.used, slot.behind) in
     ⊎_elim
     (λ less.
@@ -70,41 +72,64 @@ past_raw layout from next other past raw among at =
     (λ not_less. (omega arith, used))
     (cases_lt other (plain_head + next))
 
+-- no slot of a plain cell stands before that of its store
+at_store_least : (layout : LayoutWord) (other : ℕ) →
+    Contains (store_slot ∷ proto_slot ∷ in_object_offsets layout) other → store_slot ≤ other
+at_store_least layout other among = elim (plain_slot_is layout other among) [
+  | IsPlainSlot.store same ↦ omega (arith, same)
+  | IsPlainSlot.proto same ↦ omega (arith, same)
+  | IsPlainSlot.own inside ↦ omega (arith, inside.behind)
+]
+
 -- the slot of the store is the first from its offset or one before it
 pub first_is_store : (layout : LayoutWord) (from : ℕ) → from ≤ store_slot →
-    IsLeastFrom (store_slot ∷ in_object_offsets layout) from store_slot
+    IsLeastFrom (store_slot ∷ proto_slot ∷ in_object_offsets layout) from store_slot
 first_is_store layout from before = record {
-  among = first_in store_slot (in_object_offsets layout);
+  among = plain_has_store layout;
   reached = before;
-  least = λ other has at.
-      ⊎_elim (λ store. omega (arith, store))
-      (λ slot. omega (arith, (in_object_is layout other slot).behind))
-      (in_cases store_slot (in_object_offsets layout) other has);
+  least = λ other has at. at_store_least layout other has;
 }
 
--- behind it the first is the slot that a run of raw ones ends at
-pub first_of_plain : (layout : LayoutWord) (from many next : ℕ) → store_slot < from →
+-- no slot after that of the store stands before that of the prototype
+at_proto_least : (layout : LayoutWord) (from other : ℕ) → store_slot < from →
+    Contains (store_slot ∷ proto_slot ∷ in_object_offsets layout) other → from ≤ other → proto_slot ≤ other
+at_proto_least layout from other past among at = elim (plain_slot_is layout other among) [
+  | IsPlainSlot.store same ↦ absurd (omega (arith, same, past, at))
+  | IsPlainSlot.proto same ↦ omega (arith, same)
+  | IsPlainSlot.own inside ↦ omega (arith, inside.behind)
+]
+
+-- after it the slot of the prototype is the first from its offset
+pub first_is_proto : (layout : LayoutWord) (from : ℕ) → store_slot < from → from ≤ proto_slot →
+    IsLeastFrom (store_slot ∷ proto_slot ∷ in_object_offsets layout) from proto_slot
+first_is_proto layout from past before = record {
+  among = plain_has_proto layout;
+  reached = before;
+  least = λ other has at. at_proto_least layout from other past has at;
+}
+
+-- after that the first is the slot that a run of raw ones ends at
+pub first_of_plain : (layout : LayoutWord) (from many next : ℕ) → proto_slot < from →
     IsRawRun layout (from - plain_head) many → next ≡ (from - plain_head) + many → next < layout.used →
-    IsLeastFrom (store_slot ∷ in_object_offsets layout) from (plain_head + next)
+    IsLeastFrom (store_slot ∷ proto_slot ∷ in_object_offsets layout) from (plain_head + next)
 first_of_plain layout from many next past run is used =
     let place : (from - plain_head) + many ≡ (plain_head + next) - plain_head = omega (arith, is) in
     let ends = run.ends in
     let slot : IsInObject layout (plain_head + next) =
     record { behind = omega arith; used = omega arith; tagged = rw place at ends } in
     record {
-      among = rest_in store_slot (in_object_offsets layout) (plain_head + next)
-          (in_object_in layout (plain_head + next) slot);
+      among = plain_has_own layout (plain_head + next) (in_object_in layout (plain_head + next) slot);
       reached = omega (arith, is);
       least = λ other has at.
           omega (arith, is, (past_raw layout from ((from - plain_head) + many) other past run.all has at).0);
     }
 
 -- where all that are used are raw, none is left
-pub none_of_plain : (layout : LayoutWord) (from next : ℕ) → store_slot < from →
+pub none_of_plain : (layout : LayoutWord) (from next : ℕ) → proto_slot < from →
     AreRaw layout (from - plain_head) next → layout.used ≤ next →
-    All (λ offset. offset < from) (store_slot ∷ in_object_offsets layout)
+    All (λ offset. offset < from) (store_slot ∷ proto_slot ∷ in_object_offsets layout)
 none_of_plain layout from next past raw used =
-    all_below (store_slot ∷ in_object_offsets layout) from
+    all_below (store_slot ∷ proto_slot ∷ in_object_offsets layout) from
     (λ other has.
     ⊎_elim (λ less. less)
     (λ not_less. let place = past_raw layout from next other past raw has (omega arith) in

@@ -2,13 +2,13 @@
 ghost use Rattle.std.specs.Prelude.{◌∷◌, []};
 ghost use Rattle.std.specs.List.{range_with_len};
 ghost use Rattle.tagged_word.specs.Layouts.{HasInObjectSlots};
-ghost use Rattle.tagged_word.specs.Cells.{store_slot, store_head, in_object_offsets};
+ghost use Rattle.tagged_word.specs.Cells.{store_slot, proto_slot, store_head, in_object_offsets};
 ghost use Rattle.tagged_word.specs.Cells.{tagged_offsets, scavenge_offsets};
 ghost use Rattle.cell_layout.specs.Cells.{IsSized};
 ghost use Rattle.cell_layout.specs.Slots.{IsFirstFrom};
 
 use crate::cell::Cell;
-use tagged_word::cell::{PLAIN_HEAD, STORE_HEAD, STORE_SLOT};
+use tagged_word::cell::{PLAIN_HEAD, PROTO_SLOT, STORE_HEAD, STORE_SLOT};
 use tagged_word::{Kind, LayoutWord};
 
 /// The offset of the first slot, from an offset on, that marking visits; none where there is none.
@@ -40,15 +40,18 @@ pub fn next_scavenge_slot(cell: &Cell, from: u32) -> Option<u32>
     }
 }
 
-/// Among the slots of a plain cell: its store's, and behind it the in-object ones that are used and
-/// not raw. The raw ones that stand next are counted at once.
+/// Among the slots of a plain cell: its store's, its prototype's, and after them the in-object ones
+/// that are used and not raw. The raw ones that stand next are counted at once.
 #[inline]
 fn next_of_plain(layout: LayoutWord, from: u32) -> Option<u32>
     requires has { HasInObjectSlots layout }
-    ensures { IsFirstFrom (store_slot ∷ in_object_offsets layout) from result }
+    ensures { IsFirstFrom (store_slot ∷ proto_slot ∷ in_object_offsets layout) from result }
 {
     if from <= STORE_SLOT {
         return Some(STORE_SLOT);
+    }
+    if from <= PROTO_SLOT {
+        return Some(PROTO_SLOT);
     }
     let slot = from - PLAIN_HEAD;
     if slot >= layout.used {

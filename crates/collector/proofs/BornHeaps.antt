@@ -1,6 +1,6 @@
 -- What a full collection leaves is what a collection has to leave that ends a cycle of marking.
 use Rattle.std.proofs.Common.{◌≡◌, ℕ, ◌≤◌, ◌⊎◌, Bool, true, false, List, length, IsTrue, inl, inr}
-use Rattle.std.proofs.Common.{nat_lt, refl, arith}
+use Rattle.std.proofs.Common.{nat_lt, refl, ap, subst, arith}
 use Rattle.std.proofs.lemmas.Bool.Decides.{nat_tests}
 use Rattle.tagged_word.specs.Cells.{is_free_kind}
 use Rattle.object_graph.specs.Graphs.{Graph}
@@ -8,6 +8,7 @@ use Rattle.object_graph.specs.Reach.{is_marked, reach}
 use Rattle.heap_model.specs.Types.{Cell}
 use Rattle.heap_model.specs.Heaps.{Heap, HasCell}
 use Rattle.live_cells.specs.Exact.{Exact}
+use Rattle.live_cells.specs.Laws.{BelongsToReached}
 use Rattle.graph_laws.specs.ReachAfter.{StaysLost}
 use Rattle.collector.specs.Born.{MayStand, ExactIsBorn}
 use Rattle.collector.proofs.BornFronts.{dead_fills, copies_take_fronts}
@@ -39,6 +40,9 @@ exact_is_born opening old new rows graph stays leaves =
       no_dead_word = λ cell words has used of_page lost at word was. lost (used_is_live leaves.exact has used);
       words = λ cell before after had has used no_map no_table lost.
           absurd (lost (used_is_live leaves.exact has used));
+      pairs = λ map before after had has lost.
+          absurd (lost (subst (BelongsToReached new graph) has.stands
+          (used_is_live leaves.exact has.has (ap is_free_kind has.of_kind))));
       stands = λ cell words has. packed_stands old leaves.exact has (is_free_kind cell.layout.kind) refl;
       filled = dead_fills keeps.shows.whole.rows leaves.dead;
       free = leaves.free;

@@ -88,5 +88,6 @@ module _ {old bare cleared new : Mutator} {graph : Graph} {given maps marked : L
     rooms = (swept_marked steps).rooms;
     seat = rest steps;
     paths = (swept_marked steps).paths;
+    cycle = (swept_marked steps).cycle;
     young = young_is steps;
   }

@@ -142,6 +142,7 @@ module _ {old mid new : Mutator} {graph : Graph} (shown : MainShows old graph) (
         shows = keeps.shows graph sweeps.shows;
         seat = rest_stays_again old.seat mid.seat new.seat sweeps.seat scavenged.seat;
         paths = scavenged.paths ∙ sweeps.paths;
+        cycle = scavenged.cycle ∙ sweeps.cycle;
         rows = scavenged.rows ∙ sweeps.rows ∙ pages ∙ sym rows;
         ungranted = ap (λ (one : Young). in_eden one) scavenged.young;
       }

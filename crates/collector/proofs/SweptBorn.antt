@@ -8,13 +8,16 @@ use Rattle.nursery.specs.Young.{Young}
 use Rattle.object_graph.specs.Graphs.{Graph}
 use Rattle.heap_model.specs.Types.{Cell}
 use Rattle.heap_model.specs.Heaps.{HasCell}
+use Rattle.heap_model.specs.Kinds.{Pair}
 use Rattle.heap_model.proofs.StaysCollectable.{object_not_free}
 use Rattle.heap_moves.proofs.MovedWords.{contains_or_not}
 use Rattle.live_cells.specs.Exact.{IsWordOf}
 use Rattle.write_barrier.specs.MutatorState.{Mutator, heap_of}
+use Rattle.weak_pairs.specs.Pairs.{HasPairsAt}
+use Rattle.ephemeron_table.proofs.TablesRead.{one_map}
 use Rattle.sweeper.specs.Swept.{IsCellWord}
 use Rattle.live_cells.specs.Live.{IsLive, IsRootTarget}
-use Rattle.collector.specs.Born.{MayStand}
+use Rattle.collector.specs.Born.{MayStand, AreSomePairsOf}
 use Rattle.collector.specs.Images.{IsOfSomeCell}
 use Rattle.collector.specs.LastSweep.{SweptIsBorn}
 use Rattle.collector.specs.MarkSwept.{WasMarked, SweepsMarked}
@@ -91,6 +94,19 @@ module _ {old new : Mutator} {marked : List ℕ} {graph : Graph} (sweeps : Sweep
   may_stand cell words has false is =
       let was = sweeps.used cell words has is in MayStand.stood was.words was.had
 
+  -- a weak map that stands has some of its own pairs
+  own_pairs : (map : ℕ) (before after : List Pair) → HasPairsAt (heap_of old) map before
+      → HasPairsAt (heap_of new) map after → AreSomePairsOf before after
+  own_pairs map before after had has =
+      let was = sweeps.used has.cell has.words has.has (ap is_free_kind has.of_kind) in
+      let left = sweeps.pairs map before (subst (Contains marked) has.stands was.among) had in
+      subst (AreSomePairsOf before) (one_map left.has.are has) (record {
+        long = left.has.left.long;
+        origin = left.has.left.origin;
+        from = left.has.left.from;
+        apart = left.has.left.apart;
+      })
+
 -- so it is
 pub swept_is_born : SweptIsBorn
 swept_is_born opening old new marked graph sweeps born no_dead = record {
@@ -115,6 +131,7 @@ swept_is_born opening old new marked graph sweeps born no_dead = record {
   words = λ cell before after had has used no_map no_table lost.
       let was = sweeps.used cell after has used in
       let kept = sweeps.others cell before had was.among no_map no_table in sym has.words_are ∙ kept.words_are;
+  pairs = λ map before after had has lost. own_pairs sweeps map before after had has;
   stands = λ cell words has. may_stand sweeps cell words has (is_free_kind cell.layout.kind) refl;
   filled = sweeps.filled;
   free = sweeps.shows.free;

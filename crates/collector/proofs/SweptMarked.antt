@@ -303,5 +303,6 @@ module _ {old bare cleared new : Mutator} {graph : Graph} {given maps marked : L
     rooms = subst (λ (heap : Heap). RoomsAreNoFuller heap (heap_of new) graph) same_heap (rooms_no_fuller after);
     seat = rest;
     paths = steps.sweeps.paths ∙ steps.clears.takes.paths ∙ steps.ungrants.paths;
+    cycle = steps.sweeps.cycle ∙ steps.clears.takes.cycle ∙ steps.ungrants.cycle;
     young = young_is;
   }

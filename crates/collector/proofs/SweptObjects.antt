@@ -143,7 +143,7 @@ module _ {old mid : Mutator} {new : Heap} {graph : Graph} {maps marked : List �
   room_by : (number at : ℕ) (what : Object) → slice_get graph.objects number ≡ Some what
       → IsTrue (is_marked (reach graph) number) → IsPlace new number at
       → IsNoFuller (room_at new at what) (room_at (heap_of old) at what)
-  room_by number at (graph_object.Plain cap fields) object reached place =
+  room_by number at (graph_object.Plain cap proto fields) object reached place =
       record { capacity = same_capacity number at place; entries = omega arith }
   room_by number at (graph_object.List elements) object reached place =
       record { capacity = same_capacity number at place; entries = omega arith }

@@ -11,6 +11,7 @@ use Rattle.object_graph.specs.Reach.{is_marked, reach}
 use Rattle.graph_laws.specs.ReachAfter.{StaysLost}
 use Rattle.heap_model.specs.Types.{Cell, Run}
 use Rattle.heap_model.specs.Heaps.{Heap, HasCell}
+use Rattle.heap_model.specs.Kinds.{Pair}
 use Rattle.heap_model.specs.Collectable.{AreFreeRuns}
 use Rattle.heap_model.specs.Rooms.{RoomsAreNoFuller}
 use Rattle.heap_model.specs.Showing.{Shows}
@@ -18,6 +19,7 @@ use Rattle.heap_model.specs.Slots.{IsPlace}
 use Rattle.live_cells.specs.Exact.{IsWordOf}
 use Rattle.live_cells.specs.Laws.{BelongsToReached}
 use Rattle.live_cells.specs.Live.{IsLive, IsRootTarget}
+use Rattle.weak_pairs.specs.Pairs.{HasPairsAt, IsFilledAt}
 use Rattle.write_barrier.specs.MutatorState.{Mutator}
 use Rattle.scavenger.specs.Laws.{KeepsGraphs}
 use Rattle.scavenger.specs.Scavenged.{Scavenges}
@@ -71,6 +73,14 @@ pub record IsCopy (old new : Heap) (cell : Cell) : Type 0 where
   pub of_page : cell.at < eden_start new.space
   pub fresh : (others : List ℕ) → HasCell old cell others → ⊥
 
+-- Each of these pairs that holds something was one of those before, no two were the same one, and there are as many.
+pub record AreSomePairsOf (before after : List Pair) : Type 0 where
+  pub long : length after ≡ length before
+  pub origin : ℕ → ℕ
+  pub from : (at : ℕ) (pair : Pair) → IsFilledAt after at pair → IsFilledAt before (origin at) pair
+  pub apart : (at other : ℕ) (pair another : Pair) → IsFilledAt after at pair → IsFilledAt after other another
+      → origin at ≡ origin other → at ≡ other
+
 -- What a collection leaves that ends a cycle, of a heap that shows a graph, and whose pages have these free runs then.
 pub record LeavesBorn (opening : Opening) (old new : Heap) (rows : List (List Run)) (graph : Graph) : Type 0 where
   pub space : new.space ≡ old.space
@@ -88,6 +98,10 @@ pub record LeavesBorn (opening : Opening) (old new : Heap) (rows : List (List Ru
   pub words : (cell : Cell) (before after : List ℕ) → HasCell old cell before → HasCell new cell after
       → is_free_kind cell.layout.kind ≡ false → cell.layout.kind ≢ kind.Weak → cell.layout.kind ≢ kind.Table
       → (BelongsToReached new graph cell.at → ⊥) → after ≡ before
+  -- a weak map that is kept, and belongs to nothing that can be reached, has no pair but its own ones, in a table of as
+  -- many places
+  pub pairs : (map : ℕ) (before after : List Pair) → HasPairsAt old map before → HasPairsAt new map after
+      → (BelongsToReached new graph map → ⊥) → AreSomePairsOf before after
   -- no cell is made that nothing needs; and of the young generation only words of cells that were not live become free
   pub stands : (cell : Cell) (words : List ℕ) → HasCell new cell words → MayStand old new graph cell
   -- what is free in pages is in free runs; these are single free cells that neither overlap nor touch

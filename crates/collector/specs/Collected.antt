@@ -43,12 +43,13 @@ pub record LeavesExact (old new : Heap) (rows : List (List Run)) (graph : Graph)
   pub few : new.survivors ≤ old.survivors + old.used
 
 -- The mutator after a full collection of a heap that shows a graph. The heap is such as a full collection leaves, and
--- the graph is shown. Regions, phase, field paths, the number of words, and that of rows of free runs are the same.
--- Nothing is granted.
+-- the graph is shown. Regions, phase, field paths, the number of words, that of rows of free runs, and what is known of
+-- a cycle are the same. Nothing is granted.
 pub record CollectsAll (old new : Mutator) (graph : Graph) : Type 0 where
   pub leaves : LeavesExact (heap_of old) (heap_of new) new.free graph
   pub shows : MainShows new graph
   pub seat : RestStays old.seat new.seat
   pub paths : new.paths ≡ old.paths
+  pub cycle : new.cycle ≡ old.cycle
   pub rows : length new.free ≡ length old.free
   pub ungranted : in_eden new.young ≡ true

@@ -32,6 +32,7 @@ pub record Ungrants (old new : Mutator) : Type 0 where
   pub words : heap_words new.seat ≡ heap_words old.seat
   pub beside : RestStays old.seat new.seat
   pub paths : new.paths ≡ old.paths
+  pub cycle : new.cycle ≡ old.cycle
   pub touches : Touches old new untouched
 
 -- Each live cell stands where it stood, be it an object's, a store, a table or a box. Its words may have changed.
@@ -55,9 +56,10 @@ pub record MarkSweeps (old new : Mutator) (graph : Graph) : Type 0 where
   pub cells : LiveCellsStay (heap_of old) (heap_of new)
   -- objects have the capacity that they had, and no more of it filled
   pub rooms : RoomsAreNoFuller (heap_of old) (heap_of new) graph
-  -- regions, phase and field paths are the same
+  -- regions, phase, field paths and what is known of a cycle are the same
   pub seat : RestStays old.seat new.seat
   pub paths : new.paths ≡ old.paths
+  pub cycle : new.cycle ≡ old.cycle
   -- as much of eden is used, and as much has survived; but nothing is granted any more
   pub young : new.young ≡ with_granted old.young no_run
 
@@ -130,8 +132,9 @@ pub record SweepsMarked (old new : Mutator) (marked : List ℕ) (graph : Graph) 
   pub rows : length new.free ≡ new.seat.space.sizes.pages
   -- objects have the capacity that they had, and no more of it filled
   pub rooms : RoomsAreNoFuller (heap_of old) (heap_of new) graph
-  -- regions, phase and field paths are the same
+  -- regions, phase, field paths and what is known of a cycle are the same
   pub seat : RestStays old.seat new.seat
   pub paths : new.paths ≡ old.paths
+  pub cycle : new.cycle ≡ old.cycle
   -- as much of eden is used, and as much has survived; but nothing is granted any more
   pub young : new.young ≡ with_granted old.young no_run

@@ -15,21 +15,21 @@ lend; shade 0; header 0 0; layout 0; load 0 1; settle 0 -> visit [3]; out true; 
 then visit 0 3; return 0 -> grey [0, 3]; owed []; out false; \
     colours [2, 0, 0, 1, 0, 0, 0, 0, 0, 0, 0, 0, 0, 0, 0, 0, 0, 0, 0, 0]";
 
-/// A scavenge promoted the cell at 9, which refers to 12 and 7. The mutator's part is done once both are shaded.
+/// A scavenge promoted the cell at 10, which refers to 14 and 7. The mutator's part is done once both are shaded.
 const PROMOTED: &str = "\
-look -> mine [9]; sure []; owed []; open [9]
-then shade 12 -> sure [12]; grey [12]; open [9]
-then shade 7 -> sure [12, 7]; grey [12, 7]; open []";
+look -> mine [10]; sure []; owed []; open [10]
+then shade 14 -> sure [14]; grey [14]; open [10]
+then shade 7 -> sure [14, 7]; grey [14, 7]; open []";
 
-/// The world of changes after a scavenge that promoted the cell at 9: it is black, and counts as made black.
+/// The world of changes after a scavenge that promoted the cell at 10: it is black, and counts as made black.
 fn promoted(alloc: Global) -> Result<World, Fail> {
     let mut start = world(alloc, changes::WORDS, changes::CELLS)?;
     let mut colours = vec![in alloc; 0u8; 2048]?;
-    if let Some(colour) = colours.get_mut(9) {
+    if let Some(colour) = colours.get_mut(10) {
         *colour = 2;
     }
     start.colours = Items::from_vec(colours);
-    start.main.mine = Items::from_vec([9u32].to_vec(alloc)?);
+    start.main.mine = Items::from_vec([10u32].to_vec(alloc)?);
     Ok(start)
 }
 

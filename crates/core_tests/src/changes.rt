@@ -3,60 +3,61 @@
 //! which of the cells that it made black it is not done with.
 
 /// A list at 0 with two elements, in its store at 3: a cell and a small integer. That cell at 7, a
-/// plain one of no slots. At 9 a plain cell with a slot, which refers to 7, and a property store at 12
-/// for a second field, in the box at 16. A gap at 18; in its dead words a store stood at 20.
-pub(crate) const CELLS: &str = "0 3 7 9 12 16";
+/// plain one of no slots. At 10 a plain cell with a slot, which refers to 7, and a property store at 14
+/// for a second field, in the box at 18. A gap at 20; in its dead words a store stood at 22.
+pub(crate) const CELLS: &str = "0 3 7 10 14 18";
 
-pub(crate) const WORDS: &str = "6 13 2 14 2 29 4 34 3 70 49 29 14 2 65 7 22 13 30 2030 14 2 29 65";
+pub(crate) const WORDS: &str =
+    "6 13 2 14 2 29 4 34 3 3 70 57 3 29 14 2 73 7 22 13 30 2028 14 2 29 73";
 
 /// A property store is made for the cell at 7, and a field put there. The words of the new store are
 /// those of a dead one, which refers to cells that the mutator is not sure of.
 const STORE_MADE: &str = "\
-slot 8 81 -> stops at 0
-then new 20 -> mine [20]; sure []; owed []; open [20]
-then own 20 14; own 21 4 -> open [20]
-then slot 22 7 -> open [20]
-then slot 23 7 -> open []
-then slot 24 7; slot 25 7 -> owed []; open []
-then slot 8 81 -> owed [20]; open []
-then shade 20 -> sure [20]; owed []; grey []; open []
-then slot 22 1 -> owed [0]; open [20]
-then shade 0 -> sure [20, 0]; owed []; grey [0]; open []
+slot 8 89 -> stops at 0
+then new 22 -> mine [22]; sure []; owed []; open [22]
+then own 22 14; own 23 4 -> open [22]
+then slot 24 7 -> open [22]
+then slot 25 7 -> open []
+then slot 26 7; slot 27 7 -> owed []; open []
+then slot 8 89 -> owed [22]; open []
+then shade 22 -> sure [22]; owed []; grey []; open []
+then slot 24 1 -> owed [0]; open [22]
+then shade 0 -> sure [22, 0]; owed []; grey [0]; open []
 then head 7 78 -> stops at 0
-then lay 19 1; head 7 78 -> mine [20]; owed []; open []; \
-    page [6, 13, 2, 14, 2, 29, 4, 78, 81, 70, 49, 29, 14, 2, 65, 7, 22, 13, 30, 2030, 14, 4, 1, 7, 7, 7]";
+then lay 19 1; head 7 78 -> mine [22]; owed []; open []; \
+    page [6, 13, 2, 14, 2, 29, 4, 78, 89, 3, 70, 57, 3, 29, 14, 2, 73, 7, 22, 13, 30, 2028, 14, 4, 1, 7, 7, 7]";
 
-/// A slot of the cell at 9 holds a small integer, and then a wide one. Behind that it is raw: also the
+/// A slot of the cell at 10 holds a small integer, and then a wide one. Behind that it is raw: also the
 /// bits of a reference are just a number there.
 const SMALL_TO_WIDE: &str = "\
-slot 11 4 -> owed []; open []
-then own 11 5000000000 -> stops at 0
-then head 9 74 -> stops at 0
-then blacken 9 -> mine [9]; sure [12]; owed [12]; open []
-then shade 12 -> owed []; grey [12]; open []
-then own 11 5000000000 -> open []
-then head 9 74 -> stops at 0
-then own 9 74 -> mine [9]; sure [12]; owed []; open []
-then own 11 65 -> open []";
+slot 13 4 -> owed []; open []
+then own 13 5000000000 -> stops at 0
+then head 10 74 -> stops at 0
+then blacken 10 -> mine [10]; sure [14]; owed [14]; open []
+then shade 14 -> owed []; grey [14]; open []
+then own 13 5000000000 -> open []
+then head 10 74 -> stops at 0
+then own 10 74 -> mine [10]; sure [14]; owed []; open []
+then own 13 73 -> open []";
 
-/// The first of two fields of the cell at 9 is deleted, while a helper reads the cell. The second is
+/// The first of two fields of the cell at 10 is deleted, while a helper reads the cell. The second is
 /// wide: its integer becomes raw in the slot, where its bits are those of a reference to 3 until the
 /// header tells.
 const FIELD_DELETED: &str = "\
-lend; shade 9; header 0 9; layout 0 -> sure [9]; owed []; grey [9]; open []
-then own 14 7 -> stops at 0
-then blacken 9 -> mine [9]; sure [9, 12, 7]; owed [12, 7]; grey []; open []
-then shade 12; shade 7 -> owed []; grey [12, 7]; open []
+lend; shade 10; header 0 10; layout 0 -> sure [10]; owed []; grey [10]; open []
+then own 16 7 -> stops at 0
+then blacken 10 -> mine [10]; sure [10, 14, 7]; owed [14, 7]; grey []; open []
+then shade 14; shade 7 -> owed []; grey [14, 7]; open []
 then load 0 1 -> visit []
-then blacken 12 -> mine [9, 12]; sure [9, 12, 7, 16]; owed [16]; grey [7]; open []
-then shade 16 -> owed []; grey [7, 16]; open []
-then own 11 13 -> owed []; open [9]
-then load 0 2 -> open [9]
-then own 14 7 -> open [9]
-then own 9 74 -> owed []; open []; \
-    page [6, 13, 2, 14, 2, 29, 4, 34, 3, 74, 49, 13, 14, 2, 7, 7, 22, 13, 30, 2030, 14, 2, 29, 65, 0, 0]
-then settle 0 -> visit []; last 70 2; slot 1 49; log [Loaded { at: 9 }, Coloured { at: 9, found: 2 }]
-then return 0 -> owed []; grey [7, 16]; out false; open []";
+then blacken 14 -> mine [10, 14]; sure [10, 14, 7, 18]; owed [18]; grey [7]; open []
+then shade 18 -> owed []; grey [7, 18]; open []
+then own 13 13 -> owed []; open [10]
+then load 0 3; load 0 2 -> open [10]
+then own 16 7 -> open [10]
+then own 10 74 -> owed []; open []; \
+    page [6, 13, 2, 14, 2, 29, 4, 34, 3, 3, 74, 57, 3, 13, 14, 2, 7, 7, 22, 13, 30, 2028, 14, 2, 29, 73, 0, 0]
+then settle 0 -> visit []; last 70 3; slot 1 57; log [Loaded { at: 10 }, Coloured { at: 10, found: 2 }]
+then return 0 -> owed []; grey [7, 18]; out false; open []";
 
 /// The first element of the list goes, while a helper reads the store. Its capacity was 2: the word is
 /// the header of the new start, and until then no cell is read there.
@@ -75,7 +76,7 @@ then shade 4 -> sure [3, 7, 4]; owed []; grey [7]; open [3]
 then own 2 1 -> open [3]
 then head 3 26 -> stops at 0
 then own 3 26 -> mine [3, 4]; owed []; open []; \
-    page [6, 17, 1, 26, 14, 1, 4, 34, 3, 70, 49, 29, 14, 2, 65, 7, 22, 13, 30, 2030, 14, 2, 29, 65, 0, 0]
+    page [6, 17, 1, 26, 14, 1, 4, 34, 3, 3, 70, 57, 3, 29, 14, 2, 73, 7, 22, 13, 30, 2028, 14, 2, 29, 73, 0, 0]
 then settle 0 -> visit []; last 14 2; slot 2 1; log [Loaded { at: 3 }, Coloured { at: 3, found: 2 }]
 then return 0 -> owed []; out false; open []";
 
@@ -88,40 +89,40 @@ then shade 7 -> owed []; grey [7]; open []
 then own 4 0 -> open []
 then own 2 0 -> open []
 then own 6 2; own 5 30 -> mine [3]; sure [7]; owed []; open []; \
-    page [6, 13, 0, 14, 0, 30, 2, 34, 3, 70, 49, 29, 14, 2, 65, 7, 22, 13, 30, 2030, 14, 2, 29, 65, 0, 0]";
+    page [6, 13, 0, 14, 0, 30, 2, 34, 3, 3, 70, 57, 3, 29, 14, 2, 73, 7, 22, 13, 30, 2028, 14, 2, 29, 73, 0, 0]";
 
-/// A third element, the cell at 9, is put last: the list gets a store of 4 slots, filled with the old
+/// A third element, the cell at 10, is put last: the list gets a store of 4 slots, filled with the old
 /// ones.
 const STORE_GROWN: &str = "\
-new 20 -> mine [20]; owed []; open [20]
-then own 20 14; own 21 4 -> open [20]
-then slot 22 29 -> owed [7]; open [20]
-then shade 7 -> sure [7]; owed []; grey [7]; open [20]
-then slot 23 4 -> owed []; open []
-then slot 24 37 -> owed [9]; open [20]
-then shade 9 -> sure [7, 9]; owed []; open []
-then slot 25 7 -> owed []; open []
-then slot 1 81 -> owed [20]; open []
-then shade 20 -> sure [7, 9, 20]; owed []; grey [7, 9]; open []
-then own 2 3 -> mine [20]; owed []; open []; \
-    page [6, 81, 3, 14, 2, 29, 4, 34, 3, 70, 49, 29, 14, 2, 65, 7, 22, 13, 30, 2030, 14, 4, 29, 4, 37, 7]";
+new 22 -> mine [22]; owed []; open [22]
+then own 22 14; own 23 4 -> open [22]
+then slot 24 29 -> owed [7]; open [22]
+then shade 7 -> sure [7]; owed []; grey [7]; open [22]
+then slot 25 4 -> owed []; open []
+then slot 26 41 -> owed [10]; open [22]
+then shade 10 -> sure [7, 10]; owed []; open []
+then slot 27 7 -> owed []; open []
+then slot 1 89 -> owed [22]; open []
+then shade 22 -> sure [7, 10, 22]; owed []; grey [7, 10]; open []
+then own 2 3 -> mine [22]; owed []; open []; \
+    page [6, 89, 3, 14, 2, 29, 4, 34, 3, 3, 70, 57, 3, 29, 14, 2, 73, 7, 22, 13, 30, 2028, 14, 4, 29, 4, 41, 7]";
 
 /// From the world that other runs begin with: a raw slot is tagged when its target is sure, and not
 /// before. A tagged slot is raw in a cell that the mutator made black, and in no other.
 pub(crate) const SHAPES: &str = "\
-lend; shade 14; header 0 14; layout 0; slot 16 13; shade 3; head 14 70; load 0 1; settle 0 -> \
-    last 74 1; slot 1 3
-lend; shade 14; header 0 14; layout 0; slot 16 13; head 14 70; load 0 1; settle 0 -> stops at 5
-lend; shade 17; header 0 17; layout 0; blacken 17; own 19 5000000000; own 17 74; \
-    load 0 1; load 0 2; settle 0 -> \
-    colours [0, 0, 0, 0, 0, 0, 0, 0, 0, 0, 0, 0, 0, 0, 0, 0, 0, 2, 0, 0]; \
-    visit []; log [Loaded { at: 17 }, Coloured { at: 17, found: 2 }]
-lend; shade 17; header 0 17; layout 0; own 19 5000000000 -> stops at 4";
+lend; shade 15; header 0 15; layout 0; slot 18 13; shade 3; head 15 70; load 0 1; load 0 2; settle 0 -> \
+    last 74 2; slot 1 3
+lend; shade 15; header 0 15; layout 0; slot 18 13; head 15 70; load 0 1; load 0 2; settle 0 -> stops at 5
+lend; shade 19; header 0 19; layout 0; blacken 19; own 22 5000000000; own 19 74; \
+    load 0 1; load 0 2; load 0 3; settle 0 -> \
+    colours [0, 0, 0, 0, 0, 0, 0, 0, 0, 0, 0, 0, 0, 0, 0, 0, 0, 0, 0, 2]; \
+    visit []; log [Loaded { at: 19 }, Coloured { at: 19, found: 2 }]
+lend; shade 19; header 0 19; layout 0; own 22 5000000000 -> stops at 4";
 
 /// A store is trimmed from the left. A new cell lies in no other.
 pub(crate) const TRIM: &str = "\
 shade 5; blacken 8; shade 12; new 9; own 9 14; own 10 1; slot 6 37; shade 9; own 7 1; own 8 26 -> \
-    words [6, 13, 0, 14, 0, 6, 37, 1, 26, 14, 1, 3, 34, 3, 74, 3, 5000000000, 70, 3, 13]; \
+    words [6, 13, 0, 14, 0, 6, 37, 1, 26, 14, 1, 3, 34, 3, 3, 74, 3, 3, 5000000000, 70]; \
     mine [8, 9]; sure [5, 12, 9]; owed []
 new 9 -> stops at 0";
 

@@ -44,21 +44,22 @@ lay 9 1; lay 9 1 -> stops at 1";
 /// Where a cell may be new: in the pages, and in no cell that the mutator has not made black. Where a
 /// header changes: at such a cell, or in none; to one of a plain cell of this object and cap.
 const PLACES: &str = "\
-new 20 -> mine [20]
-new 17 -> stops at 0
+new 23 -> mine [23]
 new 19 -> stops at 0
-blacken 17; new 19 -> mine [17, 19]
+new 22 -> stops at 0
+blacken 19; new 22 -> mine [19, 22]
 new 2047 -> mine [2047]
 new 2048 -> stops at 0
-own 19 5 -> stops at 0
-own 18 5 -> stops at 0
-own 16 5 -> owed []
-own 14 74 -> stops at 0
+own 22 5 -> stops at 0
+own 21 5 -> stops at 0
+own 20 5 -> stops at 0
+own 18 5 -> owed []
+own 15 74 -> stops at 0
 own 7 5 -> owed []
 own 9 2 -> stops at 0
-head 17 70 -> owed []
-head 17 4294967366 -> stops at 0
-head 17 34 -> stops at 0
+head 19 70 -> owed []
+head 19 4294967366 -> stops at 0
+head 19 34 -> stops at 0
 head 12 6 -> stops at 0
 head 5 6 -> stops at 0
 slot 10 34; head 10 34 -> stops at 1
@@ -94,6 +95,8 @@ lend; shade 8; header 0 8; layout 0; length 0; load 0 4 -> stops at 5
 lend; shade 8; header 0 8; layout 0; length 0; load 0 3; load 0 2; settle 0 -> visit [12]; slot 3 3
 lend; shade 8; header 0 8; layout 0; length 0; load 0 3; load 0 3 -> stops at 6
 lend; shade 8; header 0 8; layout 0; length 0; load 0 3; settle 0 -> stops at 6
+lend; shade 19; header 0 19; layout 0; load 0 1; load 0 3; settle 0 -> stops at 6
+lend; shade 19; header 0 19; layout 0; load 0 1; load 0 3; load 0 2; settle 0 -> visit [3]; last 70 3
 lend; header 0 0 -> stops at 1
 lend; shade 0; header 0 0; header 0 0 -> stops at 3
 lend; shade 0; header 0 0; layout 0; load 0 1; settle 0; header 0 0 -> stops at 6
@@ -131,7 +134,7 @@ own 2048 5 -> stops at 0
 lay 8199 1 -> seats 0
 lay 8200 1 -> stops at 0
 lay 7 1 -> stops at 0
-look -> words [6, 13, 0, 14, 0, 6, 33, 2, 14, 2, 49, 3, 34, 3, 74, 3, 5000000000, 70, 3, 13]; seats 0
+look -> words [6, 13, 0, 14, 0, 6, 33, 2, 14, 2, 49, 3, 34, 3, 3, 74, 3, 3, 5000000000, 70]; seats 0
 lend; lend; lend; lend; lend; lend; lend -> seats 7
 lend; lend; lend; lend; lend; lend; lend; lend -> stops at 7";
 

@@ -14,16 +14,16 @@ use std::test::Fail;
 use tagged_word::Word;
 
 /// A list at 0 with its store of no slots at 3; a list at 5 with its store of two slots at 8 and a
-/// plain cell of none at 12; a plain cell with a raw slot at 14, one with a tagged slot at 17; a gap.
-pub(crate) const WORDS: &str = "6 13 0 14 0 6 33 2 14 2 49 3 34 3 74 3 5000000000 70 3 13 30 2028";
+/// plain cell of none at 12; a plain cell with a raw slot at 15, one with a tagged slot at 19; a gap.
+pub(crate) const WORDS: &str =
+    "6 13 0 14 0 6 33 2 14 2 49 3 34 3 3 74 3 3 5000000000 70 3 3 13 30 2025";
 
-pub(crate) const CELLS: &str = "0 3 5 8 12 14 17";
+pub(crate) const CELLS: &str = "0 3 5 8 12 15 19";
 
 /// The fixed layouts, shape 8 for plain cells of no slots, 17 for a tagged slot and 18 for a raw one.
 const LAYOUTS: &str = "0 2 3 4 5 6 7 8 1 0 0 0 0 0 0 0 0 273 4369";
 
-/// A settling that lost visits nothing. One that won has its targets to visit, and a seat that is
-/// taken back leaves them owed. A snap is settled only when it is read out.
+/// A settling that lost visits nothing. One that won has its targets to visit; a seat taken back leaves them owed.
 const SETTLING: &str = "\
 lend; shade 0; header 0 0; layout 0; load 0 1; blacken 0; settle 0; shade 3; return 0 -> \
     colours [2, 0, 0, 1, 0, 0, 0, 0, 0, 0, 0, 0, 0, 0, 0, 0, 0, 0, 0, 0]; \
@@ -166,7 +166,7 @@ fn is_done(world: &World, at: u32) -> bool {
 
 /// The first words of the page, and the cells that the mutator made black and is not done with.
 fn show_open(text: &mut String, alloc: Global, world: &World) -> Result<(), Fail> {
-    let page = world.words.as_slice().get(..26).unwrap_or(&[]);
+    let page = world.words.as_slice().get(..28).unwrap_or(&[]);
     let mut open = Vec::new(alloc);
     for at in world.main.mine.as_slice().iter() {
         if !is_done(world, *at) {

@@ -31,13 +31,14 @@ const WORKED: Start<'static> = Start {
     rooms: "room 0 8 14; room 1 16 20",
 };
 
-/// A plain cell whose first in-object slot is raw has the bits of a reference there.
+/// A plain cell whose first in-object slot is raw has the bits of a reference there. Its prototype slot and the other
+/// in-object slot refer to it.
 const RAW: Start<'static> = Start {
-    words: "9 0 6 3 9 9 0 0 0 0 0 0",
+    words: "9 0 6 3 9 9 9 0 0 0 0 0",
     layouts: "0 4641",
     cells: "2",
     slots: "0",
-    rooms: "room 0 7 11",
+    rooms: "room 0 7 12",
 };
 
 /// Both workers read the slots and the cell, and copy it.
@@ -106,9 +107,10 @@ lend; load 1 4 -> stops at 1";
 
 /// A raw slot keeps its bits, and the slots beside it are renamed.
 const KEPT: &str = "\
-lend; load 0 0; header 0; body 0; body 0; body 0; copy 0 7 6; copy 0 8 3; copy 0 9 9; copy 0 10 9; \
-    forward 0 7; redirect 0; load 0 8; load 0 10; header 0; redirect 0 -> \
-    words [29, 0, 29, 3, 9, 9, 0, 6, 3, 9, 29, 0]";
+lend; load 0 0; header 0; body 0; body 0; body 0; body 0; \
+    copy 0 7 6; copy 0 8 3; copy 0 9 9; copy 0 10 9; copy 0 11 9; forward 0 7; redirect 0; \
+    load 0 8; load 0 9; header 0; redirect 0; load 0 11; header 0; redirect 0 -> \
+    words [29, 0, 29, 3, 9, 9, 9, 6, 3, 29, 9, 29]";
 
 /// The event that a step says.
 fn event(step: Step<'_>) -> Option<Event> {

@@ -124,24 +124,24 @@ fn a_copy_has_memory_of_its_own(rt: HostRuntime) -> Result<(), Fail> {
 /// The layout words of shapes 0 to 3: none, a plain cell of 2 slots, a store, a gap.
 const LAYOUTS: [u64; 4] = [0, 545, 4, 8];
 
-/// A plain cell at 0, a store of 1 slot at 4, a gap of 2 words at 7, and a word of no header.
-const WORDS: [u64; 10] = [38654705670, 0, 0, 0, 10, 1, 0, 14, 2, 3];
+/// A plain cell at 0, a store of 1 slot at 5, a gap of 2 words at 8, and a word of no header.
+const WORDS: [u64; 11] = [38654705670, 0, 0, 0, 0, 10, 1, 0, 14, 2, 3];
 
 #[test]
 fn a_cell_is_read_where_one_stands(rt: HostRuntime) {
     // So many words and layouts, the address, the bound, and what is read.
     let rows = [
-        (10, 4, 0, 4, Some((Kind::Plain, 0, 4))),
-        (10, 4, 0, 3, None),
-        (10, 4, 4, 7, Some((Kind::Store, 1, 3))),
-        (10, 4, 4, 6, None),
-        (10, 4, 7, 9, Some((Kind::Gap, 2, 2))),
-        (10, 4, 7, 8, None),
-        (10, 4, 9, 99, None),
-        (10, 4, 10, 99, None),
-        (10, 1, 0, 99, None),
-        (3, 4, 0, 99, None),
-        (5, 4, 4, 99, None),
+        (11, 4, 0, 5, Some((Kind::Plain, 0, 5))),
+        (11, 4, 0, 4, None),
+        (11, 4, 5, 8, Some((Kind::Store, 1, 3))),
+        (11, 4, 5, 7, None),
+        (11, 4, 8, 10, Some((Kind::Gap, 2, 2))),
+        (11, 4, 8, 9, None),
+        (11, 4, 10, 99, None),
+        (11, 4, 11, 99, None),
+        (11, 1, 0, 99, None),
+        (4, 4, 0, 99, None),
+        (6, 4, 5, 99, None),
         (0, 0, u32::MAX, u32::MAX, None),
     ];
     for (many, shapes, at, bound, wanted) in rows {

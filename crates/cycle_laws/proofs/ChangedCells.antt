@@ -69,7 +69,7 @@ module _ {old new : Heap} {before after : Graph} {cycle later : Cycle} {gone cam
         words = words_of_cell old still.other;
         has = cells.went still.other still.among;
         stands = still.place ∙ place.stands;
-        object = still.object;
+        object = ap is_object_kind still.of_kind ∙ place.object;
         carries = still.number ∙ place.carries;
       }
 
@@ -106,7 +106,7 @@ module _ {old new : Heap} {before after : Graph} {cycle later : Cycle} {gone cam
       → IsKept old cycle.born owner.at
   owner_kept owner there object =
       let still : IsStill came owner = own.objects_stay owner there object in
-      let reached = refer.objects still.other still.among still.object in
+      let reached = refer.objects still.other still.among (ap is_object_kind still.of_kind ∙ object) in
       old_place_kept owner.header.object owner.at
       (subst (λ n. IsTrue (is_marked (reach after) n)) still.number reached) (record {
         cell = owner;

@@ -94,7 +94,7 @@ same_home one other from to =
     ap (λ (n : ℕ). moved n one.to) from ∙ ap (λ (n : ℕ). moved other.from n) to
 
 -- a way from what is dealt to one is a way from all slots
-led_whole : (own : Own) (recorded : List ℕ) (first every cell : ℕ) → IsLed own (deal_of recorded first every) cell
+pub led_whole : (own : Own) (recorded : List ℕ) (first every cell : ℕ) → IsLed own (deal_of recorded first every) cell
     → IsLed own (whole_deal recorded) cell
 led_whole own recorded first every _ (IsLed.by_slot slot cell dealt refers) =
     IsLed.by_slot slot cell (record { number = dealt.number; stands = dealt.stands; in_turn = omega arith }) refers

@@ -1,5 +1,5 @@
 //! A run of a worker.
-ghost use Rattle.std.specs.Prelude.{◌≡◌, ◌<◌, []};
+ghost use Rattle.std.specs.Prelude.{◌≡◌, ◌<◌, ◌≤◌, [], length};
 ghost use Rattle.page_space.specs.Extents.{eden_start};
 ghost use Rattle.eden_copies.specs.Eden.{deal_of, MayCopy};
 ghost use Rattle.eden_copies.specs.Sides.{idle};
@@ -36,9 +36,12 @@ impl Worker {
         requires fresh { seat.old.made ≡ [] }
         requires may { MayCopy words.now (deal_of recorded.now.slots first every) }
         ensures copied { HasCopied words.now (deal_of recorded.now.slots first every) self.new seat.new }
+        ensures fits { length self.new.room ≤ self.new.most }
         ensures place { (self.new.most ≡ self.old.most) × (self.new.start ≡ start) }
         ensures seat { (seat.new.table ≡ seat.old.table) × (seat.new.round ≡ seat.old.round) }
     {
+        // There is a word for each address before the marks.
+        let _count = words.count();
         self.empty(start);
         follow_roots(self, words, claims, seat, gate, first, every);
         follow_recorded(self, words, recorded, claims, seat, gate, first, every);

@@ -121,6 +121,7 @@ module _ {old new : Mutator} {map place : ℕ} {marked : List ℕ} (one : TakesO
         whole = removes.whole;
         tied = removes.tied;
         paths = removes.paths;
+        cycle = removes.cycle;
         uses = removes.uses;
         bound = removes.bound;
         remembered = removes.remembered;

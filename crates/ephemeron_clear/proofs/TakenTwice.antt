@@ -89,6 +89,7 @@ module _ {first mid last : Mutator} {maps marked : List ℕ} (whole : Whole (hea
     whole = b.whole;
     tied = b.tied;
     paths = b.paths ∙ a.paths;
+    cycle = b.cycle ∙ a.cycle;
     uses = uses_twice;
     bound = b.bound ∙ a.bound;
     remembered = λ bounded were.

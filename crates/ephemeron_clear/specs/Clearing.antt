@@ -35,10 +35,11 @@ MarksReached heap marked graph =
 
 -- Pairs whose keys are not marked were taken out of the tables of these weak maps.
 pub record TakesUnmarked (old new : Mutator) (maps marked : List ℕ) : Type 0 where
-  -- the heap is whole again, and what is granted stays so
+  -- the heap is whole again, what is granted stays so, and so does what is known of a cycle
   pub whole : IsQuietWhole new
   pub tied : IsTied new
   pub paths : new.paths ≡ old.paths
+  pub cycle : new.cycle ≡ old.cycle
   -- no word more is used
   pub uses : UsesMore old new 0
   -- what is recorded stays right

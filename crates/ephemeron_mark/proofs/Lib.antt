@@ -13,5 +13,6 @@ mod ReadPairs
 mod VisitedCells
 mod NotedMaps
 mod SeenCells
+mod SeenKinds
 mod Brought
 mod EndMarks

@@ -60,7 +60,7 @@ module _ {old shifted put new : Mutator} (map at hole count : ℕ) (table : Tabl
     (beside : IsOutsidePairs table (map + count_offset))
     (shifts : ShiftsBack old shifted table at hole)
     (puts : PutsWords shifted put (with_pair (heap_words shifted.seat) table.at hole free_pair))
-    (stored : Touches shifted put (pair_touch table.at hole))
+    (still : put.cycle ≡ shifted.cycle) (stored : Touches shifted put (pair_touch table.at hole))
     (reads : slice_get (heap_words put.seat) (map + count_offset) ≡ Some count)
     (is : new ≡ with_word put (map + count_offset) (count - 1))
     (heap : heap_words new.seat ≡ slice_set (heap_words put.seat) (map + count_offset) (count - 1)) where
@@ -108,6 +108,7 @@ module _ {old shifted put new : Mutator} (map at hole count : ℕ) (table : Tabl
   removes_at = record {
     rest = put_rest (map + count_offset) (count - 1) changes.rest (ap (λ (m : Mutator). m.seat) is) before_marks;
     paths = ap (λ (m : Mutator). m.paths) is ∙ changes.paths;
+    cycle = ap (λ (m : Mutator). m.cycle) is ∙ still ∙ shifts.cycle;
     young = ap (λ (m : Mutator). m.young) is ∙ changes.young;
     long = ap length heap ∙ length-set (heap_words put.seat) (map + count_offset) (count - 1) ∙ changes.long;
     beside = λ a aside other. ap (λ all. slice_get all a) heap

@@ -141,6 +141,7 @@ removes_pair {old} {new} {map} {place} {table} {pairs} {pair} known before has t
           (removes.young ∙ sym (bumped_none old.young))) law.1 law.2;
       uses = uses_none removes.rest removes.young removes.touches.free;
       paths = removes.paths;
+      cycle = removes.cycle;
       changes = subst (λ a. ChangesObjectUsing old new 0 a (capacity_at (heap_of old) a)) stands
           (tables_stay refills (row_of_none (heap_of new) (next_at old)) (slot_stays known some removes pair is));
       stay = λ word not_count no_pair. removes.beside word

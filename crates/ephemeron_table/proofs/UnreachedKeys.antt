@@ -134,8 +134,8 @@ module _ {old new : Mutator} {map place : ℕ} {table : Table} (known : KnownMap
   object_stays : (what : Object)
       → ShowsObject (heap_of old) marks (cell known) (words_of_cell (heap_of old) (cell known)) what
       → ShowsObject (heap_of new) marks (cell known) (words_of_cell (heap_of new) (cell known)) what
-  object_stays (graph_object.Plain cap fields) shown =
-      let apart : kind.Weak ≡ kind.Plain = sym known.there.of_kind ∙ shown.of_kind in
+  object_stays (graph_object.Plain cap proto fields) shown =
+      let apart : kind.Weak ≡ kind.Plain = sym known.there.of_kind ∙ shown.0.of_kind in
       cc
   object_stays (graph_object.List elements) shown =
       let apart : kind.Weak ≡ kind.List = sym known.there.of_kind ∙ shown.of_kind in

@@ -2,13 +2,13 @@
 -- graph in which it was.
 use Rattle.std.proofs.Common.{◌≡◌, ℕ, ◌<◌, true, List, ◌∷◌, length, Option, Some, None, slice_get, refl, sym, ◌∙◌, ap}
 use Rattle.std.proofs.Common.{subst, arith}
-use Rattle.std.specs.Prelude.{Contains, IsTrue}
+use Rattle.std.specs.Prelude.{Contains, IsTrue, option_and_then}
 use Rattle.std.proofs.lemmas.Option.{slice_get-get_or, slice_get_within, get_or_from_slice_get}
 use Rattle.tagged_word.proofs.Members.{first_in}
 use Rattle.heap_model.specs.Types.{Value, Entry, Cell}
 use Rattle.object_graph.specs.declared.value.Value.TheVariants.{Ref}
 use Rattle.object_graph.specs.declared.object.Object.TheVariants.{Weak}
-use Rattle.object_graph.specs.Graphs.{Graph, WeakObject}
+use Rattle.object_graph.specs.Graphs.{Graph, WeakObject, as_weak}
 use Rattle.object_graph.specs.Reach.{is_marked, reach}
 use Rattle.object_graph.specs.Invariants.{IsValue, IsEntry, AreEntries, IsObject, IsGraph}
 use Rattle.object_graph.proofs.Rounds.{marked_within, length-rounds}
@@ -112,6 +112,8 @@ written_entries_show old new graph weak cell others made number value shows ther
     } in
     let held = entries_held (length graph.objects) weak.entries number value (reached_within graph number key_marked)
     (λ what given. (is_new what given).is) are in
-    replaced_shows weak.number (Weak entries) graph.paths shows (reweaves graph weak entries shows.is_graph held)
+    let at = ap (λ found. option_and_then (as_weak weak.number) found) there in
+    replaced_shows weak.number (Weak entries) graph.paths shows
+    (reweaves graph (Ref weak.number) weak entries shows.is_graph at held)
     (refills.paths ∙ shows.shows.paths)
     (links_reached graph weak number value shows.is_graph there marked is_new) rest replaces

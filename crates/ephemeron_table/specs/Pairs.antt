@@ -45,12 +45,13 @@ StaysShown old new pair =
 
 -- The pair at a place of the weak map at an address was removed: the heap is whole again. Only the map's count changed,
 -- which is one less, and words of its table's pairs, of which one is free; no word more is used, what is granted stays
--- so, each cell stands where it stood, and what is recorded stays right. Each graph in which the pair's key cannot be
--- reached is shown as before.
+-- so, and so does what is known of a cycle; each cell stands where it stood, and what is recorded stays right. Each
+-- graph in which the pair's key cannot be reached is shown as before.
 pub record RemovesPair (old new : Mutator) (map place : ℕ) (before : List Pair) : Type 0 where
   pub whole : IsQuietWhole new
   pub tied : IsTied new
   pub paths : new.paths ≡ old.paths
+  pub cycle : new.cycle ≡ old.cycle
   pub uses : UsesMore old new 0
   pub changes : ChangesObjectUsing old new 0 map (capacity_at (heap_of old) map)
   pub stay : (word : ℕ) → word ≢ map + count_offset → IsNoPairWord (heap_of old) map word

@@ -29,6 +29,7 @@ pub record ChangesPairs (old new : Mutator) (table : Table) : Type 0 where
 -- Once the hole is free, the pair at the place is removed, and probing finds all where it did before.
 pub record ShiftsBack (old new : Mutator) (table : Table) (place hole : ℕ) : Type 0 where
   pub changes : ChangesPairs old new table
+  pub cycle : new.cycle ≡ old.cycle
   pub within : hole < table.capacity
   pub removed : IsRemoved (pairs_of (heap_words old.seat) table)
       (slice_set (pairs_of (heap_words new.seat) table) hole free_pair) place
@@ -37,10 +38,12 @@ pub record ShiftsBack (old new : Mutator) (table : Table) (place hole : ℕ) : T
   pub found : FindsAll (numbers (heap_of old) (pairs_of (heap_words old.seat) table))
       → FindsAll (slice_set (numbers (heap_of old) (pairs_of (heap_words new.seat) table)) hole None)
 
--- The pair at the place of the map's table was removed, and the count is one less. All other words are as they were.
+-- The pair at the place of the map's table was removed, and the count is one less. All other words are as they were,
+-- and so is what is known of a cycle.
 pub record RemovesAt (old new : Mutator) (map : ℕ) (table : Table) (place : ℕ) : Type 0 where
   pub rest : RestStays old.seat new.seat
   pub paths : new.paths ≡ old.paths
+  pub cycle : new.cycle ≡ old.cycle
   pub young : new.young ≡ old.young
   pub long : length (heap_words new.seat) ≡ length (heap_words old.seat)
   pub beside : (at : ℕ) → IsOutsidePairs table at → at ≢ map + count_offset

@@ -37,6 +37,7 @@ pub(crate) fn put_pair(main: &mut Main, table: Table, at: u32, key: Word, value:
     requires place { at < table.capacity }
     ensures puts { let words = heap_words main.old.seat in
         PutsWords main.old main.new (with_pair words table.at at (made_pair key.0 value.0)) }
+    ensures cycle { main.new.cycle ≡ main.old.cycle }
     ensures touches { Touches main.old main.new (pair_touch table.at at) }
 {
     main.addresses_fit();
@@ -54,6 +55,7 @@ fn copy_pair(main: &mut Main, table: Table, from: u32, to: u32)
         let heap = heap_of main.old in
         let pair = made_pair (key_in heap table.at from) (value_in heap table.at from) in
         PutsWords main.old main.new (with_pair words table.at to pair) }
+    ensures cycle { main.new.cycle ≡ main.old.cycle }
     ensures touches { Touches main.old main.new (pair_touch table.at to) }
 {
     main.addresses_fit();

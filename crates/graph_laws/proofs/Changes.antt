@@ -1,5 +1,5 @@
 -- What a command that is carried out changes.
-use Rattle.std.proofs.Common.{◌≡◌, ℕ, List, [], length, take, set, Option, Some, refl, sym, ap, ◌∙◌, arith}
+use Rattle.std.proofs.Common.{◌≡◌, ℕ, List, [], length, take, set, Option, Some, None, refl, sym, ap, ◌∙◌, arith}
 use Rattle.std.specs.Prelude.{slice_get, option_and_then}
 use Rattle.std.specs.Ordering.{nat_cmp}
 use Rattle.std.specs.FinMap.{FinMap, get}
@@ -82,8 +82,8 @@ refills : (limits : Limits) (graph : Graph) (command : Command) (x : ℕ) (targe
     → with_path limits.paths graph.paths (path_of plain.cap fields) ≡ Some paths
     → Changes graph command (refill graph plain fields paths)
 refills limits graph command x target plain fields paths changed bound at added =
-    rewrites graph command x target plain.number (Plain plain.cap plain.fields)
-    (Plain plain.cap fields) paths changed bound
+    rewrites graph command x target plain.number (Plain plain.cap plain.proto plain.fields)
+    (Plain plain.cap plain.proto fields) paths changed bound
     (plain_at-is graph.objects target plain at) refl
     (more_paths limits.paths graph.paths paths (path_of plain.cap fields) added)
 
@@ -94,7 +94,7 @@ stays graph command = binds graph.bindings
 -- each command, if it is carried out, changes only so much
 pub changed : (limits : Limits) (names : List (List ℕ)) (graph : Graph) (command : Command)
     → Leads (Changes graph command) (meaning limits names graph command)
-changed limits names graph (command.New x cap) = makes x (Plain cap [])
+changed limits names graph (command.New x cap) = makes x (Plain cap None [])
 changed limits names graph (command.List x) = makes x (ListOf [])
 changed limits names graph (command.Weak x) = makes x (Weak [])
 changed limits names graph (command.LetValue x v) = search (each, binds)

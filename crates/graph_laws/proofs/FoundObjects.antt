@@ -38,16 +38,16 @@ found_at-is as_kind number_of object_of views objects (Ref number) found is =
     (ap (λ n. Ref n) at.0, ap (λ n. slice_get objects n) (sym at.0) ∙ at.1)
 
 -- the view of plain objects finds nothing else
-plain_views : FindsOnly PlainObject as_plain (λ p. p.number) (λ p. Plain p.cap p.fields)
-plain_views number (Plain cap fields) found is =
+plain_views : FindsOnly PlainObject as_plain (λ p. p.number) (λ p. Plain p.cap p.proto p.fields)
+plain_views number (Plain cap proto fields) found is =
     let same = same_Some _ found is in
-    (ap (λ p. p.number) same, ap (λ p. Plain p.cap p.fields) same)
+    (ap (λ p. p.number) same, ap (λ p. Plain p.cap p.proto p.fields) same)
 plain_views number (ListOf elements) found is = absurd (none-some found is)
 plain_views number (Weak entries) found is = absurd (none-some found is)
 
 -- the view of lists finds nothing else
 list_views : FindsOnly ListObject as_list (λ p. p.number) (λ p. ListOf p.elements)
-list_views number (Plain cap fields) found is = absurd (none-some found is)
+list_views number (Plain cap proto fields) found is = absurd (none-some found is)
 list_views number (ListOf elements) found is =
     let same = same_Some _ found is in
     (ap (λ p. p.number) same, ap (λ p. ListOf p.elements) same)
@@ -55,7 +55,7 @@ list_views number (Weak entries) found is = absurd (none-some found is)
 
 -- the view of weak maps finds nothing else
 weak_views : FindsOnly WeakObject as_weak (λ p. p.number) (λ p. Weak p.entries)
-weak_views number (Plain cap fields) found is = absurd (none-some found is)
+weak_views number (Plain cap proto fields) found is = absurd (none-some found is)
 weak_views number (ListOf elements) found is = absurd (none-some found is)
 weak_views number (Weak entries) found is =
     let same = same_Some _ found is in
@@ -63,8 +63,8 @@ weak_views number (Weak entries) found is =
 
 -- the plain object that a value refers to stands at its number
 pub plain_at-is : (objects : List Object) (target : Value) (plain : PlainObject) → plain_at objects target ≡ Some plain
-    → (target ≡ Ref plain.number) × (slice_get objects plain.number ≡ Some (Plain plain.cap plain.fields))
-plain_at-is = found_at-is as_plain (λ p. p.number) (λ p. Plain p.cap p.fields) plain_views
+    → (target ≡ Ref plain.number) × (slice_get objects plain.number ≡ Some (Plain plain.cap plain.proto plain.fields))
+plain_at-is = found_at-is as_plain (λ p. p.number) (λ p. Plain p.cap p.proto p.fields) plain_views
 
 -- so does the list
 pub list_at-is : (objects : List Object) (target : Value) (list : ListObject) → list_at objects target ≡ Some list

@@ -1,12 +1,12 @@
 -- A command that is carried out on a graph leaves a graph.
-use Rattle.std.proofs.Common.{ℕ, List, [], subst, arith}
+use Rattle.std.proofs.Common.{ℕ, List, [], length, None, refl, subst, arith}
 use Rattle.std.proofs.lemmas.List.Elements.{All-nil}
 use Rattle.heap_command.specs.declared.command.Command.{Command}
 use Rattle.heap_command.specs.declared.command.Command.TheVariants as command
 use Rattle.object_graph.specs.declared.object.Object.TheVariants.{Plain, List as ListOf, Weak}
 use Rattle.object_graph.specs.Graphs.{Graph}
 use Rattle.object_graph.specs.Meaning.{Limits, meaning}
-use Rattle.object_graph.specs.Invariants.{IsGraph}
+use Rattle.object_graph.specs.Invariants.{AreFields, IsGraph}
 use Rattle.object_graph.proofs.Leads.{Leads, each, if_fails, if_not, if_there}
 use Rattle.graph_laws.specs.GraphLaws.{HasFieldLimit, FitsCommand, GraphsStay}
 use Rattle.object_graph.proofs.DistinctLists.{nil-distinct}
@@ -23,12 +23,13 @@ use Rattle.graph_laws.proofs.ShortPaths.{fields_few, with_field_few, without_fie
 pub leads : (limits : Limits) (names : List (List ℕ)) (graph : Graph) (command : Command)
     → HasFieldLimit limits → FitsCommand command → IsGraph graph → Leads IsGraph (meaning limits names graph command)
 leads limits names graph (command.New x cap) limited fits is =
-    makes graph x (Plain cap []) is (fits, record { values = All-nil _; distinct = nil-distinct })
-    (has_empty graph.paths cap is.paths.begins fits)
+    let none : AreFields (length graph.objects) [] = record { values = All-nil _; distinct = nil-distinct } in
+    makes graph x (Plain cap None []) is (record { capped = fits; leads = tt; are = none })
+    (has_empty graph.paths cap is.paths.begins fits) refl
 leads limits names graph (command.List x) limited fits is =
-    makes graph x (ListOf []) is (record { values = All-nil _; few = omega arith }) tt
+    makes graph x (ListOf []) is (record { values = All-nil _; few = omega arith }) tt refl
 leads limits names graph (command.Weak x) limited fits is =
-    makes graph x (Weak []) is (record { keys_and_values = All-nil _; distinct = nil-distinct }) tt
+    makes graph x (Weak []) is (record { keys_and_values = All-nil _; distinct = nil-distinct }) tt refl
 leads limits names graph (command.LetValue x v) limited fits is = search (each, binds, operand_held)
 leads limits names graph (command.DropVar x) limited fits is = search (each, unbinds)
 leads limits names graph (command.Add x v) limited fits is = search (each, if_fails, binds, sum_held) depth 12

@@ -19,7 +19,8 @@ use Rattle.object_graph.specs.declared.object.Field.{Field}
 use Rattle.object_graph.specs.declared.object.Entry.{Entry}
 use Rattle.object_graph.specs.Graphs.{Graph, object_in, value_of}
 use Rattle.object_graph.specs.Meaning.{is_outside}
-use Rattle.object_graph.specs.Invariants.{IsValue, IsEntry, AreFields, AreElements, AreEntries, IsObject, AreBound}
+use Rattle.object_graph.specs.Invariants.{IsValue, IsEntry, AreFields, AreElements, AreEntries, IsProto, IsObject}
+use Rattle.object_graph.specs.Invariants.{AreBound}
 use Rattle.graph_laws.specs.GraphLaws.{FitsOperand}
 
 -- what is there has what all have
@@ -65,9 +66,18 @@ elements_grow count more elements grows are =
     let wider = λ (value : Value). value_grows count more value grows in
     record { values = All-weaker (IsValue count) (IsValue more) wider elements are.values; few = are.few }
 
+-- among more objects a prototype is one of them
+proto_grows : (count more : ℕ) (proto : Option ℕ) → count ≤ more → IsProto count proto → IsProto more proto
+proto_grows count more None grows is = tt
+proto_grows count more (Some number) grows is = omega (arith, is)
+
 -- among more objects an object refers to some of them
 pub object_grows : (count more : ℕ) (object : Object) → count ≤ more → IsObject count object → IsObject more object
-object_grows count more (Plain cap fields) grows is = (is.0, fields_grow count more fields grows is.1)
+object_grows count more (Plain cap proto fields) grows is = record {
+  capped = is.capped;
+  leads = proto_grows count more proto grows is.leads;
+  are = fields_grow count more fields grows is.are;
+}
 object_grows count more (ListOf elements) grows is = elements_grow count more elements grows is
 object_grows count more (Weak entries) grows is = entries_grow count more entries grows is
 

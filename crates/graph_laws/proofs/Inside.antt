@@ -1,5 +1,5 @@
 -- A graph that stays inside a set of objects: variables, and the objects of the set, refer to objects of the set alone.
-use Rattle.std.proofs.Common.{◌≡◌, ℕ, Bool, true, List, Option, Some, sym, subst}
+use Rattle.std.proofs.Common.{◌≡◌, ℕ, Bool, true, List, Option, Some, None, sym, subst}
 use Rattle.std.specs.Prelude.{All, slice_get, option_and_then, unwrap_or}
 use Rattle.std.specs.FinMap.{get}
 use Rattle.std.proofs.lemmas.Option.{none-some, same_Some}
@@ -25,6 +25,11 @@ IsInside inside (Int v) = Unit {0}
 IsInside inside Undefined = Unit {0}
 IsInside inside (Ref number) = inside number ≡ true
 
+-- the prototype, if there is one, is inside
+abbrev pub ProtoInside : (ℕ → Bool) → Option ℕ → Type 0
+ProtoInside inside None = Unit {0}
+ProtoInside inside (Some number) = inside number ≡ true
+
 -- the values of the fields are inside
 abbrev pub FieldsInside : (ℕ → Bool) → List Field → Type 0
 FieldsInside inside fields = All (λ field. IsInside inside field.value) fields
@@ -35,7 +40,7 @@ EntryInside inside entry = inside entry.key ≡ true → IsInside inside entry.v
 
 -- what the object refers to is inside, but for the values of entries whose keys are not
 abbrev pub ObjectInside : (ℕ → Bool) → Object → Type 0
-ObjectInside inside (Plain cap fields) = FieldsInside inside fields
+ObjectInside inside (Plain cap proto fields) = ProtoInside inside proto × FieldsInside inside fields
 ObjectInside inside (ListOf elements) = All (IsInside inside) elements
 ObjectInside inside (Weak entries) = All (EntryInside inside) entries
 
@@ -78,8 +83,16 @@ pub fields_inside : (inside : ℕ → Bool) (graph : Graph) (x : ℕ) (target : 
     → StaysInside inside graph → get graph.bindings x ≡ Some target → plain_at graph.objects target ≡ Some plain
     → FieldsInside inside plain.fields
 fields_inside inside graph x target plain stays bound at =
-    object_inside inside graph x target plain.number (Plain plain.cap plain.fields) stays bound
-    (plain_at-is graph.objects target plain at)
+    (object_inside inside graph x target plain.number (Plain plain.cap plain.proto plain.fields) stays bound
+    (plain_at-is graph.objects target plain at)).1
+
+-- so is its prototype
+pub proto_inside : (inside : ℕ → Bool) (graph : Graph) (x : ℕ) (target : Value) (plain : PlainObject)
+    → StaysInside inside graph → get graph.bindings x ≡ Some target → plain_at graph.objects target ≡ Some plain
+    → ProtoInside inside plain.proto
+proto_inside inside graph x target plain stays bound at =
+    (object_inside inside graph x target plain.number (Plain plain.cap plain.proto plain.fields) stays bound
+    (plain_at-is graph.objects target plain at)).0
 
 -- the elements of a list
 pub elements_inside : (inside : ℕ → Bool) (graph : Graph) (x : ℕ) (target : Value) (list : ListObject)

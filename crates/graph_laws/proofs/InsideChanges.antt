@@ -1,5 +1,5 @@
 -- A graph that stays inside a set of objects does so after each command, where an object that is made is in the set.
-use Rattle.std.proofs.Common.{◌≡◌, ℕ, suc, zero, Bool, true, List, [], ◌∷◌, ◌++◌, length, set, Some, refl}
+use Rattle.std.proofs.Common.{◌≡◌, ℕ, suc, zero, Bool, true, List, [], ◌∷◌, ◌++◌, length, set, Some, None, refl}
 use Rattle.std.proofs.Common.{ap, subst, ◌⊎◌, inl, inr}
 use Rattle.std.specs.Prelude.{All, slice_get, is_some, IsTrue}
 use Rattle.std.specs.FinMap.{remove}
@@ -22,9 +22,10 @@ use Rattle.object_graph.proofs.Leads.{Leads, each, if_not, if_there}
 use Rattle.graph_laws.specs.ReachAfter.{made_for}
 use Rattle.graph_laws.proofs.Held.{insert_all, remove_all}
 use Rattle.graph_laws.proofs.HeldParts.{without_field_values, without_entry_all}
-use Rattle.graph_laws.proofs.Inside.{IsInside, FieldsInside, EntryInside, ObjectInside, StaysInside, operand_inside}
-use Rattle.graph_laws.proofs.Inside.{key_inside, fields_inside, elements_inside, entries_inside, field_inside}
-use Rattle.graph_laws.proofs.Inside.{element_inside, entry_inside, with_field_inside, with_entry_inside}
+use Rattle.graph_laws.proofs.Inside.{IsInside, ProtoInside, FieldsInside, EntryInside, ObjectInside, StaysInside}
+use Rattle.graph_laws.proofs.Inside.{operand_inside, key_inside, proto_inside, fields_inside, elements_inside}
+use Rattle.graph_laws.proofs.Inside.{entries_inside, field_inside, element_inside, entry_inside, with_field_inside}
+use Rattle.graph_laws.proofs.Inside.{with_entry_inside}
 
 -- after one was added at the end, an element is that one, at its place, or it was there
 pub pushed : {X : Type 0} (xs : List X) (added : X) (i : ℕ) (x : X) → slice_get (xs ++ added ∷ []) i ≡ Some x
@@ -85,11 +86,11 @@ puts inside graph number object paths stays is = record {
 
 -- and where a plain object gets other fields, with values inside
 reshapes : (inside : ℕ → Bool) (limits : Limits) (graph : Graph) (plain : PlainObject) (fields : List Field)
-    → StaysInside inside graph → FieldsInside inside fields
+    → StaysInside inside graph → ProtoInside inside plain.proto → FieldsInside inside fields
     → Leads (StaysInside inside) (reshape limits graph plain fields)
-reshapes inside limits graph plain fields stays all =
+reshapes inside limits graph plain fields stays leads all =
     each (StaysInside inside) _ (with_path limits.paths graph.paths (path_of plain.cap fields)) _ (λ paths added.
-    puts inside graph plain.number (Plain plain.cap fields) paths stays all)
+    puts inside graph plain.number (Plain plain.cap plain.proto fields) paths stays (leads, all))
 
 -- and where a list gets other elements, all inside
 relists : (inside : ℕ → Bool) (graph : Graph) (list : ListObject) (elements : List Value)
@@ -116,7 +117,7 @@ pub leads : (inside : ℕ → Bool) (limits : Limits) (names : List (List ℕ)) 
     → (IsTrue (is_some (made_for command)) → inside (length graph.objects) ≡ true) → StaysInside inside graph
     → Leads (StaysInside inside) (meaning limits names graph command)
 leads inside limits names graph (command.New x cap) known is =
-    makes inside graph x (Plain cap []) (known refl) is (All-nil _)
+    makes inside graph x (Plain cap None []) (known refl) is (tt, All-nil _)
 leads inside limits names graph (command.List x) known is = makes inside graph x (ListOf []) (known refl) is (All-nil _)
 leads inside limits names graph (command.Weak x) known is = makes inside graph x (Weak []) (known refl) is (All-nil _)
 leads inside limits names graph (command.LetValue x v) known is = search (each, binds, operand_inside)
@@ -124,11 +125,19 @@ leads inside limits names graph (command.DropVar x) known is = search (each, unb
 leads inside limits names graph (command.Add x v) known is =
     search (each, if_not, binds inside graph x) depth 12
 leads inside limits names graph (command.Set x f v) known is =
-    search (each, if_not, reshapes, fields_inside inside graph x, with_field_inside, operand_inside) depth 14
+    search (
+      each,
+      if_not,
+      reshapes,
+      proto_inside inside graph x,
+      fields_inside inside graph x,
+      with_field_inside,
+      operand_inside,
+    ) depth 14
 leads inside limits names graph (command.Get y x f) known is =
     search (each, binds, field_inside, fields_inside inside graph x) depth 12
 leads inside limits names graph (command.Del x f) known is =
-    search (each, if_there, reshapes, fields_inside inside graph x, fewer_fields) depth 14
+    search (each, if_there, reshapes, proto_inside inside graph x, fields_inside inside graph x, fewer_fields) depth 14
 leads inside limits names graph (command.Push x v) known is =
     search (each, if_not, relists, All-push, elements_inside inside graph x, operand_inside) depth 12
 leads inside limits names graph (command.Put x i v) known is =

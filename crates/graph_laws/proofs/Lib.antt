@@ -11,6 +11,7 @@ pub mod Reaches
 pub mod FieldLimits
 mod DistinctKeys
 mod Held
+mod KeptProtos
 pub mod HeldParts
 mod HeldElements
 pub mod ShortPaths

@@ -1,5 +1,5 @@
 -- What cannot be reached is never reached again, whatever lines come.
-use Rattle.std.proofs.Common.{◌≡◌, ℕ, ◌<◌, ◌≤◌, true, List, [], ◌∷◌, length, Option, Some, None, refl}
+use Rattle.std.proofs.Common.{◌≡◌, ℕ, List, [], ◌∷◌, Option, Some, None, refl}
 use Rattle.std.proofs.Common.{subst, arith, inl, inr}
 use Rattle.std.specs.Prelude.{All}
 use Rattle.std.proofs.lemmas.Option.{none-some, same_Some}
@@ -8,7 +8,6 @@ use Rattle.heap_command.specs.declared.command.Command.{Command}
 use Rattle.heap_command.specs.Executed.{Executed}
 use Rattle.object_graph.specs.Graphs.{Graph}
 use Rattle.object_graph.specs.Meaning.{Limits, Outcome, done, fault, meaning}
-use Rattle.object_graph.specs.Reach.{is_marked, reach}
 use Rattle.object_graph.specs.Run.{Told, tell, told_with, run_from}
 use Rattle.object_graph.specs.Invariants.{IsGraph}
 use Rattle.graph_laws.specs.GraphLaws.{HasFieldLimit, FitsLine}

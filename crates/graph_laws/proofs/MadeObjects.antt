@@ -1,5 +1,5 @@
 -- The object that a command makes: the command's variable refers to it, and nothing else does.
-use Rattle.std.proofs.Common.{◌≡◌, ℕ, ◌<◌, Bool, true, false, cond, List, [], ◌∷◌, length, Option, Some, refl}
+use Rattle.std.proofs.Common.{◌≡◌, ℕ, ◌<◌, Bool, true, false, cond, List, [], ◌∷◌, length, Option, Some, None, refl}
 use Rattle.std.proofs.Common.{sym, ap, ◌∙◌, subst, arith, length-append, inl, inr}
 use Rattle.std.specs.Prelude.{Contains, IsTrue}
 use Rattle.std.specs.Ordering.{nat_cmp, eq_by_cmp}
@@ -18,7 +18,7 @@ use Rattle.object_graph.specs.declared.object.Object.TheVariants.{Plain, List as
 use Rattle.object_graph.specs.Graphs.{Graph, make}
 use Rattle.object_graph.specs.Meaning.{Limits, Outcome, done, fault, meaning}
 use Rattle.object_graph.specs.Reach.{is_marked, reach}
-use Rattle.object_graph.specs.Invariants.{IsValue, IsEntry, IsObject, IsGraph}
+use Rattle.object_graph.specs.Invariants.{IsValue, IsEntry, IsProto, IsObject, IsGraph}
 use Rattle.object_graph.proofs.Leads.{Leads}
 use Rattle.graph_laws.specs.ReachAfter.{made_for, Mentions, IsOnlyBoundTo, MadeIsReached, MadeIsUnshared}
 use Rattle.graph_laws.proofs.Held.{held_at}
@@ -28,6 +28,11 @@ use Rattle.graph_laws.proofs.InsideChanges.{pushed}
 -- nothing is an element of an empty list
 none_among : {X : Type 0} (x : X) → ¬ Contains [] x
 none_among x among = absurd (omega (arith, among.1))
+
+-- a plain object without a prototype and without fields mentions no object
+bare_plain : (cap number : ℕ) → ¬ Mentions (Plain cap None []) number
+bare_plain cap number (inl same) = absurd (none-some number same)
+bare_plain cap number (inr at) = none_among at.0 at.1
 
 -- the graph after the command is the graph before it with a new object, which refers to none
 pub record Makes (graph : Graph) (x : ℕ) (after : Graph) : Type 0 where
@@ -50,7 +55,7 @@ makes graph x y object bare same =
 made : (limits : Limits) (names : List (List ℕ)) (graph : Graph) (command : Command)
     → Leads (λ after. (x : ℕ) → made_for command ≡ Some x → Makes graph x after) (meaning limits names graph command)
 made limits names graph (command.New x cap) =
-    λ y same. makes graph x y (Plain cap []) (λ number at. none_among at.0 at.1) same
+    λ y same. makes graph x y (Plain cap None []) (bare_plain cap) same
 made limits names graph (command.List x) =
     λ y same. makes graph x y (ListOf []) (λ number at. none_among (Ref number) at) same
 made limits names graph (command.Weak x) =
@@ -83,8 +88,11 @@ bound_cases false one other found at never = absurd (never at)
 
 -- no object of a graph has a number that is past its objects
 unmentioned : (count : ℕ) (object : Object) → IsObject count object → ¬ Mentions object count
-unmentioned count (Plain cap fields) is (field, among, same) =
-    let value = All-contains (λ (f : Field). IsValue count f.value) fields field is.1.values among in
+unmentioned count (Plain cap proto fields) is (inl same) =
+    let below : count < count = subst (IsProto count) same is.leads in
+    omega arith
+unmentioned count (Plain cap proto fields) is (inr (field, among, same)) =
+    let value = All-contains (λ (f : Field). IsValue count f.value) fields field is.are.values among in
     let below : count < count = subst (IsValue count) same value in
     omega arith
 unmentioned count (ListOf elements) is among =

@@ -1,5 +1,5 @@
 -- What can be reached after a command could be reached before it, or was made; what is lost stays lost.
-use Rattle.std.proofs.Common.{◌≡◌, ℕ, ◌<◌, ◌==◌, Bool, true, ◌&&◌, ◌||◌, List, length, Some}
+use Rattle.std.proofs.Common.{◌≡◌, ℕ, ◌<◌, ◌==◌, Bool, true, ◌&&◌, ◌||◌, List, length, Option, Some, None}
 use Rattle.std.proofs.Common.{refl, ap, ◌∙◌, subst, arith, ◌⊎◌, inl, inr}
 use Rattle.std.specs.Prelude.{All, Contains, slice_get, is_some, IsTrue}
 use Rattle.std.proofs.lemmas.Bool.{or_cases, or_left, or_right, and_parts, and_from, eqb-true, eq-eqb}
@@ -13,13 +13,13 @@ use Rattle.object_graph.specs.declared.object.Object.{Object}
 use Rattle.object_graph.specs.declared.object.Object.TheVariants.{Plain, List as ListOf, Weak}
 use Rattle.object_graph.specs.Graphs.{Graph}
 use Rattle.object_graph.specs.Reach.{is_marked, reach}
-use Rattle.object_graph.specs.Invariants.{IsValue, IsEntry, IsObject, IsGraph}
+use Rattle.object_graph.specs.Invariants.{IsValue, IsEntry, IsProto, IsObject, IsGraph}
 use Rattle.object_graph.proofs.Leads.{Leads}
 use Rattle.graph_laws.specs.ReachLaws.{LinksTo, HasBound, IsClosed}
 use Rattle.graph_laws.specs.ReachAfter.{made_for, IsMadeBy, OnlyMadeIsNew}
 use Rattle.graph_laws.proofs.Held.{held_at}
 use Rattle.graph_laws.proofs.Reaches.{reach_has_bound, reach_closed, reach_least}
-use Rattle.graph_laws.proofs.Inside.{IsInside, EntryInside, ObjectInside, StaysInside}
+use Rattle.graph_laws.proofs.Inside.{IsInside, ProtoInside, EntryInside, ObjectInside, StaysInside}
 use Rattle.graph_laws.proofs.InsideChanges.{leads}
 
 -- the object can be reached, or it is the one that the command makes
@@ -61,6 +61,13 @@ value_known graph command (Int v) is reached = tt
 value_known graph command Undefined is reached = tt
 value_known graph command (Ref number) is reached = reached_known graph command number (reached number is refl)
 
+-- a prototype that is one of the graph's objects is known if it is reached
+proto_known : (graph : Graph) (command : Command) (proto : Option ℕ) → IsProto (length graph.objects) proto
+    → ((number : ℕ) → number < length graph.objects → proto ≡ Some number → is_marked (reach graph) number ≡ true)
+    → ProtoInside (known graph command) proto
+proto_known graph command None is reached = tt
+proto_known graph command (Some number) is reached = reached_known graph command number (reached number is refl)
+
 -- what all elements have, told from that each is one of them, all have
 all_from : {X : Type 0} (P : X → Type 0) (xs : List X) → ((x : X) → Contains xs x → P x) → All P xs
 all_from P xs each = All-weaker (Contains xs) P each xs (All-contains_itself xs)
@@ -69,11 +76,14 @@ all_from P xs each = All-weaker (Contains xs) P each xs (All-contains_itself xs)
 object_known : (graph : Graph) (command : Command) (holder : ℕ) (object : Object)
     → slice_get graph.objects holder ≡ Some object → is_marked (reach graph) holder ≡ true
     → IsObject (length graph.objects) object → ObjectInside (known graph command) object
-object_known graph command holder (Plain cap fields) there marked is =
-    all_from (λ f. IsInside (known graph command) f.value) fields (λ f among.
-    let value = All-contains (λ (g : Field). IsValue (length graph.objects) g.value) fields f is.1.values among in
-    value_known graph command f.value value (λ number within same.
-    reach_closed graph holder (Plain cap fields) number there marked within (f, among, same)))
+object_known graph command holder (Plain cap proto fields) there marked is =
+    let closed = λ (number : ℕ). reach_closed graph holder (Plain cap proto fields) number there marked in (
+      proto_known graph command proto is.leads (λ number within same. closed number within (inl same)),
+      all_from (λ f. IsInside (known graph command) f.value) fields (λ f among.
+          let value =
+          All-contains (λ (g : Field). IsValue (length graph.objects) g.value) fields f is.are.values among in
+          value_known graph command f.value value (λ number within same. closed number within (inr (f, among, same)))),
+    )
 object_known graph command holder (ListOf elements) there marked is =
     all_from (IsInside (known graph command)) elements (λ v among.
     let value = All-contains (IsValue (length graph.objects)) elements v is.values among in
@@ -101,8 +111,9 @@ stays_known graph command is = record {
 -- an object links to objects inside where it refers to such alone
 links_inside : (inside : ℕ → Bool) (object : Object) (number : ℕ) → ObjectInside inside object
     → LinksTo inside object number → inside number ≡ true
-links_inside inside (Plain cap fields) number all (field, among, same) =
-    subst (IsInside inside) same (All-contains (λ (f : Field). IsInside inside f.value) fields field all among)
+links_inside inside (Plain cap proto fields) number all (inl same) = subst (ProtoInside inside) same all.0
+links_inside inside (Plain cap proto fields) number all (inr (field, among, same)) =
+    subst (IsInside inside) same (All-contains (λ (f : Field). IsInside inside f.value) fields field all.1 among)
 links_inside inside (ListOf elements) number all among = All-contains (IsInside inside) elements (Ref number) all among
 links_inside inside (Weak entries) number all (entry, among, key, same) =
     subst (IsInside inside) same (All-contains (EntryInside inside) entries entry all among key)

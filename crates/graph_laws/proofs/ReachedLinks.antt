@@ -1,9 +1,9 @@
 -- Links between objects, as the rounds test them and as the laws say them.
-use Rattle.std.proofs.Common.{◌≡◌, ℕ, ◌<◌, Bool, true, false, ◌&&◌, List, length, get_or, Some, refl, sym, ap}
-use Rattle.std.proofs.Common.{◌∙◌, arith}
+use Rattle.std.proofs.Common.{◌≡◌, ℕ, ◌<◌, Bool, true, false, ◌&&◌, List, length, get_or, Option, Some, None, refl}
+use Rattle.std.proofs.Common.{sym, ap, ◌∙◌, arith, inl, inr}
 use Rattle.std.specs.Prelude.{slice_get}
-use Rattle.std.specs.List.{zip}
-use Rattle.std.proofs.lemmas.Bool.{and_parts, and_from, eqb-true, eq-eqb}
+use Rattle.std.specs.List.{zip, list_any}
+use Rattle.std.proofs.lemmas.Bool.{and_parts, and_from, or_cases, or_left, or_right, eqb-true, eq-eqb}
 use Rattle.std.proofs.lemmas.List.{get_or_default}
 use Rattle.std.proofs.lemmas.List.Folds.{list_any_at, Any-from_list_any, list_any-from_Any}
 use Rattle.std.proofs.lemmas.Option.{slice_get-get_or, get_or_from_slice_get, slice_get_within}
@@ -14,7 +14,7 @@ use Rattle.object_graph.specs.declared.object.Object.{Object}
 use Rattle.object_graph.specs.declared.object.Object.TheVariants as kind
 use Rattle.object_graph.specs.declared.object.Field.{Field}
 use Rattle.object_graph.specs.declared.object.Entry.{Entry}
-use Rattle.object_graph.specs.Reach.{is_marked, refers_to, links, is_linked}
+use Rattle.object_graph.specs.Reach.{is_marked, refers_to, is_number, links, is_linked}
 use Rattle.object_graph.proofs.Marking.{is_marked-get_or}
 use Rattle.object_graph.proofs.Rounds.{marked_within}
 use Rattle.graph_laws.specs.ReachLaws.{LinksTo}
@@ -29,12 +29,21 @@ Ref-refers_to number (Ref other) refers = ap (λ n. Ref n) (eqb-true other numbe
 pub refers_to-Ref : (number : ℕ) (value : Value) → value ≡ Ref number → refers_to number value ≡ true
 refers_to-Ref number value is = ap (refers_to number) is ∙ eq-eqb number number refl
 
+-- a prototype that passes the test of a number is the object of that number
+Some-is_number : (number : ℕ) (proto : Option ℕ) → is_number number proto ≡ true → proto ≡ Some number
+Some-is_number number None is = absurd (cc)
+Some-is_number number (Some other) is = ap (λ n. Some n) (eqb-true other number is)
+
 -- an object links to what the laws say that it links to, where these are marked
 pub links-LinksTo : (marks : List Bool) (object : Object) (number : ℕ) → LinksTo (is_marked marks) object number
     → links marks object number ≡ true
-links-LinksTo marks (kind.Plain cap fields) number (field, there, is) =
-    list_any-from_Any (λ (f : Field). refers_to number f.value) fields
-    (there.0, field, there.1, there.2, refers_to-Ref number field.value is)
+links-LinksTo marks (kind.Plain cap proto fields) number (inl is) =
+    or_left (is_number number proto) (list_any (λ (f : Field). refers_to number f.value) fields)
+    (ap (is_number number) is ∙ eq-eqb number number refl)
+links-LinksTo marks (kind.Plain cap proto fields) number (inr (field, there, is)) =
+    or_right (is_number number proto) (list_any (λ (f : Field). refers_to number f.value) fields)
+    (list_any-from_Any (λ (f : Field). refers_to number f.value) fields
+    (there.0, field, there.1, there.2, refers_to-Ref number field.value is))
 links-LinksTo marks (kind.List elements) number there =
     list_any-from_Any (refers_to number) elements
     (there.0, Ref number, there.1, there.2, refers_to-Ref number (Ref number) refl)
@@ -48,9 +57,14 @@ links-LinksTo marks (kind.Weak entries) number (entry, there, key, is) =
 pub LinksTo-links : (marks : List Bool) (inside : ℕ → Bool)
     → ((number : ℕ) → is_marked marks number ≡ true → inside number ≡ true)
     → (object : Object) (number : ℕ) → links marks object number ≡ true → LinksTo inside object number
-LinksTo-links marks inside has (kind.Plain cap fields) number linked =
-    let at = Any-from_list_any (λ (f : Field). refers_to number f.value) fields linked in
-    (at.1, (at.0, at.2, at.3), Ref-refers_to number at.1.value at.4)
+LinksTo-links marks inside has (kind.Plain cap proto fields) number linked =
+    let by_field = list_any (λ (f : Field). refers_to number f.value) fields in
+    elim (or_cases (is_number number proto) by_field linked) [
+      | inl is ↦ inl (Some-is_number number proto is)
+      | inr any ↦
+          let at = Any-from_list_any (λ (f : Field). refers_to number f.value) fields any in
+          inr (at.1, (at.0, at.2, at.3), Ref-refers_to number at.1.value at.4)
+    ]
 LinksTo-links marks inside has (kind.List elements) number linked =
     let at = Any-from_list_any (refers_to number) elements linked in
     let is = Ref-refers_to number at.1 at.4 in

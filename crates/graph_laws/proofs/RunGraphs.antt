@@ -11,7 +11,7 @@ use Rattle.object_graph.specs.Invariants.{IsGraph}
 use Rattle.object_graph.proofs.Leads.{Leads}
 use Rattle.graph_laws.specs.GraphLaws.{HasFieldLimit, FitsLine, RunsMakeGraphs}
 use Rattle.graph_laws.proofs.NextLines.{next_told}
-use Rattle.graph_laws.proofs.MadeGraphs.{start_is_graph}
+use Rattle.object_graph.proofs.FirstGraph.{start_is_graph}
 use Rattle.graph_laws.proofs.GraphsStay.{leads}
 
 -- what an outcome tells is a graph, if it leads to one

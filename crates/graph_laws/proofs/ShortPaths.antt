@@ -24,8 +24,8 @@ length-path_of cap fields = simp length-map
 
 -- a plain object of a graph has no more than 64 fields, as its path has
 pub fields_are_few : FieldsAreFew
-fields_are_few graph number cap fields is there =
-    let among = held_at (HasItsPath graph.paths) graph.objects number (Plain cap fields) is.shaped there in
+fields_are_few graph number cap proto fields is there =
+    let among = held_at (HasItsPath graph.paths) graph.objects number (Plain cap proto fields) is.shaped there in
     let known = All-contains IsPath graph.paths (path_of cap fields) is.paths.each among in
     omega (arith, known.short, length-path_of cap fields)
 
@@ -33,7 +33,8 @@ fields_are_few graph number cap fields is there =
 pub fields_few : (graph : Graph) (target : Value) (plain : PlainObject)
     → IsGraph graph → plain_at graph.objects target ≡ Some plain → length plain.fields ≤ fields_most
 fields_few graph target plain is at =
-    fields_are_few graph plain.number plain.cap plain.fields is (plain_at-is graph.objects target plain at).1
+    fields_are_few graph plain.number plain.cap plain.proto plain.fields is
+    (plain_at-is graph.objects target plain at).1
 
 -- a field that is there is written over
 length-with_field_there : (fields : List Field) (name : ℕ) (value : Value) → is_none (field_value fields name) ≡ false

@@ -39,7 +39,7 @@ paths_stay limits names graph command after text is =
 
 -- an object is of its own kind
 same_kind-refl : (object : Object) → SameKind object object
-same_kind-refl (Plain cap fields) = refl
+same_kind-refl (Plain cap proto fields) = refl
 same_kind-refl (ListOf elements) = tt
 same_kind-refl (Weak entries) = tt
 

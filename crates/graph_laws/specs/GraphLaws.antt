@@ -41,8 +41,8 @@ HasFieldLimit limits = (cap : ℕ) → cap ≤ cap_most → limits.fields cap �
 -- a plain object of a graph has at most 64 fields
 abbrev pub FieldsAreFew : Type 0
 FieldsAreFew =
-    (graph : Graph) (number cap : ℕ) (fields : List Field)
-    → IsGraph graph → slice_get graph.objects number ≡ Some (Plain cap fields) → length fields ≤ fields_most
+    (graph : Graph) (number cap : ℕ) (proto : Option ℕ) (fields : List Field)
+    → IsGraph graph → slice_get graph.objects number ≡ Some (Plain cap proto fields) → length fields ≤ fields_most
 
 -- a command that is carried out on a graph leaves a graph
 abbrev pub GraphsStay : Type 0

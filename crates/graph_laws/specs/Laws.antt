@@ -73,7 +73,7 @@ MayChange graph command number = option_and_then (λ x. get graph.bindings x) (c
 
 -- the two are of one kind: plain objects of the same cap, two lists, or two weak maps
 abbrev pub SameKind : Object → Object → Type 0
-SameKind (Plain cap fields) (Plain other_cap others) = cap ≡ other_cap
+SameKind (Plain cap proto fields) (Plain other_cap other_proto others) = cap ≡ other_cap
 SameKind (ListOf elements) (ListOf others) = Unit {0}
 SameKind (Weak entries) (Weak others) = Unit {0}
 SameKind _ _ = ⊥

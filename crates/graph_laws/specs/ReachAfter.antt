@@ -45,9 +45,10 @@ MadeIsReached =
     → (get after.bindings x ≡ Some (Ref (length graph.objects)))
     × IsTrue (is_marked (reach after) (length graph.objects))
 
--- a field, an element, a key or a value of the object is the object of this number
+-- the prototype, a field, an element, a key or a value of the object is the object of this number
 abbrev pub Mentions : Object → ℕ → Type 0
-Mentions (kind.Plain cap fields) number = (field : Field) × Contains fields field × (field.value ≡ Ref number)
+Mentions (kind.Plain cap proto fields) number =
+    (proto ≡ Some number) ⊎ ((field : Field) × Contains fields field × (field.value ≡ Ref number))
 Mentions (kind.List elements) number = Contains elements (Ref number)
 Mentions (kind.Weak entries) number =
     (entry : Entry) × Contains entries entry × ((entry.key ≡ number) ⊎ (entry.value ≡ Ref number))

@@ -1,5 +1,5 @@
 -- Laws of reach: what a program can get to from its variables, and nothing more.
-use Rattle.std.specs.Prelude.{◌≡◌, ℕ, ◌<◌, Bool, true, length, Contains, Some, slice_get}
+use Rattle.std.specs.Prelude.{◌≡◌, ◌⊎◌, ℕ, ◌<◌, Bool, true, length, Contains, Some, slice_get}
 use Rattle.std.specs.FinMap.{get}
 use Rattle.object_graph.specs.declared.value.Value.TheVariants.{Ref}
 use Rattle.object_graph.specs.declared.object.Object.{Object}
@@ -9,10 +9,11 @@ use Rattle.object_graph.specs.declared.object.Entry.{Entry}
 use Rattle.object_graph.specs.Graphs.{Graph}
 use Rattle.object_graph.specs.Reach.{is_marked, reach}
 
--- where these objects are inside, the object refers to this number by a field, by an element, or by the value of an
--- entry whose key is inside
+-- where these objects are inside, the object refers to this number by its prototype, by a field, by an element, or by
+-- the value of an entry whose key is inside
 abbrev pub LinksTo : (ℕ → Bool) → Object → ℕ → Type 0
-LinksTo inside (kind.Plain cap fields) number = (field : Field) × Contains fields field × (field.value ≡ Ref number)
+LinksTo inside (kind.Plain cap proto fields) number =
+    (proto ≡ Some number) ⊎ ((field : Field) × Contains fields field × (field.value ≡ Ref number))
 LinksTo inside (kind.List elements) number = Contains elements (Ref number)
 LinksTo inside (kind.Weak entries) number =
     (entry : Entry) × Contains entries entry × (inside entry.key ≡ true) × (entry.value ≡ Ref number)

@@ -12,7 +12,7 @@ use Rattle.heap_model.specs.Kinds.{HasWord, Pair, pairs_in, HoldFields, HoldValu
 use Rattle.heap_model.specs.Kinds.{IsStoreCell, IsSoundOf, IsSoundCell, HasTable, IsPowerOfTwo}
 use Rattle.heap_model.proofs.NewKeys.{one_table}
 use Rattle.heap_model.proofs.OneBeside.{one_beside}
-use Rattle.heap_model.proofs.SlotWords.{All-slice_get, same_target}
+use Rattle.heap_model.proofs.SlotWords.{All-slice_get, same_target, proto_word}
 use Rattle.heap_model.proofs.WordClasses.{undefined_refers_not}
 use Rattle.heap_check.specs.SoundCells.{HasSoundCells}
 use Rattle.heap_check.specs.PathSlots.{FitsSlot}
@@ -22,7 +22,7 @@ use Rattle.image_walk.proofs.EachSlot.{each_of_first, each_of_second}
 use Rattle.heap_check.proofs.ElementSlots.{hold_values_to}
 use Rattle.heap_check.proofs.FieldSlots.{hold_fields_to}
 use Rattle.image_walk.proofs.PairWords.{HasTablePairs, table_is}
-use Rattle.heap_check.specs.Cells.{BreaksSlots, BreaksStoreCell, BreaksStore, BreaksFields, BreaksElements}
+use Rattle.heap_check.specs.Cells.{BreaksSlots, BreaksStoreCell, BreaksStore, BreaksProto, BreaksFields, BreaksElements}
 use Rattle.heap_check.specs.Cells.{BreaksCapacity, BreaksEntries, BreaksPlain, BreaksList, BreaksWeak, BreaksOf}
 use Rattle.heap_check.specs.Cells.{BreaksCells}
 use Rattle.heap_check.proofs.JoinedFinds.{Excludes}
@@ -49,7 +49,7 @@ target_slots words word other beside others store slot holds here refers is =
     (HoldsStore.store other store others refers is)
 
 -- slots that hold the fields of a path are not broken
-fields_exclude : (heap : Heap) (cell : Cell) (words : List ℕ) (path : Path) (word : ℕ) (beside : List ℕ)
+pub fields_exclude : (heap : Heap) (cell : Cell) (words : List ℕ) (path : Path) (word : ℕ) (beside : List ℕ)
     → HasWord words store_slot word → HoldsStore heap kind.Store word beside
     → Excludes (BreaksFields heap cell words path beside) (HoldFields heap path (drop plain_head words ++ beside))
 fields_exclude heap cell words path word beside slot holds _ _ _ (BreaksFields.short found here few) hold =
@@ -75,6 +75,8 @@ plain_excludes heap cell words _ _ _ (BreaksPlain.shape none_such) sound = none_
 plain_excludes heap cell words _ _ _ (BreaksPlain.store at found wanted shape breaks) sound =
     store_excludes heap cell words kind.Store sound.has.store sound.has.beside at found wanted sound.has.slot
     sound.has.stands breaks
+plain_excludes heap cell words _ _ _ (BreaksPlain.proto _ _ _ shape (BreaksProto.proto found slot wrong)) sound =
+    wrong (proto_word found sound slot)
 plain_excludes heap cell words _ _ _ (BreaksPlain.field word at found wanted beside shape slot holds breaks) sound =
     let path : Path = shape_path heap.paths cell.header.shape in
     let same : sound.has.beside ≡ beside =

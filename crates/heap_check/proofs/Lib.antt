@@ -28,6 +28,7 @@ pub mod JoinedFinds
 pub mod NumberFlaws
 pub mod BesideSpans
 pub mod ElementFlaws
+pub mod ProtoFlaws
 pub mod PlainFlaws
 pub mod PairFlaws
 pub mod WeakFlaws

@@ -1,38 +1,39 @@
 -- What is found of a plain object, by its shape and its slots.
 use Rattle.std.proofs.Common.{◌≡◌, ℕ, Option, ◌+◌, ◌≤◌, ◌<◌, ◌⊎◌, inl, inr, List, ◌++◌, drop, length, slice_get, refl}
-use Rattle.std.proofs.Common.{sym, Bool, true, false, Some, nat_lt, ◌∙◌, ap, subst, arith, length-append}
-use Rattle.std.specs.Prelude.{if◌then◌else◌}
-use Rattle.std.proofs.lemmas.Bool.Decides.{nat_tests}
-use Rattle.std.proofs.lemmas.Option.{same_Some, slice_get_within}
+use Rattle.std.proofs.Common.{sym, ◌∙◌, ap, subst, arith, length-append}
+use Rattle.std.proofs.lemmas.Option.{same_Some}
 use Rattle.tagged_word.specs.Cells.{store_slot, store_head, plain_head}
 use Rattle.tagged_word.specs.Headers.{header_bits}
 use Rattle.tagged_word.specs.declared.layout.Kind.TheVariants as kind
 use Rattle.shape_tree.specs.Shapes.{IsPathShape, shape_path}
-use Rattle.heap_model.specs.Types.{Cell, Path, PathField}
+use Rattle.heap_model.specs.Types.{Cell, Path}
 use Rattle.heap_model.specs.Heaps.{Heap}
-use Rattle.heap_model.specs.Slots.{RefersTo, HoldsStore, IsFieldWord, hole_word}
-use Rattle.heap_model.specs.Kinds.{HasWord, IsPlainCell}
+use Rattle.heap_model.specs.Slots.{RefersTo, HoldsStore}
+use Rattle.heap_model.specs.Kinds.{HasWord, HoldFields, IsPlainCell}
 use Rattle.heap_model.proofs.OneBeside.{one_beside}
 use Rattle.image_walk.specs.declared.spans.Span.{Span}
 use Rattle.image_walk.specs.Spans.{EachWord, span_words, HoldsNoStore}
-use Rattle.heap_check.specs.PathSlots.{FitsSlot}
+use Rattle.heap_check.specs.PathSlots.{FitsSlot, HasProto}
 use Rattle.image_walk.proofs.EachSlot.{each_of_both}
-use Rattle.heap_check.proofs.FieldSlots.{hold_fields_from, plain_from}
+use Rattle.heap_check.proofs.FieldSlots.{hold_fields_from, plain_from, FieldFits, field_asked}
 use Rattle.heap_check.specs.declared.flaw.Flaw.{Flaw}
 use Rattle.heap_check.specs.Firsts.{IsFirst, IsVerdict, earlier_of, asked_of}
 use Rattle.heap_check.specs.Frames.{filler_word}
-use Rattle.heap_check.specs.Cells.{BreaksStore, BreaksFields, BreaksPlain, asked_at}
+use Rattle.heap_check.specs.Cells.{BreaksStore, BreaksProto, BreaksFields, BreaksPlain, asked_at}
 use Rattle.image_walk.specs.Spans.{IsBeside}
 use Rattle.heap_check.specs.SpanFlaws.{BreaksSpan}
 use Rattle.heap_check.proofs.JoinedFinds.{Includes, NoneBelow, first_is, joined_finds, span_excludes}
 use Rattle.heap_check.proofs.BesideSpans.{IsSpanBeside, span_beside, beside_spans, span_of_target, store_at}
 use Rattle.heap_check.proofs.BesideSpans.{store_excludes}
+use Rattle.heap_check.proofs.ProtoFlaws.{proto_at, proto_excludes}
+use Rattle.heap_check.proofs.CellLaws.{fields_exclude}
 
 -- where the shape is no path's, the header is the only breach
 lacks_shape : (heap : Heap) (cell : Cell) (words : List ℕ) → (IsPathShape heap.paths cell.header.shape → ⊥)
     → NoneBelow (BreaksPlain heap cell words) cell.at
 lacks_shape heap cell words wrong _ _ _ (BreaksPlain.shape none_such) = omega arith
 lacks_shape heap cell words wrong _ _ _ (BreaksPlain.store at found wanted shape breaks) = absurd (wrong shape)
+lacks_shape heap cell words wrong _ _ _ (BreaksPlain.proto at found wanted shape breaks) = absurd (wrong shape)
 lacks_shape heap cell words wrong _ _ _ (BreaksPlain.field word at found wanted beside shape slot holds breaks) =
     absurd (wrong shape)
 
@@ -52,6 +53,8 @@ lacks_store : (heap : Heap) (cell : Cell) (words : List ℕ) (word : ℕ) → Is
 lacks_store heap cell words word shape there lacks _ _ _ (BreaksPlain.shape none_such) = absurd (none_such shape)
 lacks_store heap cell words word shape there lacks _ _ _ (BreaksPlain.store at found wanted is breaks) =
     omega (arith, store_at heap cell words kind.Store at found wanted breaks)
+lacks_store heap cell words word shape there lacks _ _ _ (BreaksPlain.proto at found wanted is breaks) =
+    omega (arith, proto_at heap cell words at found wanted breaks)
 lacks_store heap cell words word shape there lacks _ _ _
     (BreaksPlain.field other at found wanted beside is here holds breaks) =
     absurd (lacks beside (subst (λ w. HoldsStore heap kind.Store w beside) (same_Some _ _ (sym here ∙ there)) holds))
@@ -87,18 +90,22 @@ one_span {heap} {beside = beside} other slots has here holds =
     one_beside other has.word slots (span_words heap beside) (same_Some _ _ (sym here ∙ has.slot)) holds
     (beside_spans heap kind.Store has.word beside (inl refl) has.is).beside
 
--- what breaks the object breaks its fields
-only_fields : {heap : Heap} {cell : Cell} {words : List ℕ} {own beside : Span} → HasSpans heap cell words own beside
-    → Includes (BreaksPlain heap cell words)
-    (BreaksFields heap cell words (path_of heap cell) (span_words heap beside))
-only_fields {heap} {cell} {words} {own} {beside} has _ _ _ (BreaksPlain.shape none_such) = absurd (none_such has.shape)
-only_fields {heap} {cell} {words} {own} {beside} has _ _ _ (BreaksPlain.store at found wanted shape breaks) =
+-- what breaks the object breaks its prototype slot or its fields
+proto_or_fields : {heap : Heap} {cell : Cell} {words : List ℕ} {own beside : Span}
+    → HasSpans heap cell words own beside → (at found wanted : ℕ) → BreaksPlain heap cell words at found wanted
+    → BreaksProto heap cell words at found wanted
+    ⊎ BreaksFields heap cell words (path_of heap cell) (span_words heap beside) at found wanted
+proto_or_fields {heap} {cell} {words} {own} {beside} has _ _ _ (BreaksPlain.shape none_such) =
+    absurd (none_such has.shape)
+proto_or_fields {heap} {cell} {words} {own} {beside} has _ _ _ (BreaksPlain.proto at found wanted shape breaks) =
+    inl breaks
+proto_or_fields {heap} {cell} {words} {own} {beside} has _ _ _ (BreaksPlain.store at found wanted shape breaks) =
     absurd (store_excludes heap cell words kind.Store has.word (span_words heap beside) at found wanted has.slot
     (beside_spans heap kind.Store has.word beside (inl refl) has.is).beside breaks)
-only_fields {heap} {cell} {words} {own} {beside} has _ _ _
+proto_or_fields {heap} {cell} {words} {own} {beside} has _ _ _
     (BreaksPlain.field other at found wanted slots shape here holds breaks) =
-    subst (λ all. BreaksFields heap cell words (path_of heap cell) all at found wanted)
-    (one_span other slots has here holds) breaks
+    inr (subst (λ all. BreaksFields heap cell words (path_of heap cell) all at found wanted)
+    (one_span other slots has here holds) breaks)
 
 -- and the other way round
 fields_break : {heap : Heap} {cell : Cell} {words : List ℕ} {own beside : Span} → HasSpans heap cell words own beside
@@ -138,49 +145,10 @@ first_too_few {heap} {cell} {words} {own} {beside} word flaw has slot few is =
     let short : length (drop plain_head words ++ slots) < length path.fields = omega (arith, slots_many has, few) in
     first_is (BreaksPlain heap cell words) flaw (cell.at + store_slot) word (asked_of word) is
     (fields_break has _ _ _ (BreaksFields.short word slot short))
-    (λ at found wanted breaks. too_few heap cell words path slots short at found wanted
-    (only_fields has at found wanted breaks))
-
--- behind the fields the hole is asked for
-pub asked_behind : (path : Path) (place found : ℕ) → length path.fields ≤ place
-    → hole_word ≡ asked_at path place found
-asked_behind path place found past =
-    let test : nat_lt place (length path.fields) ≡ false = grind (arith, nat_tests) in
-    ap (λ b. if b then asked_of found else hole_word) (sym test)
-
--- in the place of a field a field's word is
-pub asked_within : (path : Path) (place found : ℕ) → place < length path.fields
-    → asked_of found ≡ asked_at path place found
-asked_within path place found within =
-    let test : nat_lt place (length path.fields) ≡ true = grind (arith, nat_tests) in
-    ap (λ b. if b then asked_of found else hole_word) (sym test)
-
--- a slot in the place of a field holds what the path has there, where its word is one of the field
-pub field_fits : (heap : Heap) (path : Path) (place word : ℕ) (own : Bool) (field : PathField)
-    → slice_get path.fields place ≡ Some field → own ≡ nat_lt place path.cap → IsFieldWord heap own field.rep word
-    → FitsSlot heap path place word
-field_fits heap path place word own field there is_own is = record {
-  field = λ other here.
-      subst (λ (one : PathField). IsFieldWord heap (nat_lt place path.cap) one.rep word)
-      (same_Some _ _ (sym there ∙ here))
-      (subst (λ b. IsFieldWord heap b field.rep word) is_own is);
-  rest = λ past. absurd (omega (arith, past, slice_get_within path.fields place field there));
-}
-
--- and only there
-pub fits_field : (heap : Heap) (path : Path) (place word : ℕ) (own : Bool) (field : PathField)
-    → slice_get path.fields place ≡ Some field → own ≡ nat_lt place path.cap → FitsSlot heap path place word
-    → IsFieldWord heap own field.rep word
-fits_field heap path place word own field there is_own fits =
-    subst (λ b. IsFieldWord heap b field.rep word) (sym is_own) (fits.field field there)
-
--- what each slot of a span is asked to hold, from a place of the path on
-abbrev pub FieldFits : Heap → Path → ℕ → ℕ → ℕ → Type 0
-FieldFits heap path first at word = FitsSlot heap path (first + at) word
-
--- and the word that is asked for in its place
-abbrev pub field_asked : Path → ℕ → ℕ → ℕ → ℕ
-field_asked path first at word = asked_at path (first + at) word
+    (λ at found wanted breaks. elim (proto_or_fields has at found wanted breaks) [
+      | inl breach ↦ omega (arith, proto_at heap cell words at found wanted breach)
+      | inr field ↦ too_few heap cell words path slots short at found wanted field
+    ])
 
 -- a breach of the own slots is one of the fields
 own_to : {heap : Heap} {cell : Cell} {words : List ℕ} {own beside : Span} → HasSpans heap cell words own beside
@@ -259,8 +227,8 @@ fields_from {heap} {cell} {words} {own} {beside} first has long room _ _ _
     (subst (λ n. BreaksSpan heap beside Fits asked (beside.from + place) found (asked_at path (n + place) found)) same
     here))
 
--- what is found along both spans is found of the object
-pub plain_by_spans : {heap : Heap} {cell : Cell} {words : List ℕ} {own beside : Span} (first : ℕ)
+-- what is found along both spans is found of the fields
+pub fields_by_spans : {heap : Heap} {cell : Cell} {words : List ℕ} {own beside : Span} (first : ℕ)
     (one other : Option Flaw)
     → HasSpans heap cell words own beside → first ≡ length (span_words heap own)
     → length (path_of heap cell).fields ≤ length (span_words heap own) + length (span_words heap beside)
@@ -268,27 +236,52 @@ pub plain_by_spans : {heap : Heap} {cell : Cell} {words : List ℕ} {own beside 
     (BreaksSpan heap own (FieldFits heap (path_of heap cell) 0) (field_asked (path_of heap cell) 0)) one
     → IsVerdict (EachWord (span_words heap beside) (FieldFits heap (path_of heap cell) first))
     (BreaksSpan heap beside (FieldFits heap (path_of heap cell) first) (field_asked (path_of heap cell) first)) other
-    → IsVerdict (IsPlainCell heap cell words) (BreaksPlain heap cell words) (earlier_of one other)
-plain_by_spans {heap} {cell} {words} {own} {beside} first one other has long room is also =
+    → IsVerdict (HoldFields heap (path_of heap cell) (span_words heap own ++ span_words heap beside))
+    (BreaksFields heap cell words (path_of heap cell) (span_words heap beside)) (earlier_of one other)
+fields_by_spans {heap} {cell} {words} {own} {beside} first one other has long room is also =
     let path : Path = path_of heap cell in
+    let slots : List ℕ = span_words heap own ++ span_words heap beside in
     let Own : Type 0 = EachWord (span_words heap own) (FieldFits heap path 0) in
     let Beside : Type 0 = EachWord (span_words heap beside) (FieldFits heap path first) in
     let BreaksOwn : ℕ → ℕ → ℕ → Type 0 = BreaksSpan heap own (FieldFits heap path 0) (field_asked path 0) in
     let BreaksBeside : ℕ → ℕ → ℕ → Type 0 =
     BreaksSpan heap beside (FieldFits heap path first) (field_asked path first) in
-    joined_finds Own Beside (IsPlainCell heap cell words) BreaksOwn BreaksBeside (BreaksPlain heap cell words) one other
+    joined_finds Own Beside (HoldFields heap path slots) BreaksOwn BreaksBeside
+    (BreaksFields heap cell words path (span_words heap beside)) one other
     (record {
-      both = λ left right. plain_from heap cell words has.word own beside has.shape has.slot has.own_are
-          (beside_spans heap kind.Store has.word beside (inl refl) has.is)
-          (hold_fields_from heap path (span_words heap own ++ span_words heap beside)
+      both = λ left right. hold_fields_from heap path slots
           (omega (arith, length-append (span_words heap own) (span_words heap beside), room))
-          (each_of_both (span_words heap own) (span_words heap beside) first (FitsSlot heap path) long left right));
-      of_one = λ at found wanted breaks. fields_break has at found wanted (own_to has room at found wanted breaks);
-      of_other = λ at found wanted breaks.
-          fields_break has at found wanted (beside_to first has long room at found wanted breaks);
-      only = λ at found wanted breaks.
-          fields_from first has long room at found wanted (only_fields has at found wanted breaks);
+          (each_of_both (span_words heap own) (span_words heap beside) first (FitsSlot heap path) long left right);
+      of_one = own_to has room;
+      of_other = beside_to first has long room;
+      only = fields_from first has long room;
       not_one = span_excludes heap own (FieldFits heap path 0) (field_asked path 0);
       not_other = span_excludes heap beside (FieldFits heap path first) (field_asked path first);
+    })
+    is also
+
+-- what is found of the prototype slot and of the fields is found of the object
+pub plain_by_parts : {heap : Heap} {cell : Cell} {words : List ℕ} {own beside : Span} (proto fields : Option Flaw)
+    → HasSpans heap cell words own beside → IsVerdict (HasProto heap words) (BreaksProto heap cell words) proto
+    → IsVerdict (HoldFields heap (path_of heap cell) (span_words heap own ++ span_words heap beside))
+    (BreaksFields heap cell words (path_of heap cell) (span_words heap beside)) fields
+    → IsVerdict (IsPlainCell heap cell words) (BreaksPlain heap cell words) (earlier_of proto fields)
+plain_by_parts {heap} {cell} {words} {own} {beside} proto fields has is also =
+    let path : Path = path_of heap cell in
+    let slots : List ℕ = span_words heap beside in
+    let spans = beside_spans heap kind.Store has.word beside (inl refl) has.is in
+    joined_finds (HasProto heap words) (HoldFields heap path (span_words heap own ++ slots))
+    (IsPlainCell heap cell words) (BreaksProto heap cell words) (BreaksFields heap cell words path slots)
+    (BreaksPlain heap cell words) proto fields
+    (record {
+      both = λ proto_is hold. plain_from heap cell words has.word own beside has.shape has.slot has.own_are spans hold
+          proto_is;
+      of_one = λ at found wanted breaks. BreaksPlain.proto at found wanted has.shape breaks;
+      of_other = fields_break has;
+      only = proto_or_fields has;
+      not_one = proto_excludes heap cell words;
+      not_other = λ at found wanted breaks hold.
+          fields_exclude heap cell words path has.word slots has.slot spans.beside at found wanted breaks
+          (subst (λ all. HoldFields heap path (all ++ slots)) has.own_are hold);
     })
     is also

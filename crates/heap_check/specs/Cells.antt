@@ -1,7 +1,7 @@
 -- What breaks the cells of a heap, by their kinds, and the owners of stores, tables and boxes.
 use Rattle.std.specs.Prelude.{◌≡◌, ◌≢◌, ℕ, ◌+◌, ◌*◌, ◌≤◌, ◌<◌, Bool, true, false, List, ◌++◌, drop, length}
 use Rattle.std.specs.Prelude.{Some, slice_get, min, nat_lt, if◌then◌else◌}
-use Rattle.tagged_word.specs.Cells.{store_slot, store_head, plain_head, length_offset}
+use Rattle.tagged_word.specs.Cells.{store_slot, proto_slot, store_head, plain_head, length_offset}
 use Rattle.tagged_word.specs.declared.layout.Kind.TheVariants as kind
 use Rattle.tagged_word.specs.Headers.{header_bits}
 use Rattle.object_graph.specs.Meaning.{list_most}
@@ -10,7 +10,7 @@ use Rattle.heap_model.specs.Types.{Kind, Path, Cell}
 use Rattle.heap_model.specs.Heaps.{Heap, HasCell}
 use Rattle.heap_model.specs.Slots.{reference_word, undefined_word, hole_word, IsSlotWord, IsValueWord}
 use Rattle.heap_model.specs.Slots.{RefersTo, RefersToPlace, RefersToObject, HoldsStore}
-use Rattle.heap_model.specs.Kinds.{HasWord, count_offset, Pair, pairs_in, IsPowerOfTwo, IsProbed, HasTable}
+use Rattle.heap_model.specs.Kinds.{HasWord, count_offset, IsProtoWord, Pair, pairs_in, IsPowerOfTwo, IsProbed, HasTable}
 use Rattle.heap_model.specs.Wholeness.{NamesFrom}
 use Rattle.heap_check.specs.Elements.{IsElement}
 use Rattle.heap_check.specs.PathSlots.{FitsSlot}
@@ -47,6 +47,12 @@ pub data BreaksStoreCell (heap : Heap) (cell : Cell) (words : List ℕ) : ℕ �
 pub data BreaksStore (heap : Heap) (cell : Cell) (words : List ℕ) (of : Kind) : ℕ → ℕ → ℕ → Type 0 where
   store : (found : ℕ) → HasWord words store_slot found → HoldsNoStore heap of found
       → BreaksStore heap cell words of (cell.at + store_slot) found (asked_of found)
+
+-- the prototype slot of a plain object holds neither undefined nor a reference to the cell of a plain object: undefined
+-- is asked for
+pub data BreaksProto (heap : Heap) (cell : Cell) (words : List ℕ) : ℕ → ℕ → ℕ → Type 0 where
+  proto : (found : ℕ) → HasWord words proto_slot found → (IsProtoWord heap found → ⊥)
+      → BreaksProto heap cell words (cell.at + proto_slot) found undefined_word
 
 -- what is asked for in a slot of a plain object: a field's word, or the hole behind the fields
 abbrev pub asked_at : Path → ℕ → ℕ → ℕ
@@ -124,12 +130,15 @@ pub data BreaksEntries (heap : Heap) (cell : Cell) (words : List ℕ) : ℕ → 
       → HasWord words count_offset found → found ≢ filled_pairs pairs
       → BreaksEntries heap cell words (cell.at + count_offset) found (filled_pairs pairs)
 
--- What breaks a plain object: its shape is no path's; or slot 1; or, where these are right, its fields.
+-- What breaks a plain object: its shape is no path's; or, where it is one's, slot 1, or the slot of its prototype, or,
+-- where slot 1 is right, its fields.
 pub data BreaksPlain (heap : Heap) (cell : Cell) (words : List ℕ) : ℕ → ℕ → ℕ → Type 0 where
   shape : (IsPathShape heap.paths cell.header.shape → ⊥)
       → BreaksPlain heap cell words cell.at (header_bits cell.header) filler_word
   store : (at found wanted : ℕ) → IsPathShape heap.paths cell.header.shape
       → BreaksStore heap cell words kind.Store at found wanted → BreaksPlain heap cell words at found wanted
+  proto : (at found wanted : ℕ) → IsPathShape heap.paths cell.header.shape
+      → BreaksProto heap cell words at found wanted → BreaksPlain heap cell words at found wanted
   field : (word at found wanted : ℕ) (beside : List ℕ) → IsPathShape heap.paths cell.header.shape
       → HasWord words store_slot word → HoldsStore heap kind.Store word beside
       → BreaksFields heap cell words (shape_path heap.paths cell.header.shape) beside at found wanted

@@ -1,4 +1,5 @@
-//! Flaws of plain objects: their shape, their store's slot, and the slots for their fields.
+//! Flaws of plain objects: their shape, their store's slot, and the slots for their fields. Those of the slot for
+//! their prototype are in `protos.rt`.
 ghost use Rattle.std.specs.Prelude.{◌≡◌, ◌+◌, ◌≤◌};
 ghost use Rattle.shape_tree.specs.Shapes.{IsPathShape, shape_path};
 ghost use Rattle.heap_model.specs.Images.{image_heap};
@@ -16,12 +17,13 @@ ghost use Rattle.heap_check.specs.SpanFlaws.{BreaksSpan, BreaksWord, HasBeside};
 use crate::earlier::earlier;
 use crate::finding::referent;
 use crate::flaw::{Flaw, asked_of};
+use crate::protos::flaw_of_proto;
 use crate::rows::filler_word;
 use crate::stores::slot_flaw;
 use cell_layout::Cell;
 use heap_model::HeapImage;
 use image_walk::{Span, behind_head, is_hole, slots_beside, word_of};
-use tagged_word::cell::STORE_SLOT;
+use tagged_word::cell::{PLAIN_HEAD, STORE_SLOT};
 use tagged_word::{Kind, Word, odd};
 
 /// The first flaw of a plain object.
@@ -49,7 +51,7 @@ pub(crate) fn flaw_of_plain(image: &HeapImage, starts: &[bool], cell: Cell) -> O
     }
 }
 
-/// The first flaw of the slots of a plain object, its own and those beside it.
+/// The first flaw of the slots of a plain object: that of its prototype, its own, and those beside it.
 fn flaw_of_fields(image: &HeapImage, starts: &[bool], cell: Cell, beside: Span) -> Option<Flaw>
     requires sized { HasWords (image_heap image.now) }
     requires rows { HasRows (image_heap image.now) }
@@ -63,15 +65,16 @@ fn flaw_of_fields(image: &HeapImage, starts: &[bool], cell: Cell, beside: Span) 
         (BreaksPlain heap cell (words_of_cell heap cell)) result }
 {
     let shape = cell.header.shape;
-    let own = behind_head(image, cell);
+    let own = behind_head(image, cell, PLAIN_HEAD);
     let first = (own.end - own.from) as u64;
     if image.shapes.fields(shape) as u64 > first + (beside.end - beside.from) as u64 {
         return Some(slot_flaw(cell.at + STORE_SLOT, word_of(image, cell, STORE_SLOT)));
     }
-    earlier(
+    let of_fields = earlier(
         flaw_of_places(image, starts, shape, 0, own),
         flaw_of_places(image, starts, shape, first, beside),
-    )
+    );
+    earlier(flaw_of_proto(image, starts, cell), of_fields)
 }
 
 /// The first word of a span that does not fit the path of a shape, from a place on.

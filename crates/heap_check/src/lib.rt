@@ -17,6 +17,7 @@ mod laws;
 mod lists;
 mod owners;
 mod probing;
+mod protos;
 mod region_rows;
 mod roots;
 mod rows;

@@ -17,6 +17,7 @@ use crate::flaw::{Flaw, asked_of};
 use cell_layout::Cell;
 use heap_model::HeapImage;
 use image_walk::{Referent, Span, behind_head, integer_of};
+use tagged_word::cell::STORE_HEAD;
 use tagged_word::{Header, Kind};
 
 /// The flaw of a slot that may hold several words.
@@ -74,7 +75,7 @@ pub(crate) fn flaw_of_store(image: &HeapImage, starts: &[bool], cell: Cell) -> O
 {
     match flaw_of_number(cell) {
         Some(flaw) => Some(flaw),
-        None => flaw_of_slots(image, starts, behind_head(image, cell)),
+        None => flaw_of_slots(image, starts, behind_head(image, cell, STORE_HEAD)),
     }
 }
 

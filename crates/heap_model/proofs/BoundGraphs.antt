@@ -116,7 +116,7 @@ new_keys_stay : (heap : Heap) (before after : List Bool) (objects : List Object)
     → ((other : ℕ) → IsTrue (is_marked after other) → other ≢ number → IsTrue (is_marked before other))
     → slice_get objects holder ≡ Some what → (shown : ShowsReached heap before holder what)
     → ObjectKeysStay heap before after shown.words what
-new_keys_stay heap before after objects number holder (graph_object.Plain cap fields) no_entry no_key
+new_keys_stay heap before after objects number holder (graph_object.Plain cap proto fields) no_entry no_key
     reached there shown = tt
 new_keys_stay heap before after objects number holder (graph_object.List elements) no_entry no_key
     reached there shown = tt

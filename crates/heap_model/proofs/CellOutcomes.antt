@@ -10,7 +10,8 @@ use Rattle.tagged_word.proofs.Members.{first_in, rest_in, in_cases}
 use Rattle.heap_model.specs.Types.{Kind, Path, Cell}
 use Rattle.heap_model.specs.Heaps.{Heap, HasCell, words_of_cell}
 use Rattle.tagged_word.specs.Cells.{is_object_kind}
-use Rattle.heap_model.specs.Slots.{RefersToBox}
+use Rattle.heap_model.specs.Slots.{reference_word, RefersToBox}
+use Rattle.heap_model.specs.Kinds.{IsProtoWord}
 use Rattle.heap_model.specs.Wholeness.{IsOwnedKind}
 use Rattle.heap_model.specs.Changes.{CellsChange, IsFilledIn, IsStill}
 use Rattle.heap_model.proofs.CellsApart.{one_at}
@@ -121,7 +122,7 @@ places_stay {old} {new} {gone} {came} {made} cells stay number at place =
             words = words_of_cell new still.other;
             has = cells.comes still.other (Contains-append_left came made still.other still.among);
             stands = still.place ∙ place.stands;
-            object = still.object;
+            object = ap is_object_kind still.of_kind ∙ place.object;
             carries = still.number ∙ place.carries;
           }
       | Fate.stands has not_gone ↦ record {
@@ -132,6 +133,24 @@ places_stay {old} {new} {gone} {came} {made} cells stay number at place =
         object = place.object;
         carries = place.carries;
       }
+    ]
+
+-- the word of a prototype slot stays one
+pub proto_stays : {old new : Heap} {gone came made : List Cell} (word : ℕ) → CellsMove old new gone came made
+    → ObjectsStay gone came → IsProtoWord old word → IsProtoWord new word
+proto_stays word cells stay IsProtoWord.none = IsProtoWord.none
+proto_stays {new = new} {came = came} {made} word cells stay (IsProtoWord.plain to cell words refers is) =
+    let object : IsTrue (is_object_kind cell.layout.kind) = ap is_object_kind is in
+    elim (fate cells refers.has (object_is_no_filler cell.layout.kind object)) [
+      | Fate.has_gone there ↦
+          let still = stay cell there object in
+          IsProtoWord.plain word still.other (words_of_cell new still.other)
+          (record {
+            refers = refers.refers ∙ ap reference_word (sym still.place);
+            has = cells.comes still.other (Contains-append_left came made still.other still.among);
+          }) (still.of_kind ∙ is)
+      | Fate.stands has not_gone ↦
+          IsProtoWord.plain word cell words (record { refers = refers.refers; has = has }) is
     ]
 
 -- a box that did not go stays

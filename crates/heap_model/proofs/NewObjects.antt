@@ -99,7 +99,7 @@ old_keys_stay : (old : Heap) (before : Graph) (after : List Bool) (holder : ℕ)
     → IsTrue (is_marked (reach before) other))
     → slice_get before.objects holder ≡ Some what → (words : List ℕ)
     → ObjectKeysStay old (reach before) after words what
-old_keys_stay old before after holder (graph_object.Plain cap fields) shows no_entry reached there words = tt
+old_keys_stay old before after holder (graph_object.Plain cap proto fields) shows no_entry reached there words = tt
 old_keys_stay old before after holder (graph_object.List elements) shows no_entry reached there words = tt
 old_keys_stay old before after holder (graph_object.Weak entries) shows no_entry reached there words = record {
   of_entries = λ at entry stands marked. reached entry.key marked (no_entry holder at entries entry there stands);

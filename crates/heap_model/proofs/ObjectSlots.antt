@@ -12,8 +12,8 @@ use Rattle.tagged_word.specs.declared.layout.Kind.TheVariants as kind
 use Rattle.tagged_word.specs.Layouts.{is_raw}
 use Rattle.tagged_word.specs.Cells.{words_of, scavenge_offsets, scavenge_offsets_of, in_object_offsets, store_head}
 use Rattle.tagged_word.specs.Cells.{store_slot, plain_head, is_object_kind}
-use Rattle.tagged_word.proofs.Members.{first_in, rest_in, in_range}
-use Rattle.tagged_word.proofs.Offsets.{IsInObject, in_object_in}
+use Rattle.tagged_word.proofs.Members.{first_in, in_range}
+use Rattle.tagged_word.proofs.Offsets.{IsInObject, in_object_in, plain_has_store, plain_has_own}
 use Rattle.object_graph.specs.declared.value.Rep.TheVariants as rep
 use Rattle.shape_tree.specs.Shapes.{IsPathShape, shape_path}
 use Rattle.shape_tree.specs.ShapeLayouts.{layout_of, raw_bit}
@@ -28,7 +28,7 @@ use Rattle.heap_model.proofs.PathLayouts.{layout_is, in_object_used, in_object_r
 -- an object has the slot of its store, kind by kind
 pub store_slot_in : (k : Kind) (layout : LayoutWord) (long : ℕ) → IsTrue (is_object_kind k)
     → Contains (scavenge_offsets_of k layout long) store_slot
-store_slot_in kind.Plain layout long is = first_in store_slot (in_object_offsets layout)
+store_slot_in kind.Plain layout long is = plain_has_store layout
 store_slot_in kind.List layout long is = first_in store_slot []
 store_slot_in kind.Weak layout long is = first_in store_slot []
 store_slot_in _ layout long is = absurd (false≢true is)
@@ -115,7 +115,7 @@ in_object_offset cell path at field of_kind laid there below tagged =
     } in
     let own = in_object_in (layout_of path) offset own_one in
     let own_cell = subst (λ layout. Contains (in_object_offsets layout) offset) (sym laid) own in
-    slots_by_kind cell kind.Plain offset of_kind (rest_in store_slot (in_object_offsets cell.layout) offset own_cell)
+    slots_by_kind cell kind.Plain offset of_kind (plain_has_own cell.layout offset own_cell)
 
 -- so it stands in an in-object slot
 in_object_slot : {heap : Heap} {cell : Cell} {words : List ℕ} (path : Path) (at word : ℕ) (field : PathField)

@@ -1,5 +1,5 @@
 -- The places of objects in the new heap: those of objects that were there stood before.
-use Rattle.std.proofs.Common.{ℕ, List, Contains, ◌∙◌, arith, ◌<◌, ◌≤◌}
+use Rattle.std.proofs.Common.{ℕ, List, Contains, ◌∙◌, ap, arith, ◌<◌, ◌≤◌}
 use Rattle.std.proofs.Common.{IsTrue, inl, inr}
 use Rattle.std.proofs.lemmas.List.Elements.{Contains-append_cases}
 use Rattle.heap_model.specs.Types.{Cell}
@@ -27,7 +27,7 @@ place_before {old} {new} {gone} {came} {made} {number} {at} count moves numbered
               words = words_of_cell old still.other;
               has = moves.cells.went still.other still.among;
               stands = still.place ∙ place.stands;
-              object = still.object;
+              object = ap is_object_kind still.of_kind ∙ place.object;
               carries = still.number ∙ place.carries;
             }
         | inr in_made ↦ absurd (omega (arith, numbered place.cell in_made place.object, place.carries, below))

@@ -1,6 +1,6 @@
 -- Each object that can be reached has one place, whose cell shows it, after a change too.
 use Rattle.std.proofs.Common.{◌≡◌, ◌≢◌, ℕ, ◌<◌, ◌≤◌, Bool, List, length, Contains, IsTrue, inl, inr}
-use Rattle.std.proofs.Common.{refl, sym, ◌∙◌, arith}
+use Rattle.std.proofs.Common.{refl, sym, ◌∙◌, ap, arith}
 use Rattle.std.proofs.lemmas.List.Elements.{Contains-append_left, Contains-append_cases}
 use Rattle.heap_model.specs.Types.{Object, Cell}
 use Rattle.object_graph.specs.declared.object.Object.TheVariants as graph_object
@@ -27,7 +27,7 @@ reach_below graph number marked =
 pub keys_stay : (old : Heap) (before after : List Bool) (words : List ℕ) (what : Object)
     → ((number : ℕ) → IsTrue (is_marked after number) → IsTrue (is_marked before number))
     → ObjectKeysStay old before after words what
-keys_stay old before after words (graph_object.Plain cap fields) reached = tt
+keys_stay old before after words (graph_object.Plain cap proto fields) reached = tt
 keys_stay old before after words (graph_object.List elements) reached = tt
 keys_stay old before after words (graph_object.Weak entries) reached = record {
   of_entries = λ at entry there marked. reached entry.key marked;
@@ -97,7 +97,7 @@ made_below {old} {gone = gone} {came} {made} count more moves few old_below numb
               words = words_of_cell old still.other;
               has = moves.cells.went still.other still.among;
               stands = still.place ∙ place.stands;
-              object = still.object;
+              object = ap is_object_kind still.of_kind ∙ place.object;
               carries = still.number ∙ place.carries;
             } in
             omega (arith, old_below number at before, few)

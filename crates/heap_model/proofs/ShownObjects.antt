@@ -1,5 +1,5 @@
 -- What the cell of an object that did not go shows it still shows.
-use Rattle.std.proofs.Common.{◌≡◌, ℕ, ◌<◌, ◌⊎◌, inl, inr, Bool, true, false, List, Some, slice_get}
+use Rattle.std.proofs.Common.{◌≡◌, ℕ, ◌<◌, ◌⊎◌, inl, inr, Bool, true, false, List, Option, Some, None, slice_get}
 use Rattle.std.proofs.Common.{option_map, nat_lt, IsTrue, refl, sym, ◌∙◌, ap, subst}
 use Rattle.std.proofs.lemmas.Bool.{false≢true}
 use Rattle.std.proofs.lemmas.Option.{slice_get-map}
@@ -11,7 +11,8 @@ use Rattle.heap_model.specs.Heaps.{Heap}
 use Rattle.tagged_word.specs.Cells.{is_object_kind}
 use Rattle.heap_model.specs.Slots.{RefersToPlace}
 use Rattle.heap_model.specs.Kinds.{Pair, IsPlainCell, IsSoundOf}
-use Rattle.heap_model.specs.Showing.{ShowsPlain, ShowsList, ShowsOnce, IsKnownKey, ShowsWeak, HasPair, ShowsObject}
+use Rattle.heap_model.specs.Showing.{ShowsPlain, ShowsProto, ShowsList, ShowsOnce, IsKnownKey, ShowsWeak, HasPair}
+use Rattle.heap_model.specs.Showing.{ShowsObject}
 use Rattle.heap_model.proofs.ObjectSlots.{FieldSlot, field_slot, slot_beside, value_slot}
 use Rattle.heap_model.proofs.WordsStay.{refers_to_place_stays, shown_value, shown_field}
 use Rattle.heap_model.proofs.Moves.{Moves, place_stays}
@@ -51,6 +52,13 @@ plain_shown {old} {new} {cell = cell} {words} cap fields moves keeps shows =
           (shows.each at field word there stands);
     }
 
+-- its prototype
+proto_shown : {old new : Heap} {gone came made : List Cell} (words : List ℕ) (proto : Option ℕ)
+    → Moves old new gone came made → ShowsProto old words proto → ShowsProto new words proto
+proto_shown words None moves shows = shows
+proto_shown words (Some number) moves (word, stands, refers) =
+    (word, stands, refers_to_place_stays (place_stays moves) refers)
+
 -- a list
 list_shown : {old new : Heap} {gone came made : List Cell} {cell : Cell} {words : List ℕ} (elements : List Value)
     → Moves old new gone came made → Keeps old new gone cell words → ShowsList old cell words elements
@@ -77,7 +85,7 @@ pub record KeysStay (old : Heap) (before after : List Bool) (words : List ℕ) (
 
 -- the same of any object: only a weak map has keys
 abbrev pub ObjectKeysStay : Heap → List Bool → List Bool → List ℕ → Object → Type 0
-ObjectKeysStay old before after words (graph_object.Plain cap fields) = Unit {0}
+ObjectKeysStay old before after words (graph_object.Plain cap proto fields) = Unit {0}
 ObjectKeysStay old before after words (graph_object.List elements) = Unit {0}
 ObjectKeysStay old before after words (graph_object.Weak entries) = KeysStay old before after words entries
 
@@ -158,8 +166,9 @@ pub object_shown : {old new : Heap} {gone came made : List Cell} {cell : Cell} {
     (before after : List Bool) (what : Object) → Moves old new gone came made → Keeps old new gone cell words
     → AreNumberedFrom count made → AreMarkedBelow before count → ObjectKeysStay old before after words what
     → ShowsObject old before cell words what → ShowsObject new after cell words what
-object_shown count before after (graph_object.Plain cap fields) moves keeps numbered below keys shows =
-    plain_shown cap fields moves keeps shows
+object_shown {words = words} count before after (graph_object.Plain cap proto fields) moves keeps numbered below keys
+    shows =
+    (plain_shown cap fields moves keeps shows.0, proto_shown words proto moves shows.1)
 object_shown count before after (graph_object.List elements) moves keeps numbered below keys shows =
     list_shown elements moves keeps shows
 object_shown count before after (graph_object.Weak entries) moves keeps numbered below keys shows =
@@ -168,6 +177,7 @@ object_shown count before after (graph_object.Weak entries) moves keeps numbered
 -- the cell that shows an object is one of an object
 pub object_of_shown : (heap : Heap) (marks : List Bool) (cell : Cell) (words : List ℕ) (what : Object)
     → ShowsObject heap marks cell words what → IsTrue (is_object_kind cell.layout.kind)
-object_of_shown heap marks cell words (graph_object.Plain cap fields) shows = ap is_object_kind shows.of_kind
+object_of_shown heap marks cell words (graph_object.Plain cap proto fields) shows =
+    ap is_object_kind shows.0.of_kind
 object_of_shown heap marks cell words (graph_object.List elements) shows = ap is_object_kind shows.of_kind
 object_of_shown heap marks cell words (graph_object.Weak entries) shows = ap is_object_kind shows.of_kind

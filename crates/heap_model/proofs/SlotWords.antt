@@ -6,13 +6,13 @@ use Rattle.std.proofs.lemmas.Option.{same_Some, slice_get_within, get_or_from_sl
 use Rattle.heap_model.specs.Types.{Kind, Path, PathField, Rep, Cell}
 use Rattle.tagged_word.specs.declared.layout.Kind.TheVariants as kind
 use Rattle.tagged_word.specs.Layouts.{is_raw}
-use Rattle.tagged_word.specs.Cells.{store_slot, is_object_kind}
+use Rattle.tagged_word.specs.Cells.{store_slot, proto_slot, is_object_kind}
 use Rattle.object_graph.specs.declared.value.Rep.TheVariants as rep
 use Rattle.shape_tree.specs.ShapeLayouts.{layout_of, raw_bit}
 use Rattle.heap_model.specs.Heaps.{Heap, HasCell}
-use Rattle.heap_model.specs.Slots.{undefined_word, RefersTo, IsSlotWord, IsValueWord, IsWideWord}
+use Rattle.heap_model.specs.Slots.{undefined_word, RefersTo, RefersToObject, IsSlotWord, IsValueWord, IsWideWord}
 use Rattle.heap_model.specs.Slots.{IsFieldWord, HoldsStore}
-use Rattle.heap_model.specs.Kinds.{HasWord, Pair, HasTable, IsSoundOf}
+use Rattle.heap_model.specs.Kinds.{HasWord, Pair, HasTable, IsProtoWord, IsPlainCell, IsSoundOf}
 use Rattle.heap_model.specs.Wholeness.{IsOwnedKind, Whole}
 use Rattle.heap_model.proofs.WordClasses.{same_reference, undefined_refers_not}
 use Rattle.heap_model.proofs.CellsApart.{one_at}
@@ -76,6 +76,49 @@ pub store_word : {heap : Heap} {cell : Cell} {words : List ℕ} (word : ℕ) →
     → IsTrue (is_object_kind cell.layout.kind) → HasWord words store_slot word → IsStoreWord heap word
 store_word {heap} {cell} {words} word whole has object slot =
     store_word_of heap cell words cell.layout.kind word object (whole.sound cell words has) slot
+
+-- what refers to the cell of a plain object refers to an object
+pub plain_is_object : {heap : Heap} {word : ℕ} {cell : Cell} {words : List ℕ} → RefersTo heap word cell words
+    → cell.layout.kind ≡ kind.Plain → RefersToObject heap word
+plain_is_object {cell = cell} {words} refers is = (
+  cell.header.object,
+  record {
+    at = cell.at;
+    refers = refers.refers;
+    place = record {
+      cell = cell;
+      words = words;
+      has = refers.has;
+      stands = refl;
+      object = ap is_object_kind is;
+      carries = refl;
+    };
+  },
+)
+
+-- the word of a prototype slot is a slot word
+pub proto_is_slot : {heap : Heap} (word : ℕ) → IsProtoWord heap word → IsSlotWord heap word
+proto_is_slot word IsProtoWord.none = IsSlotWord.undefined
+proto_is_slot word (IsProtoWord.plain to cell words refers is) = IsSlotWord.object word (plain_is_object refers is)
+
+-- a plain object's cell belongs to no other
+plain_is_not_owned : (k : Kind) → k ≡ kind.Plain → IsOwnedKind k → ⊥
+plain_is_not_owned k plain owned = subst IsOwnedKind plain owned
+
+-- what a prototype slot refers to is no store, table or box
+pub proto_names_nothing : {heap : Heap} {cell : Cell} {words : List ℕ} (word : ℕ) → IsProtoWord heap word
+    → RefersTo heap word cell words → IsOwnedKind cell.layout.kind → ⊥
+proto_names_nothing {cell = cell} word IsProtoWord.none refers owned =
+    undefined_refers_not cell.at refers.refers
+proto_names_nothing {cell = cell} word (IsProtoWord.plain to other others target is) refers owned =
+    let same = same_target target refers in
+    plain_is_not_owned cell.layout.kind (ap (λ (one : Cell). one.layout.kind) (sym same) ∙ is) owned
+
+-- the word in the prototype slot of a plain object is such a word
+pub proto_word : {heap : Heap} {cell : Cell} {words : List ℕ} (word : ℕ) → IsPlainCell heap cell words
+    → HasWord words proto_slot word → IsProtoWord heap word
+proto_word {heap} word sound slot =
+    subst (IsProtoWord heap) (same_Some sound.proto word (sym sound.proto_has ∙ slot)) sound.proto_is
 
 -- the word of a value is a slot word
 pub value_is_slot : {heap : Heap} (word : ℕ) → IsValueWord heap word → IsSlotWord heap word

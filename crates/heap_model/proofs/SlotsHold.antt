@@ -6,10 +6,10 @@ use Rattle.std.proofs.lemmas.Option.{slice_get_within, slice_get-get_or}
 use Rattle.heap_model.specs.Types.{Kind, LayoutWord, Path, PathField, Cell}
 use Rattle.tagged_word.specs.declared.layout.Kind.TheVariants as kind
 use Rattle.tagged_word.specs.Layouts.{is_raw}
-use Rattle.tagged_word.specs.Cells.{scavenge_offsets, scavenge_offsets_of, in_object_offsets, store_head, store_slot}
+use Rattle.tagged_word.specs.Cells.{scavenge_offsets, scavenge_offsets_of, store_head, store_slot}
 use Rattle.tagged_word.specs.Cells.{plain_head, is_object_kind}
-use Rattle.tagged_word.proofs.Members.{in_cases, one_in, range_bounds}
-use Rattle.tagged_word.proofs.Offsets.{in_object_is}
+use Rattle.tagged_word.proofs.Members.{one_in, range_bounds}
+use Rattle.tagged_word.proofs.Offsets.{IsInObject, IsPlainSlot, plain_slot_is}
 use Rattle.object_graph.specs.declared.value.Rep.TheVariants as rep
 use Rattle.shape_tree.specs.Shapes.{shape_path}
 use Rattle.shape_tree.specs.ShapeLayouts.{layout_of, in_object_fields}
@@ -22,7 +22,7 @@ use Rattle.heap_model.proofs.CellsApart.{IsOfCell, has_is_cell}
 use Rattle.heap_model.proofs.CellWords.{slice_get-drop, slice_get-append_left, slots_of_kind}
 use Rattle.heap_model.proofs.PathLayouts.{layout_is}
 use Rattle.heap_model.proofs.SlotWords.{IsStoreKind, IsStoreWord, store_word_of, store_word, store_target}
-use Rattle.heap_model.proofs.SlotWords.{field_is_slot, in_object_not_wide, All-slice_get}
+use Rattle.heap_model.proofs.SlotWords.{proto_word, proto_is_slot, field_is_slot, in_object_not_wide, All-slice_get}
 
 -- what a slot of an object holds: what the slot of a store or table holds, or a slot word
 pub data Holding (heap : Heap) (word : ℕ) : Type 0 where
@@ -36,12 +36,11 @@ no_field = record { name = 0; rep = rep.Small }
 -- an in-object slot of a plain object that is no raw one holds a slot word
 in_object_holds : {heap : Heap} {cell : Cell} {words : List ℕ} (offset word : ℕ) → HasSizes heap
     → HasCell heap cell words
-    → IsPlainCell heap cell words → Contains (in_object_offsets cell.layout) offset → HasWord words offset word
+    → IsPlainCell heap cell words → IsInObject cell.layout offset → HasWord words offset word
     → IsSlotWord heap word
-in_object_holds {heap} {cell} {words} offset word sized has sound there slot =
+in_object_holds {heap} {cell} {words} offset word sized has sound own slot =
     let path : Path = shape_path heap.paths cell.header.shape in
     let laid : cell.layout ≡ layout_of path = layout_is sized has sound.shape in
-    let own = in_object_is cell.layout offset there in
     let at : ℕ = offset - plain_head in
     let used : at < length (in_object_fields path) = subst (λ (layout : LayoutWord). at < layout.used) laid own.used in
     let below : at < path.cap = omega (arith, length-take path.cap path.fields, used) in
@@ -64,11 +63,14 @@ pub own_slot_holds : {heap : Heap} {cell : Cell} {words : List ℕ} (k : Kind) (
     → IsSoundOf k heap cell words → Contains (scavenge_offsets_of k cell.layout cell.length) offset
     → HasWord words offset word → Holding heap word
 own_slot_holds {heap} {cell} {words} kind.Plain offset word sized has is sound there slot =
-    elim (in_cases store_slot (in_object_offsets cell.layout) offset there) [
-      | inl same ↦
+    elim (plain_slot_is cell.layout offset there) [
+      | IsPlainSlot.store same ↦
           let store = subst (λ n. HasWord words n word) (sym same) slot in
           Holding.to_store (store_word_of heap cell words kind.Plain word is sound store)
-      | inr own ↦ Holding.as_slot (in_object_holds offset word sized has sound own slot)
+      | IsPlainSlot.proto same ↦
+          let proto = subst (λ n. HasWord words n word) (sym same) slot in
+          Holding.as_slot (proto_is_slot word (proto_word word sound proto))
+      | IsPlainSlot.own own ↦ Holding.as_slot (in_object_holds offset word sized has sound own slot)
     ]
 own_slot_holds {heap} {cell} {words} kind.List offset word sized has is sound there slot =
     let store = subst (λ n. HasWord words n word) (sym (one_in store_slot offset there)) slot in

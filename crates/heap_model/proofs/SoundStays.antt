@@ -12,6 +12,7 @@ use Rattle.heap_model.specs.Kinds.{HoldFields, IsPlainCell, IsListCell, Pair, fr
 use Rattle.heap_model.specs.Kinds.{IsStoreCell, IsSoundOf, IsSoundCell}
 use Rattle.heap_model.proofs.ObjectSlots.{field_slot, slot_beside, value_slot}
 use Rattle.heap_model.proofs.WordsStay.{refers_to_place_stays, value_stays, field_stays}
+use Rattle.heap_model.proofs.CellOutcomes.{proto_stays}
 use Rattle.heap_model.proofs.Moves.{Moves, place_stays, slot_words_stay}
 use Rattle.heap_model.proofs.KeptObjects.{Keeps, kept_box, kept_beside, kept_table, kept_slots, slot_unless_raw}
 use Rattle.heap_model.proofs.KeptObjects.{kept_path, kept_shape}
@@ -38,6 +39,9 @@ plain_stays {old} {new} {cell = cell} moves keeps is sound =
       hold =
           subst (λ one. HoldFields new one sound.slots)
           (sym (kept_path cell.header.shape moves.cells sound.shape)) hold;
+      proto = sound.proto;
+      proto_has = sound.proto_has;
+      proto_is = proto_stays sound.proto moves.cells moves.own.objects_stay sound.proto_is;
     }
 
 -- a list stays sound

@@ -164,12 +164,12 @@ pub record IsOwnOf (heap : Heap) (owners : List Cell) (cell : Cell) : Type 0 whe
   pub object : IsTrue (is_object_kind owner.layout.kind)
   pub own : (cell ≡ owner) ⊎ ((slot : ℕ) × NamesFrom heap owner slot cell.at)
 
--- the object's cell stands in place of one with its number, at the same address
+-- the object's cell stands in place of one of its kind with its number, at the same address
 pub record IsStill (others : List Cell) (cell : Cell) : Type 0 where
   pub other : Cell
   pub among : Contains others other
   pub place : other.at ≡ cell.at
-  pub object : IsTrue (is_object_kind other.layout.kind)
+  pub of_kind : other.layout.kind ≡ cell.layout.kind
   pub number : other.header.object ≡ cell.header.object
 
 -- a box stands in place of the box

@@ -5,7 +5,7 @@ use Rattle.std.specs.Prelude.{◌==◌, ◌⊎◌, ℤ, FitsSigned}
 use Rattle.std.specs.Int.{w64}
 use Rattle.heap_model.specs.Types.{Kind, Path, PathField, Cell}
 use Rattle.tagged_word.specs.declared.layout.Kind.TheVariants as kind
-use Rattle.tagged_word.specs.Cells.{plain_head, store_head, store_slot}
+use Rattle.tagged_word.specs.Cells.{plain_head, store_head, store_slot, proto_slot}
 use Rattle.linear_probing.specs.Tables as probing
 use Rattle.object_graph.specs.Meaning.{list_most}
 use Rattle.shape_tree.specs.Shapes.{IsPathShape, shape_path}
@@ -38,12 +38,22 @@ pub record HasSlots (heap : Heap) (words slots : List ℕ) : Type 0 where
   pub stands : HoldsStore heap kind.Store store beside
   pub are : slots ≡ drop plain_head words ++ beside
 
--- a plain object: its shape is a path's, and its slots hold the fields of that path
+-- The word of a prototype slot: undefined, or a reference to the cell of a plain object.
+pub data IsProtoWord (heap : Heap) : ℕ → Type 0 where
+  none : IsProtoWord heap undefined_word
+  plain : (word : ℕ) (cell : Cell) (words : List ℕ) → RefersTo heap word cell words → cell.layout.kind ≡ kind.Plain
+      → IsProtoWord heap word
+
+-- a plain object: its shape is a path's, its prototype slot holds a prototype's word, and its other slots hold the
+-- fields of that path
 pub record IsPlainCell (heap : Heap) (cell : Cell) (words : List ℕ) : Type 0 where
   pub shape : IsPathShape heap.paths cell.header.shape
   pub slots : List ℕ
   pub has : HasSlots heap words slots
   pub hold : HoldFields heap (shape_path heap.paths cell.header.shape) slots
+  pub proto : ℕ
+  pub proto_has : HasWord words proto_slot proto
+  pub proto_is : IsProtoWord heap proto
 
 -- so many of the first slots hold values, and the others are holes
 pub record HoldValues (heap : Heap) (count : ℕ) (slots : List ℕ) : Type 0 where

@@ -35,7 +35,7 @@ bare_room = record { capacity = 0; entries = 0 }
 
 -- how many pairs are filled of the table of this object, which stands at the address
 abbrev pub entries_at : Heap → ℕ → Object → ℕ
-entries_at heap at (kind.Plain cap fields) = 0
+entries_at heap at (kind.Plain cap proto fields) = 0
 entries_at heap at (kind.List elements) = 0
 entries_at heap at (kind.Weak entries) = count_at heap at
 

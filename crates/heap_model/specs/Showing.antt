@@ -5,7 +5,7 @@ use Rattle.std.specs.Int.{w64}
 use Rattle.std.specs.FinMap.{get}
 use Rattle.tagged_word.specs.declared.layout.Kind.TheVariants as kind
 use Rattle.tagged_word.specs.Words.{small}
-use Rattle.tagged_word.specs.Cells.{store_slot}
+use Rattle.tagged_word.specs.Cells.{store_slot, proto_slot}
 use Rattle.heap_model.specs.Types.{Value, Rep, Object, Field, Entry, Cell, Held}
 use Rattle.object_graph.specs.declared.value.Value.TheVariants.{Int, Undefined, Ref}
 use Rattle.object_graph.specs.declared.value.Rep.TheVariants as rep
@@ -50,6 +50,12 @@ pub record ShowsPlain (heap : Heap) (cell : Cell) (words : List ℕ) (cap : ℕ)
   pub has : HasSlots heap words slots
   pub each : (at : ℕ) (field : Field) (word : ℕ) → slice_get fields at ≡ Some field → HasWord slots at word
       → ShowsField heap (nat_lt at cap) word field.rep field.value
+
+-- The prototype slot of a plain object shows its prototype: it holds undefined where there is none, and else refers to
+-- the prototype's place.
+abbrev pub ShowsProto : Heap → List ℕ → Option ℕ → Type 0
+ShowsProto heap words None = HasWord words proto_slot undefined_word
+ShowsProto heap words (Some number) = (word : ℕ) × HasWord words proto_slot word × RefersToPlace heap word number
 
 -- the cell of a list shows its elements in order
 pub record ShowsList (heap : Heap) (cell : Cell) (words : List ℕ) (elements : List Value) : Type 0 where
@@ -108,7 +114,8 @@ pub record HasPair (heap : Heap) (words : List ℕ) (pair : Pair) : Type 0 where
 
 -- the cell shows the object, where these objects can be reached
 abbrev pub ShowsObject : Heap → List Bool → Cell → List ℕ → Object → Type 0
-ShowsObject heap marks cell words (graph_object.Plain cap fields) = ShowsPlain heap cell words cap fields
+ShowsObject heap marks cell words (graph_object.Plain cap proto fields) =
+    ShowsPlain heap cell words cap fields × ShowsProto heap words proto
 ShowsObject heap marks cell words (graph_object.List elements) = ShowsList heap cell words elements
 ShowsObject heap marks cell words (graph_object.Weak entries) = ShowsWeak heap marks cell words entries
 

@@ -1,6 +1,6 @@
 -- To what an object links that stays, that stays: a slot that is moved refers to it.
 use Rattle.std.proofs.Common.{◌≡◌, ℕ, ◌<◌, ◌≤◌, Bool, List, [], length, get_or, Option, Some, Contains, slice_get}
-use Rattle.std.proofs.Common.{IsTrue, nat_lt}
+use Rattle.std.proofs.Common.{IsTrue, nat_lt, inl, inr}
 use Rattle.std.proofs.Common.{refl, sym, ◌∙◌, ap, subst, arith}
 use Rattle.std.proofs.lemmas.Option.{same_Some, slice_get-get_or, slice_get_within}
 use Rattle.tagged_word.specs.declared.layout.Kind.TheVariants as kind
@@ -16,7 +16,7 @@ use Rattle.graph_laws.specs.ReachLaws.{LinksTo}
 use Rattle.heap_model.specs.Heaps.{Heap, HasCell}
 use Rattle.heap_model.specs.Slots.{RefersToPlace}
 use Rattle.heap_model.specs.Kinds.{HasWord, IsPlainCell, IsListCell, IsSoundOf}
-use Rattle.heap_model.specs.Showing.{ShowsValue, ShowsField, ShowsPlain, ShowsList, ShowsWeak, ShowsObject}
+use Rattle.heap_model.specs.Showing.{ShowsValue, ShowsField, ShowsPlain, ShowsProto, ShowsList, ShowsWeak, ShowsObject}
 use Rattle.heap_model.proofs.CellWords.{slots_by_kind}
 use Rattle.heap_model.proofs.OneBeside.{one_beside, one_slots}
 use Rattle.heap_moves.specs.Moved.{IsMovedWord, AreMoved, IsMoved}
@@ -24,7 +24,7 @@ use Rattle.heap_moves.specs.Standing.{Stays, WholeFor}
 use Rattle.heap_moves.proofs.MovedWords.{referred}
 use Rattle.heap_moves.proofs.MovedTargets.{beside_moved, table_moved}
 use Rattle.heap_moves.proofs.MovedValues.{IsMovedField, field_is_moved}
-use Rattle.heap_moves.proofs.MovedSlots.{other_word, store_slot_moved, field_moved, plain_slots}
+use Rattle.heap_moves.proofs.MovedSlots.{other_word, store_slot_moved, proto_slot_moved, field_moved, plain_slots}
 use Rattle.heap_moves.proofs.MovedPairs.{other_pair}
 use Rattle.heap_moves.proofs.MovedShown.{path_has, path_field}
 
@@ -91,6 +91,14 @@ module _ {old new : Heap} {to : ℕ → Option ℕ} (moved : IsMoved old new to)
       (ap (λ (one : Path). nat_lt at one.cap) shows.path) is in
       field_stays number (shows.each at field word there stands) refers is_own
 
+  -- the prototype of a plain object stays
+  proto_links : {cell : Cell} {words others : List ℕ} (proto : Option ℕ) (number : ℕ) → AreMoved to cell words others
+      → cell.layout.kind ≡ kind.Plain → ShowsProto old words proto → proto ≡ Some number → HasStay old to number
+  proto_links {words = words} proto number are of_kind shows same =
+      let (word, stands, refers) = subst (ShowsProto old words) same shows in
+      let slot = proto_slot_moved word of_kind are stands in
+      word_stays word slot.0 refers slot.2
+
   -- what an element of a list refers to stays
   list_links : {cell : Cell} {words others : List ℕ} (elements : List Value) (number : ℕ) → HasCell old cell words
       → Stays to cell.at → AreMoved to cell words others → ShowsList old cell words elements
@@ -129,8 +137,10 @@ module _ {old new : Heap} {to : ℕ → Option ℕ} (moved : IsMoved old new to)
   pub links_stay : {cell : Cell} {words others : List ℕ} (marks : List Bool) (what : Object) (number : ℕ)
       → HasCell old cell words → Stays to cell.at → AreMoved to cell words others
       → ShowsObject old marks cell words what → LinksTo (is_marked marks) what number → HasStay old to number
-  links_stay marks (graph_object.Plain cap fields) number has stays are shows link =
-      plain_links cap fields number link.0 has stays are shows link.1 link.2
+  links_stay marks (graph_object.Plain cap proto fields) number has stays are shows (inl same) =
+      proto_links proto number are shows.0.of_kind shows.1 same
+  links_stay marks (graph_object.Plain cap proto fields) number has stays are shows (inr link) =
+      plain_links cap fields number link.0 has stays are shows.0 link.1 link.2
   links_stay marks (graph_object.List elements) number has stays are shows link =
       list_links elements number has stays are shows link
   links_stay marks (graph_object.Weak entries) number has stays are shows link =

@@ -59,7 +59,7 @@ held_stays at (IsMovedHeld.other none is) same = absurd (none at same)
 -- an object links to what it linked to, where each key that is inside is marked
 links_marked : (inside these : ℕ → Bool) (what : Object) (number : ℕ)
     → ((n : ℕ) → inside n ≡ true → these n ≡ true) → LinksTo inside what number → LinksTo these what number
-links_marked inside these (graph_object.Plain cap fields) number also link = link
+links_marked inside these (graph_object.Plain cap proto fields) number also link = link
 links_marked inside these (graph_object.List elements) number also link = link
 links_marked inside these (graph_object.Weak entries) number also link =
     (link.0, link.1, also link.0.key link.2, link.3)

@@ -1,6 +1,6 @@
 -- What the cell of an object that stays shows, its moved cell shows.
 use Rattle.std.proofs.Common.{◌≡◌, ℕ, Bool, List, [], Option, Some, slice_get, nat_lt, option_map, sym, ◌∙◌, ap, subst}
-use Rattle.std.proofs.Common.{arith}
+use Rattle.std.proofs.Common.{None, refl, arith}
 use Rattle.std.proofs.lemmas.Option.{slice_get-map}
 use Rattle.tagged_word.specs.declared.layout.Kind.TheVariants as kind
 use Rattle.tagged_word.specs.Cells.{store_slot}
@@ -10,9 +10,9 @@ use Rattle.object_graph.specs.declared.object.Object.TheVariants as graph_object
 use Rattle.object_graph.specs.Paths.{path_of}
 use Rattle.shape_tree.specs.Shapes.{shape_path}
 use Rattle.heap_model.specs.Heaps.{Heap, HasCell}
-use Rattle.heap_model.specs.Slots.{reference_word, RefersToPlace}
+use Rattle.heap_model.specs.Slots.{reference_word, undefined_word, RefersToPlace}
 use Rattle.heap_model.specs.Kinds.{Pair, free_pair, count_offset, IsPlainCell, IsSoundOf}
-use Rattle.heap_model.specs.Showing.{ShowsPlain, ShowsList, ShowsOnce, IsKnownKey, ShowsWeak, ShowsObject}
+use Rattle.heap_model.specs.Showing.{ShowsPlain, ShowsProto, ShowsList, ShowsOnce, IsKnownKey, ShowsWeak, ShowsObject}
 use Rattle.heap_model.proofs.WordClasses.{same_reference, hole_refers_not}
 use Rattle.heap_model.proofs.CellWords.{slots_by_kind, slots_of_kind}
 use Rattle.heap_moves.specs.Moved.{IsMovedWord, AreMoved, moved_to, IsMoved}
@@ -20,8 +20,8 @@ use Rattle.heap_moves.specs.Standing.{Stays, WholeFor}
 use Rattle.heap_moves.proofs.MovedWords.{was_referred}
 use Rattle.heap_moves.proofs.MovedCells.{refers_moved, place_before}
 use Rattle.heap_moves.proofs.MovedTargets.{ArePairsMoved, beside_moved, table_moved}
-use Rattle.heap_moves.proofs.MovedValues.{IsMovedField, shown_value_moved, shown_field_moved}
-use Rattle.heap_moves.proofs.MovedSlots.{other_word, store_slot_moved, field_moved, plain_slots}
+use Rattle.heap_moves.proofs.MovedValues.{IsMovedField, undefined_stays, shown_value_moved, shown_field_moved}
+use Rattle.heap_moves.proofs.MovedSlots.{other_word, store_slot_moved, proto_slot_moved, field_moved, plain_slots}
 use Rattle.heap_moves.proofs.MovedPairs.{other_pair, free_stays}
 
 -- the field of a path that stands for a field
@@ -178,11 +178,21 @@ module _ {old new : Heap} {to : ℕ → Option ℕ} (moved : IsMoved old new to)
             (shows.each at field was.0 there was.1);
       }
 
+  -- a prototype
+  proto_shown : {cell : Cell} {words others : List ℕ} (proto : Option ℕ) → AreMoved to cell words others
+      → cell.layout.kind ≡ kind.Plain → ShowsProto old words proto → ShowsProto new others proto
+  proto_shown None are of_kind shows =
+      let slot = proto_slot_moved undefined_word of_kind are shows in
+      slot.1 ∙ ap (λ word. Some word) (undefined_stays moved slot.2 refl)
+  proto_shown (Some number) are of_kind (word, stands, refers) =
+      let slot = proto_slot_moved word of_kind are stands in
+      (slot.0, slot.1, refers_moved moved slot.2 refers)
+
   -- any object
   pub object_shown : {cell : Cell} {words others : List ℕ} (marks : List Bool) (now : ℕ) (what : Object)
       → WholeFor old (Stays to) → HasCell old cell words → Stays to cell.at → AreMoved to cell words others
       → ShowsObject old marks cell words what → ShowsObject new marks (moved_to cell now) others what
-  object_shown marks now (graph_object.Plain cap fields) whole has stays are shows =
-      plain_shown now cap fields whole has stays are shows
+  object_shown marks now (graph_object.Plain cap proto fields) whole has stays are shows =
+      (plain_shown now cap fields whole has stays are shows.0, proto_shown proto are shows.0.of_kind shows.1)
   object_shown marks now (graph_object.List elements) whole has stays are shows = list_shown now elements are shows
   object_shown marks now (graph_object.Weak entries) whole has stays are shows = weak_shown now entries are shows

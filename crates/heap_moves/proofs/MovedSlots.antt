@@ -8,9 +8,8 @@ use Rattle.std.proofs.lemmas.Option.{same_Some, slice_get_within, slice_get-get_
 use Rattle.tagged_word.specs.declared.layout.Kind.TheVariants as kind
 use Rattle.heap_model.specs.Types.{LayoutWord, Path, PathField, Rep, Cell}
 use Rattle.tagged_word.specs.Layouts.{is_raw}
-use Rattle.tagged_word.specs.Cells.{scavenge_offsets, in_object_offsets, plain_head, store_slot}
-use Rattle.tagged_word.proofs.Members.{in_cases, first_in}
-use Rattle.tagged_word.proofs.Offsets.{in_object_is}
+use Rattle.tagged_word.specs.Cells.{scavenge_offsets, plain_head, proto_slot, store_slot}
+use Rattle.tagged_word.proofs.Offsets.{IsPlainSlot, plain_slot_is, plain_has_store, plain_has_proto}
 use Rattle.object_graph.specs.declared.value.Rep.TheVariants as rep
 use Rattle.shape_tree.specs.Shapes.{IsPathShape, shape_path}
 use Rattle.shape_tree.specs.ShapeLayouts.{layout_of, raw_bit}
@@ -34,13 +33,27 @@ pub other_word : (words others : List ℕ) (k now : ℕ) → length others ≡ l
 other_word words others k now long there =
     (get_or words k 0, slice_get-get_or words k 0 (omega (arith, long, slice_get_within others k now there)))
 
--- the word of an object's store is moved, kind by kind
+-- the word of a slot that a scavenge visits is moved
+pub slot_moved : {to : ℕ → Option ℕ} {cell : Cell} {words others : List ℕ} (offset word : ℕ)
+    → Contains (scavenge_offsets cell.layout cell.length) offset → AreMoved to cell words others
+    → HasWord words offset word → (now : ℕ) × HasWord others offset now × IsMovedWord to word now
+slot_moved {words = words} {others} offset word there are stands =
+    let is = other_word others words offset word (sym are.long) stands in
+    (is.0, is.1, are.slots offset word is.0 there stands is.1)
+
+-- so is that of an object's store
 pub store_slot_moved : {to : ℕ → Option ℕ} {cell : Cell} {words others : List ℕ} (store : ℕ)
     → Contains (scavenge_offsets cell.layout cell.length) store_slot → AreMoved to cell words others
     → HasWord words store_slot store → (now : ℕ) × HasWord others store_slot now × IsMovedWord to store now
-store_slot_moved {words = words} {others} store there are slot =
-    let is = other_word others words store_slot store (sym are.long) slot in
-    (is.0, is.1, are.slots store_slot store is.0 there slot is.1)
+store_slot_moved store there are slot = slot_moved store_slot store there are slot
+
+-- and that of a plain object's prototype
+pub proto_slot_moved : {to : ℕ → Option ℕ} {cell : Cell} {words others : List ℕ} (proto : ℕ)
+    → cell.layout.kind ≡ kind.Plain → AreMoved to cell words others → HasWord words proto_slot proto
+    → (now : ℕ) × HasWord others proto_slot now × IsMovedWord to proto now
+proto_slot_moved {cell = cell} proto of_kind are slot =
+    let visited = slots_by_kind cell kind.Plain proto_slot of_kind (plain_has_proto cell.layout) in
+    slot_moved proto_slot proto visited are slot
 
 -- A slot of a plain object: it is moved where a scavenge visits it, and else it is the object's own and as it was.
 pub data IsMovedSlot (to : ℕ → Option ℕ) (cell : Cell) (at old new : ℕ) : Type 0 where
@@ -81,11 +94,10 @@ wide_not_visited : (cell : Cell) (path : Path) (at : ℕ) (field : PathField) �
     → Contains (scavenge_offsets cell.layout cell.length) (plain_head + at) → field.rep ≡ rep.Wide → ⊥
 wide_not_visited cell path at field of_kind laid there below visited wide =
     let offset : ℕ = plain_head + at in
-    let slot = slots_of_kind cell kind.Plain offset of_kind visited in
-    elim (in_cases store_slot (in_object_offsets cell.layout) offset slot) [
-      | inl same ↦ absurd (omega (arith, same))
-      | inr in_object ↦
-          let is = in_object_is cell.layout offset in_object in
+    elim (plain_slot_is cell.layout offset (slots_of_kind cell kind.Plain offset of_kind visited)) [
+      | IsPlainSlot.store same ↦ absurd (omega (arith, same))
+      | IsPlainSlot.proto same ↦ absurd (omega (arith, same))
+      | IsPlainSlot.own is ↦
           let slot : offset - plain_head ≡ at = omega arith in
           let tagged : is_raw cell.layout at ≡ false = subst (λ n. is_raw cell.layout n ≡ false) slot is.tagged in
           in_object_not_wide path at field there below
@@ -136,7 +148,7 @@ module _ {old new : Heap} {to : ℕ → Option ℕ} (moved : IsMoved old new to)
       → MovedSlots new to cell others slots
   plain_slots {cell} {words} {others} {slots} has of_kind are had =
       let visited : Contains (scavenge_offsets cell.layout cell.length) store_slot =
-      slots_by_kind cell kind.Plain store_slot of_kind (first_in store_slot (in_object_offsets cell.layout)) in
+      slots_by_kind cell kind.Plain store_slot of_kind (plain_has_store cell.layout) in
       let store = store_slot_moved had.store visited are had.slot in
       let next = beside_moved moved store.2 had.stands in
       let own : List ℕ = drop plain_head words in

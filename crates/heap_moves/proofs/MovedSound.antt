@@ -19,8 +19,10 @@ use Rattle.heap_moves.specs.Moved.{AreMoved, moved_to, IsFrom, IsMoved}
 use Rattle.heap_moves.specs.Standing.{Stays, WholeFor}
 use Rattle.heap_moves.proofs.MovedCells.{Origin, origin_of}
 use Rattle.heap_moves.proofs.MovedTargets.{AreAllMoved, beside_moved, table_moved, slots_moved}
-use Rattle.heap_moves.proofs.MovedValues.{hole_stays, slot_word_moved, value_moved, field_word_moved}
-use Rattle.heap_moves.proofs.MovedSlots.{other_word, store_slot_moved, slot_hole_stays, field_moved, plain_slots}
+use Rattle.heap_moves.proofs.MovedValues.{hole_stays, proto_moved, slot_word_moved, value_moved}
+use Rattle.heap_moves.proofs.MovedValues.{field_word_moved}
+use Rattle.heap_moves.proofs.MovedSlots.{other_word, store_slot_moved, proto_slot_moved, slot_hole_stays}
+use Rattle.heap_moves.proofs.MovedSlots.{field_moved, plain_slots}
 use Rattle.heap_moves.proofs.MovedPairs.{other_pair, found_moved, count_moved}
 
 -- what is a sound cell of a kind without a number has none where it is from
@@ -32,6 +34,7 @@ module _ {old new : Heap} {to : ℕ → Option ℕ} (moved : IsMoved old new to)
   plain_sound {cell} {words} {others} now sized has of_kind are sound =
       let path : Path = shape_path old.paths cell.header.shape in
       let slots = plain_slots moved has of_kind are sound.has in
+      let proto = proto_slot_moved sound.proto of_kind are sound.proto_has in
       let hold : HoldFields new path slots.now = record {
         room = omega (arith, sound.hold.room, slots.long);
         each = λ at field word there stands.
@@ -45,6 +48,9 @@ module _ {old new : Heap} {to : ℕ → Option ℕ} (moved : IsMoved old new to)
       } in
       record {
         shape = subst (λ paths. IsPathShape paths cell.header.shape) (sym moved.paths) sound.shape;
+        proto = proto.0;
+        proto_has = proto.1;
+        proto_is = proto_moved moved proto.2 sound.proto_is;
         slots = slots.now;
         has = slots.has;
         hold = subst (λ paths. HoldFields new (shape_path paths cell.header.shape) slots.now) (sym moved.paths) hold;

@@ -6,12 +6,13 @@ use Rattle.object_graph.specs.declared.value.Rep.TheVariants as rep
 use Rattle.heap_model.specs.Heaps.{Heap}
 use Rattle.heap_model.specs.Slots.{undefined_word, hole_word, small_word, RefersToObject}
 use Rattle.heap_model.specs.Slots.{IsSlotWord, IsValueWord, IsWideWord, IsFieldWord}
+use Rattle.heap_model.specs.Kinds.{IsProtoWord}
 use Rattle.heap_model.specs.Showing.{ShowsValue, ShowsWide, ShowsField}
 use Rattle.heap_model.proofs.WordClasses.{undefined_refers_not, hole_refers_not, small_refers_not}
-use Rattle.heap_moves.specs.Moved.{IsMovedWord, IsMoved}
+use Rattle.heap_moves.specs.Moved.{IsMovedWord, moved_to, IsMoved}
 use Rattle.heap_moves.proofs.MovedWords.{not_referred}
 use Rattle.heap_moves.proofs.MovedCells.{refers_moved}
-use Rattle.heap_moves.proofs.MovedTargets.{box_moved}
+use Rattle.heap_moves.proofs.MovedTargets.{box_moved, target}
 
 -- a hole is as it was
 pub hole_stays : {to : ℕ → Option ℕ} {word now : ℕ} → IsMovedWord to word now → word ≡ hole_word → now ≡ hole_word
@@ -57,8 +58,16 @@ module _ {old new : Heap} {to : ℕ → Option ℕ} (moved : IsMoved old new to)
   small_stays v moved_word is = not_referred moved_word (λ at same. small_refers_not v at (sym is ∙ same)) ∙ is
 
   -- `undefined` is as it was
-  undefined_stays : {word now : ℕ} → IsMovedWord to word now → word ≡ undefined_word → now ≡ undefined_word
+  pub undefined_stays : {word now : ℕ} → IsMovedWord to word now → word ≡ undefined_word → now ≡ undefined_word
   undefined_stays moved_word is = not_referred moved_word (λ at same. undefined_refers_not at (sym is ∙ same)) ∙ is
+
+  -- the word of a prototype slot is one
+  pub proto_moved : {word now : ℕ} → IsMovedWord to word now → IsProtoWord old word → IsProtoWord new now
+  proto_moved moved_word IsProtoWord.none =
+      subst (IsProtoWord new) (sym (undefined_stays moved_word refl)) IsProtoWord.none
+  proto_moved {now = now} moved_word (IsProtoWord.plain word cell words refers of_kind) =
+      let there = target moved moved_word refers in
+      IsProtoWord.plain now (moved_to cell there.now) there.others there.refers of_kind
 
   -- a slot word is one
   pub slot_word_moved : {word now : ℕ} → IsMovedWord to word now → IsSlotWord old word → IsSlotWord new now

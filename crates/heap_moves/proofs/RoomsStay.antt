@@ -15,7 +15,8 @@ use Rattle.heap_moves.proofs.MovedRooms.{moves_keep_room}
 room_stays : {old new : Heap} {number at now : ℕ} (marks : List Bool) (what : Object)
     → ShowsReached old marks number what → IsPlace old number at → IsPlaceMoved old new number at now
     → room_at new now what ≡ room_at old at what
-room_stays marks (Plain cap fields) shown place moved = ap (λ n. record { capacity = n; entries = 0 }) moved.capacity
+room_stays marks (Plain cap proto fields) shown place moved =
+    ap (λ n. record { capacity = n; entries = 0 }) moved.capacity
 room_stays marks (ListOf elements) shown place moved = ap (λ n. record { capacity = n; entries = 0 }) moved.capacity
 room_stays {at = at} marks (Weak entries) shown place moved =
     let count = moved.count shown.cell shown.words shown.has (sym (shown.once at place)) (inr shown.shows.of_kind) in

@@ -1,5 +1,5 @@
 -- How many objects a heap can show, and how many a command makes.
-use Rattle.std.proofs.Common.{◌≡◌, ℕ, ◌+◌, ◌≤◌, Bool, true, false, List, []}
+use Rattle.std.proofs.Common.{◌≡◌, ℕ, ◌+◌, ◌≤◌, Bool, true, false, List, [], None}
 use Rattle.std.proofs.Common.{◌++◌, length, if◌then◌else◌, refl, sym, subst, ◌∙◌, add-zero, arith}
 use Rattle.std.specs.Prelude.{slice_set}
 use Rattle.std.specs.Ordering.{nat_cmp}
@@ -35,7 +35,7 @@ puts graph number object paths = length-set graph.objects number object ∙ sym 
 -- a command makes the objects that it is said to make
 leads-objects : (limits : Limits) (names : List (List ℕ)) (graph : Graph) (command : Command)
     → Leads (HasMore (objects_made command) graph) (meaning limits names graph command)
-leads-objects limits names graph (command.New x cap) = length_push graph.objects (Plain cap [])
+leads-objects limits names graph (command.New x cap) = length_push graph.objects (Plain cap None [])
 leads-objects limits names graph (command.List x) = length_push graph.objects (ListOf [])
 leads-objects limits names graph (command.Weak x) = length_push graph.objects (Weak [])
 leads-objects limits names graph (command.LetValue x v) = search (each, binds)

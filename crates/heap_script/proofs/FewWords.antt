@@ -66,9 +66,9 @@ set_few capacity plain value (Some at) few =
 
 -- a plain object that is found is an object of the graph, by what stands there
 is_plain : (number : ℕ) (what : Object) (plain : PlainObject) → as_plain number what ≡ Some plain
-    → what ≡ kind.Plain plain.cap plain.fields
-is_plain number (kind.Plain cap fields) plain is =
-    ap (λ (one : PlainObject). kind.Plain one.cap one.fields) (same_Some _ plain is)
+    → what ≡ kind.Plain plain.cap plain.proto plain.fields
+is_plain number (kind.Plain cap proto fields) plain is =
+    ap (λ (one : PlainObject). kind.Plain one.cap one.proto one.fields) (same_Some _ plain is)
 is_plain number (kind.List elements) plain is = absurd (none-some plain is)
 is_plain number (kind.Weak entries) plain is = absurd (none-some plain is)
 
@@ -78,10 +78,10 @@ there_few : (graph : Graph) (number : ℕ) (found : Option Object) (plain : Plai
     → length plain.fields ≤ fields_most
 there_few graph number None plain is there found = absurd (none-some plain found)
 there_few graph number (Some what) plain is there found =
-    let object : slice_get graph.objects number ≡ Some (kind.Plain plain.cap plain.fields) =
+    let object : slice_get graph.objects number ≡ Some (kind.Plain plain.cap plain.proto plain.fields) =
     there ∙ ap (λ one. Some one) (is_plain number what plain found) in
-    let its = All-slice_get (HasItsPath graph.paths) graph.objects number (kind.Plain plain.cap plain.fields) is.shaped
-    object in
+    let its = All-slice_get (HasItsPath graph.paths) graph.objects number
+    (kind.Plain plain.cap plain.proto plain.fields) is.shaped object in
     let short = (All-contains IsPath graph.paths _ is.paths.each its).short in
     let part : Field → PathField = λ f. record { name = f.name; rep = f.rep } in
     omega (arith, short, length-map plain.fields part)

@@ -5,21 +5,23 @@ use Rattle.std.proofs.lemmas.Bool.{cases_lt}
 use Rattle.tagged_word.specs.declared.layout.Kind.{Kind}
 use Rattle.tagged_word.specs.declared.layout.Kind.TheVariants as kind
 use Rattle.tagged_word.specs.declared.layout.LayoutWord.{LayoutWord}
-use Rattle.tagged_word.specs.Cells.{in_object_offsets, plain_head, store_head, store_slot, scavenge_offsets}
+use Rattle.tagged_word.specs.Cells.{in_object_offsets, plain_head, store_head, store_slot, proto_slot}
+use Rattle.tagged_word.specs.Cells.{scavenge_offsets}
 use Rattle.tagged_word.specs.Cells.{scavenge_offsets_of, cell_size, cell_words_most, words_least, words_of}
 use Rattle.tagged_word.proofs.Cells.{size_is}
-use Rattle.tagged_word.proofs.Members.{in_cases, range_bounds}
-use Rattle.tagged_word.proofs.Offsets.{in_object_is}
+use Rattle.tagged_word.proofs.Members.{range_bounds}
+use Rattle.tagged_word.proofs.Offsets.{IsPlainSlot, plain_slot_is}
 use Rattle.cell_layout.specs.Slots.{IsLeastFrom}
 use Rattle.cell_layout.proofs.NextSlots.{all_below}
 
--- a slot of a plain cell is its store's, or one of the used ones
-plain_end : (layout : LayoutWord) (offset : ℕ) → Contains (store_slot ∷ in_object_offsets layout) offset
-    → offset < plain_head + layout.used
+-- a slot of a plain cell is its store's, its prototype's, or one of the used ones
+plain_end : (layout : LayoutWord) (offset : ℕ)
+    → Contains (store_slot ∷ proto_slot ∷ in_object_offsets layout) offset → offset < plain_head + layout.used
 plain_end layout offset there =
-    elim (in_cases store_slot (in_object_offsets layout) offset there) [
-      | inl same ↦ omega (arith, same)
-      | inr behind ↦ let is = in_object_is layout offset behind in omega (arith, is.behind, is.used)
+    elim (plain_slot_is layout offset there) [
+      | IsPlainSlot.store same ↦ omega (arith, same)
+      | IsPlainSlot.proto same ↦ omega (arith, same)
+      | IsPlainSlot.own is ↦ omega (arith, is.behind, is.used)
     ]
 
 -- so they end behind the used ones
@@ -28,7 +30,7 @@ pub plain_ends : (layout : LayoutWord) (long : ℕ) → layout.kind ≡ kind.Pla
 plain_ends layout long plain =
     subst (λ (one : Kind). All (λ offset. offset < plain_head + layout.used) (scavenge_offsets_of one layout long))
     (sym plain)
-    (all_below (store_slot ∷ in_object_offsets layout) (plain_head + layout.used) (plain_end layout))
+    (all_below (store_slot ∷ proto_slot ∷ in_object_offsets layout) (plain_head + layout.used) (plain_end layout))
 
 -- those of a store end behind as many as its length
 pub store_ends : (layout : LayoutWord) (long : ℕ) → layout.kind ≡ kind.Store

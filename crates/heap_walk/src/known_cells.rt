@@ -44,6 +44,19 @@ pub fn known_cell_by(main: &Main, at: u32, word: u64) -> Cell
     }
 }
 
+/// The kind of the cell that stands at an address: its size and its length are not read.
+#[inline(always)]
+pub fn known_kind(main: &Main, at: u32) -> Kind
+    requires { (cell : Cell) × StandsAt main.now.seat.space (heap_words main.now.seat) at cell }
+    ensures { (cell : Cell) → StandsAt main.now.seat.space (heap_words main.now.seat) at cell →
+        result ≡ cell.layout.kind }
+{
+    // There is a word for each address before the marks.
+    main.addresses_fit();
+    let header = Header::of_bits(main.word(at));
+    known_layout(main, header.shape).kind
+}
+
 /// The layout of a shape that has one.
 fn known_layout(main: &Main, shape: u32) -> LayoutWord
     requires { (layout : LayoutWord) ×

@@ -14,5 +14,5 @@ mod known_cells;
 mod rows;
 
 pub use cells::Cells;
-pub use known_cells::{known_cell, known_cell_by};
+pub use known_cells::{known_cell, known_cell_by, known_kind};
 pub use rows::row_end;

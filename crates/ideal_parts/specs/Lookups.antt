@@ -17,7 +17,12 @@ IsLookup word sought answer = FindsAs (λ found. found) word sought answer
 
 -- a borrowed plain object, as the meaning of the commands sees it
 abbrev pub seen_plain : Plain → PlainObject
-seen_plain plain = record { number = plain.number; cap = plain.cap; fields = plain.fields.now }
+seen_plain plain = record {
+  number = plain.number;
+  cap = plain.cap;
+  proto = plain.proto;
+  fields = plain.fields.now;
+}
 
 -- a borrowed list
 abbrev pub seen_list : Listed → ListObject

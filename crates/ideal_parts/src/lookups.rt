@@ -18,6 +18,7 @@ use object_graph::{Entry, Field, Object, Value};
 pub struct Plain<'a> {
     pub number: u32,
     pub cap: u32,
+    pub proto: Option<u32>,
     pub fields: &'a [Field],
 }
 
@@ -44,9 +45,10 @@ pub fn plain_at(objects: &[Object], value: Value) -> Result<Plain<'_>, FaultWord
         return Err(FaultWord::NotObject);
     };
     match objects.get(number as usize) {
-        Some(Object::Plain { cap, fields }) => Ok(Plain {
+        Some(Object::Plain { cap, proto, fields }) => Ok(Plain {
             number,
             cap: *cap,
+            proto: *proto,
             fields: fields.as_slice(),
         }),
         _ => Err(FaultWord::NotObject),

@@ -1,7 +1,7 @@
 //! Marks of objects: a mark for each object, by the object's number.
-ghost use Rattle.std.specs.Prelude.{◌≡◌, ◌&&◌, count_by};
+ghost use Rattle.std.specs.Prelude.{◌≡◌, ◌&&◌, ◌||◌, count_by};
 ghost use Rattle.std.specs.List.{list_any};
-ghost use Rattle.object_graph.specs.Reach.{is_marked, refers_to, links, marked_entries};
+ghost use Rattle.object_graph.specs.Reach.{is_marked, refers_to, is_number, links, marked_entries};
 ghost use Rattle.object_graph.specs.Marks.{MarksAlso};
 
 use object_graph::{Entry, Field, Object, Value};
@@ -66,9 +66,27 @@ pub fn mark_links(marks: &[bool], object: &Object, next: &mut [bool])
     ensures { MarksAlso next.old next.new (links marks.now object.now) }
 {
     match object {
-        Object::Plain { fields, .. } => mark_fields(fields.as_slice(), next),
+        Object::Plain { proto, fields, .. } => mark_plain(*proto, fields.as_slice(), next),
         Object::List { elements } => mark_values(elements.as_slice(), next),
         Object::Weak { entries } => mark_entries(marks, entries.as_slice(), next),
+    }
+}
+
+/// Marks the prototype, if there is one, and what the fields refer to.
+fn mark_plain(proto: Option<u32>, fields: &[Field], next: &mut [bool])
+    ensures { MarksAlso next.old next.new (λ number.
+        is_number number proto || list_any (λ field. refers_to number field.value) fields.now) }
+{
+    mark_number(proto, next);
+    mark_fields(fields, next);
+}
+
+/// Marks the object of this number, if there is one.
+fn mark_number(proto: Option<u32>, next: &mut [bool])
+    ensures { MarksAlso next.old next.new (λ number. is_number number proto) }
+{
+    if let Some(number) = proto {
+        mark(next, Value::Ref(number));
     }
 }
 

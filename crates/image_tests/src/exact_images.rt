@@ -22,10 +22,10 @@ type Case = (
 );
 
 /// The variable of number 3 refers to it.
-const BOUND: Change = Word(2_246, 8_229);
+const BOUND: Change = Word(2_246, 8_233);
 
 /// The second element is 1, and no box.
-const UNBOXED: Change = Word(2_062, 2);
+const UNBOXED: Change = Word(2_064, 2);
 
 const PUT: Command = Put {
     x: L,
@@ -38,13 +38,13 @@ const CASES: [Case; 11] = [
     (&[], &[DropVar { x: D }], "a dead key", (true, false)),
     (&[BOUND, UNBOXED], &[PUT], "a dead box", (true, false)),
     (
-        &[BOUND, UNBOXED, Used(23), Word(2_071, 0), Word(2_072, 0)],
+        &[BOUND, UNBOXED, Used(25), Word(2_073, 0), Word(2_074, 0)],
         &[PUT],
         "no box",
         (true, true),
     ),
     (
-        &[BOUND, UNBOXED, Word(2_071, 30), Word(2_072, 2)],
+        &[BOUND, UNBOXED, Word(2_073, 30), Word(2_074, 2)],
         &[PUT],
         "free words in eden",
         (true, false),
@@ -53,9 +53,9 @@ const CASES: [Case; 11] = [
         &[
             BOUND,
             UNBOXED,
-            Used(23),
-            Word(2_071, 0),
-            Word(2_072, 0),
+            Used(25),
+            Word(2_073, 0),
+            Word(2_074, 0),
             Word(2_049, 3),
             Word(2_050, 0),
         ],

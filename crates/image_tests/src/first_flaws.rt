@@ -1,7 +1,8 @@
 //! The first flaw of forged images, and the counts of whole ones.
-use crate::flaws_of_cells::{OF_LISTS, OTHERS, PLAIN, WEAK};
+use crate::flaws_of_cells::{OF_LISTS, OTHERS, WEAK};
 use crate::flaws_of_frames::{ROOTS, ROWS, SIZES, SURVIVORS};
 use crate::flaws_of_owners::{ORDER, OWNERS};
+use crate::flaws_of_plain_cells::PLAIN;
 use crate::images::{Change, Worked, image_of};
 use heap_check::{CheckStop, Flaw, check};
 use heap_model::HeapImage;
@@ -47,11 +48,11 @@ fn a_check_tells_the_first_flaw(rt: HostRuntime) -> Result<(), Fail> {
 #[test]
 fn a_stop_tells_its_word_or_that_memory_lacks(rt: HostRuntime) -> Result<(), Fail> {
     let flaw = Flaw {
-        at: 131_075,
+        at: 131_076,
         found: 2,
         wanted: 7,
     };
-    let message = "word 131075 is 2, and 7 is asked for";
+    let message = "word 131076 is 2, and 7 is asked for";
     let stops = [
         (CheckStop::Flaw(flaw), message),
         (CheckStop::NoMemory, "no memory"),

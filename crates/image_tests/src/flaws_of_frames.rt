@@ -43,7 +43,7 @@ pub(crate) const ROWS: [Group; 4] = [
         &USUAL,
         &[
             (&[Word(131_072, 0)], "131072 0 26"),
-            (&[Word(131_076, 1)], "131076 1 0"),
+            (&[Word(131_077, 1)], "131077 1 0"),
             (&[Word(139_263, 1)], "139263 1 0"),
             (&[Word(139_264, 1)], "139264 1 26"),
             (&[Word(0, 0)], "0 0 26"),
@@ -69,8 +69,8 @@ pub(crate) const ROWS: [Group; 4] = [
         &SPREAD,
         &[
             // The last word of each page, and a cell that goes on into the next page.
-            (&[Word(12, 2_036)], "2047 1073741824 26"),
-            (&[Word(12, 2_036), Word(2_047, 22)], "2047 22 26"),
+            (&[Word(13, 2_035)], "2047 1073741824 26"),
+            (&[Word(13, 2_035), Word(2_047, 22)], "2047 22 26"),
             (&[Word(2_046, 6)], "2046 6 26"),
             (&[Word(2_049, 2_047)], "4095 0 26"),
             (&[Word(2_049, 2_049)], "2048 30 26"),
@@ -89,8 +89,8 @@ pub(crate) const ROWS: [Group; 4] = [
             (&[Word(4_100, u64::MAX)], "4099 14 26"),
             (&[Word(6_148, (1 << 63) + 4)], "6147 18 26"),
             // Eden: a cell goes past the used words; the last used word.
-            (&[Used(17)], "6159 17179869274 26"),
-            (&[Word(6_162, 0)], "6162 0 26"),
+            (&[Used(19)], "6160 17179869274 26"),
+            (&[Word(6_164, 0)], "6164 0 26"),
             // Segments: the first word of the first, the last words of the first and the last, a cell in another.
             (&[Word(6_208, 0)], "6209 1073741824 0"),
             (&[Word(6_271, 1)], "6271 1 0"),
@@ -147,12 +147,12 @@ pub(crate) const SURVIVORS: [Group; 3] = [
             (&[Word(6_272, 26)], "20878 18 19"),
             // As many as the young generation has beside the used words, and one more.
             (
-                &[Survivors(45), Word(6_272, 30), Word(6_273, 27)],
+                &[Survivors(43), Word(6_272, 30), Word(6_273, 25)],
                 "objects 7 entries 3",
             ),
             (
-                &[Survivors(46), Word(6_272, 30), Word(6_273, 28)],
-                "20878 46 45",
+                &[Survivors(44), Word(6_272, 30), Word(6_273, 26)],
+                "20878 44 43",
             ),
         ],
     ),
@@ -214,11 +214,11 @@ pub(crate) const ROOTS: [Group; 3] = [
             // A hole and an unknown odd value; a gap, a filler and a table.
             (&[Word(6_468, 7)], "6468 7 11"),
             (&[Word(6_468, 19)], "6468 19 11"),
-            (&[Word(6_468, 45)], "6468 45 11"),
-            (&[Word(6_468, 24_649)], "6468 24649 11"),
+            (&[Word(6_468, 49)], "6468 49 11"),
+            (&[Word(6_468, 24_657)], "6468 24657 11"),
             (&[Word(6_468, 24_589)], "6468 24589 11"),
             // Words in a gap that read as a list.
-            (&[Word(13, 6), Word(14, 3), Word(6_468, 53)], "6468 53 11"),
+            (&[Word(14, 6), Word(15, 3), Word(6_468, 57)], "6468 57 11"),
             // References to 14,670, to the last address of 32 bits, and past that.
             (&[Word(6_468, 58_681)], "6468 58681 11"),
             (&[Word(6_468, 17_179_869_181)], "6468 17179869181 11"),

@@ -15,6 +15,8 @@ mod flaws_of_frames;
 #[cfg(test)]
 mod flaws_of_owners;
 #[cfg(test)]
+mod flaws_of_plain_cells;
+#[cfg(test)]
 mod forged_heaps;
 #[cfg(test)]
 mod images;
@@ -24,6 +26,8 @@ mod old_cells;
 mod path_shapes;
 #[cfg(test)]
 mod shown_graphs;
+#[cfg(test)]
+mod shown_protos;
 #[cfg(test)]
 mod whole_heaps;
 #[cfg(test)]

@@ -23,11 +23,11 @@ pub(crate) const USUAL: Worked = Worked {
     variables: 1,
     words: 196_618,
     layouts: 188_418,
-    used: 4,
+    used: 5,
     survivors: 0,
     steps: &[(10, 0, Rep::Small)],
     stretches: &[
-        (131_072, &[70, 3, 2, 7]),
+        (131_072, &[70, 3, 3, 2, 7]),
         (188_416, &[524_289, 0]),
         (188_435, &[289]),
     ],
@@ -74,9 +74,9 @@ const BOX_5: Stretch = (2_176, &[22, 5]);
 
 /// An object without slots, and its wide field beside it, in the box.
 pub(crate) const BESIDE: Worked = Worked {
-    used: 5,
+    used: 6,
     stretches: &[
-        (2_048, &[74, 8_201, 14, 1, 8_705]),
+        (2_048, &[74, 8_205, 3, 14, 1, 8_705]),
         BOX_5,
         ROOT,
         BOXED_LAYOUTS,
@@ -86,9 +86,9 @@ pub(crate) const BESIDE: Worked = Worked {
 
 /// An object with a raw word in its one slot.
 pub(crate) const RAW: Worked = Worked {
-    used: 3,
+    used: 4,
     stretches: &[
-        (2_048, &[78, 3, 9_223_372_036_854_775_809]),
+        (2_048, &[78, 3, 3, 9_223_372_036_854_775_809]),
         BOX_5,
         ROOT,
         BOXED_LAYOUTS,
@@ -158,16 +158,16 @@ pub(crate) const FREE: Worked = Worked {
 ///
 /// | At | What stands there |
 /// |---|---|
-/// | 2,048 | a plain object, number 0, with the boxes at 2,068 and 2,070 in its two fields |
-/// | 2,052 | a plain object, number 1, with the box at 2,072 in its first field |
-/// | 2,056 | a list, number 2, with the store at 2,076 |
-/// | 2,059 | an empty list, number 3 |
-/// | 2,062 | a weak map, number 4, with the table at 2,080 |
-/// | 2,065 | an empty weak map, number 5 |
-/// | 2,068 to 2,075 | four boxes |
-/// | 2,076 | a store for 2, with the box at 2,074 and 1 |
-/// | 2,080 | a weak table for 2, with number 0 as a key and the box at 2,086 as its value |
-/// | 2,086 | a box |
+/// | 2,048 | a plain object, number 0, with the boxes at 2,070 and 2,072 in its two fields |
+/// | 2,053 | a plain object, number 1, with the box at 2,074 in its first field |
+/// | 2,058 | a list, number 2, with the store at 2,078 |
+/// | 2,061 | an empty list, number 3 |
+/// | 2,064 | a weak map, number 4, with the table at 2,082 |
+/// | 2,067 | an empty weak map, number 5 |
+/// | 2,070 to 2,077 | four boxes |
+/// | 2,078 | a store for 2, with the box at 2,076 and 1 |
+/// | 2,082 | a weak table for 2, with number 0 as a key and the box at 2,088 as its value |
+/// | 2,088 | a box |
 ///
 /// The root refers to number 0, and the other objects are dead.
 pub(crate) const APART: Worked = Worked {
@@ -175,21 +175,21 @@ pub(crate) const APART: Worked = Worked {
     variables: 1,
     words: 10_442,
     layouts: 2_242,
-    used: 40,
+    used: 42,
     survivors: 0,
     steps: &[(10, 0, Rep::Tagged), (17, 1, Rep::Tagged)],
     stretches: &[
-        (2_048, &[74, 3, 8_273, 8_281]),
-        (2_052, &[4_294_967_370, 3, 8_289, 2]),
-        (2_056, &[8_589_934_598, 8_305, 2]),
-        (2_059, &[12_884_901_894, 3, 0]),
-        (2_062, &[17_179_869_194, 8_321, 1]),
-        (2_065, &[21_474_836_490, 3, 0]),
-        (2_068, &[22, 1_073_741_824, 22, 1_073_741_824]),
-        (2_072, &[22, 1_073_741_824, 22, 1_073_741_824]),
-        (2_076, &[14, 2, 8_297, 2]),
-        (2_080, &[18, 2, 8_193, 8_345, 7, 7]),
-        (2_086, &[22, 1_073_741_824]),
+        (2_048, &[74, 3, 3, 8_281, 8_289]),
+        (2_053, &[4_294_967_370, 3, 3, 8_297, 2]),
+        (2_058, &[8_589_934_598, 8_313, 2]),
+        (2_061, &[12_884_901_894, 3, 0]),
+        (2_064, &[17_179_869_194, 8_329, 1]),
+        (2_067, &[21_474_836_490, 3, 0]),
+        (2_070, &[22, 1_073_741_824, 22, 1_073_741_824]),
+        (2_074, &[22, 1_073_741_824, 22, 1_073_741_824]),
+        (2_078, &[14, 2, 8_305, 2]),
+        (2_082, &[18, 2, 8_193, 8_353, 7, 7]),
+        (2_088, &[22, 1_073_741_824]),
         ROOT,
         (2_259, &[289, 545]),
     ],
@@ -200,29 +200,29 @@ pub(crate) const APART: Worked = Worked {
 ///
 /// | At | What stands there |
 /// |---|---|
-/// | 2,048 | the list, number 0, with the store at 2,059 |
-/// | 2,051 | the weak map, number 1, with the table at 2,065 |
+/// | 2,048 | the list, number 0, with the store at 2,061 |
+/// | 2,051 | the weak map, number 1, with the table at 2,067 |
 /// | 2,054 | the plain object, number 2, with 7 in its slot |
-/// | 2,057 | the dead object, number 3, without slots |
-/// | 2,059 | a store for 4, with 1, the box, number 2 and a hole from 2,061 on |
-/// | 2,065 | a weak table for 2: from 2,067 on number 2 and 9, number 3 and number 0 |
-/// | 2,071 | the box |
+/// | 2,058 | the dead object, number 3, without slots |
+/// | 2,061 | a store for 4, with 1, the box, number 2 and a hole from 2,063 on |
+/// | 2,067 | a weak table for 2: from 2,069 on number 2 and 9, number 3 and number 0 |
+/// | 2,073 | the box |
 pub(crate) const MIXED: Worked = Worked {
     sizes: SMALL_SIZES,
     variables: 4,
     words: 10_448,
     layouts: 2_248,
-    used: 25,
+    used: 27,
     survivors: 0,
     steps: &[(9, 0, Rep::Small)],
     stretches: &[
-        (2_048, &[6, 8_237, 3]),
-        (2_051, &[4_294_967_306, 8_261, 2]),
-        (2_054, &[8_589_934_662, 3, 14]),
-        (2_057, &[12_884_901_922, 3]),
-        (2_059, &[14, 4, 2, 8_285, 8_217, 7]),
-        (2_065, &[18, 2, 8_217, 18, 8_229, 8_193]),
-        (2_071, &[22, 5_000_000_000]),
+        (2_048, &[6, 8_245, 3]),
+        (2_051, &[4_294_967_306, 8_269, 2]),
+        (2_054, &[8_589_934_662, 3, 3, 14]),
+        (2_058, &[12_884_901_922, 3, 3]),
+        (2_061, &[14, 4, 2, 8_293, 8_217, 7]),
+        (2_067, &[18, 2, 8_217, 18, 8_233, 8_193]),
+        (2_073, &[22, 5_000_000_000]),
         (2_240, &[8_193, 0, 8_205, 0, 8_217, 0, 11, 0]),
         (2_265, &[273]),
     ],

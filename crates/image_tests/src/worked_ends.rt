@@ -34,9 +34,9 @@ pub(crate) const LONG: Worked = Worked {
 ///
 /// | At | What stands there |
 /// |---|---|
-/// | 0 | a plain object, number 0, shape 21, with 1 and the box at 2,046 in its slots, the store at 4 |
-/// | 4 | a store for 5, with number 1, the box at 6,142, 2 and two holes |
-/// | 11 | a gap of 2,035 words |
+/// | 0 | a plain object, number 0, shape 21, with 1 and the box at 2,046 in its slots, the store at 5 |
+/// | 5 | a store for 5, with number 1, the box at 6,142, 2 and two holes |
+/// | 12 | a gap of 2,034 words |
 /// | 2,046 | a box |
 /// | 2,048 | a gap, the whole page |
 /// | 4,096 | a list, number 1, with 2 elements and the store at 4,099 |
@@ -46,8 +46,8 @@ pub(crate) const LONG: Worked = Worked {
 /// | 6,144 | a weak map, number 2, with 2 entries and the table at 6,147 |
 /// | 6,147 | a weak table for 4: number 0 and 9, nothing, nothing, number 3 and the box at 6,208 |
 /// | 6,157 | a plain object, number 3, without slots |
-/// | 6,159 | a plain object, number 4, shape 22, whose raw word reads as a reference to 6,208 |
-/// | 6,162 | a filler |
+/// | 6,160 | a plain object, number 4, shape 22, whose raw word reads as a reference to 6,208 |
+/// | 6,164 | a filler |
 /// | 6,208 | a box |
 /// | 6,400 | a weak map, number 5, with 1 entry and the table at 6,403 |
 /// | 6,403 | a weak table for 1: number 1 and `undefined` |
@@ -65,7 +65,7 @@ pub(crate) const SPREAD: Worked = Worked {
     variables: 3,
     words: 14_670,
     layouts: 6_470,
-    used: 19,
+    used: 21,
     survivors: 18,
     steps: &[
         (10, 0, Rep::Small),
@@ -76,16 +76,16 @@ pub(crate) const SPREAD: Worked = Worked {
         (9, 0, Rep::Wide),
     ],
     stretches: &[
-        (0, &[86, 17, 2, 8_185]),
-        (4, &[14, 5, 16_385, 24_569, 4, 7, 7, 30, 2_035]),
+        (0, &[86, 21, 3, 2, 8_185]),
+        (5, &[14, 5, 16_385, 24_569, 4, 7, 7, 30, 2_034]),
         (2_046, &[22, 1_073_741_824]),
         (4_096, &[4_294_967_302, 16_397, 2]),
         (4_099, &[14, 3, 25_601, 4, 7, 30, 2_038]),
         (6_142, &[22, 1_073_741_824]),
         (6_144, &[8_589_934_602, 24_589, 2]),
         (6_147, &[18, 4, 1, 18, 7, 7, 7, 7, 24_629, 24_833]),
-        (6_157, &[12_884_901_922, 3]),
-        (6_159, &[17_179_869_274, 3, 24_833, 26]),
+        (6_157, &[12_884_901_922, 3, 3]),
+        (6_160, &[17_179_869_274, 3, 3, 24_833, 26]),
         (6_208, &[22, 1_073_741_824]),
         (6_400, &[21_474_836_490, 25_613, 1]),
         (6_403, &[18, 1, 16_385, 3]),

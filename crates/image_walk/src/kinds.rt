@@ -1,4 +1,4 @@
-//! Kinds of cells: which belong to another cell, and which are boxes.
+//! Kinds of cells: which belong to another cell, which are plain objects, and which are boxes.
 ghost use Rattle.std.specs.Prelude.{◌≡◌, ◌↔◌, IsTrue};
 ghost use Rattle.heap_model.specs.Wholeness.{IsOwnedKind};
 ghost use Rattle.image_walk.specs.Sorts.{is_box_kind};
@@ -13,6 +13,16 @@ pub fn is_owned(kind: Kind) -> bool
         Kind::Store => true,
         Kind::Table => true,
         Kind::Boxed => true,
+        _ => false,
+    }
+}
+
+/// Whether a cell of the kind is a plain object.
+pub fn is_plain(kind: Kind) -> bool
+    ensures { IsTrue result ↔ (kind ≡ Kind.Plain) }
+{
+    match kind {
+        Kind::Plain => true,
         _ => false,
     }
 }

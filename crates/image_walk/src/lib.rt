@@ -15,10 +15,10 @@ mod stores;
 mod tables;
 
 pub use finding::find_cell;
-pub use kinds::is_owned;
+pub use kinds::{is_owned, is_plain};
 pub use next_cell::next_from;
 pub use reads::{cell_there, is_zero, word_at};
-pub use slots::{Referent, integer_of, is_hole, sort_of, sort_of_cell};
+pub use slots::{Referent, integer_of, is_hole, is_undefined, sort_of, sort_of_cell};
 pub use spans::{Span, behind_head, word_of};
 pub use stores::slots_beside;
 pub use tables::{KeyValue, is_free, is_power_of_two, pair_at};

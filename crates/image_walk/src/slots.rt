@@ -4,7 +4,7 @@ ghost use Rattle.std.specs.Int.{w64};
 ghost use Rattle.tagged_word.specs.Words.{IsClass, bits_of};
 ghost use Rattle.heap_model.specs.Images.{image_heap};
 ghost use Rattle.heap_model.specs.Heaps.{Heap, words_of_cell};
-ghost use Rattle.heap_model.specs.Slots.{reference_word, raw_word, hole_word};
+ghost use Rattle.heap_model.specs.Slots.{reference_word, raw_word, undefined_word, hole_word};
 ghost use Rattle.heap_model.specs.Kinds.{HasWord};
 ghost use Rattle.heap_model.specs.Wholeness.{HasRows};
 ghost use Rattle.image_walk.specs.Words.{HasWords};
@@ -186,4 +186,11 @@ pub fn is_hole(word: u64) -> bool
     ensures { IsTrue result ↔ (word ≡ hole_word) }
 {
     word == Word::odd(odd::HOLE).0
+}
+
+/// Whether a word is `undefined`.
+pub fn is_undefined(word: u64) -> bool
+    ensures { IsTrue result ↔ (word ≡ undefined_word) }
+{
+    word == Word::odd(odd::UNDEFINED).0
 }

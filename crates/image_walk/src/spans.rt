@@ -1,6 +1,5 @@
 //! Words of a cell, and spans of words.
 ghost use Rattle.std.specs.Prelude.{◌≡◌, ◌+◌, ◌≤◌, ◌<◌, drop};
-ghost use Rattle.tagged_word.specs.Cells.{store_head};
 ghost use Rattle.heap_model.specs.Images.{image_heap};
 ghost use Rattle.heap_model.specs.Heaps.{words_of_cell};
 ghost use Rattle.heap_model.specs.Kinds.{HasWord};
@@ -9,7 +8,6 @@ ghost use Rattle.image_walk.specs.Spans.{StandsIn, span_words, IsSpan};
 
 use cell_layout::Cell;
 use heap_model::HeapImage;
-use tagged_word::cell::STORE_HEAD;
 
 /// The words from an address to another.
 #[derive(Clone, Copy)]
@@ -27,21 +25,21 @@ pub fn word_of(image: &HeapImage, cell: Cell, offset: u32) -> u64
     image.words.as_slice()[cell.at as usize + offset as usize]
 }
 
-/// The slots behind the head of a store, of a weak table or of a plain object.
-pub fn behind_head(image: &HeapImage, cell: Cell) -> Span
+/// The slots after the head of a store, of a weak table or of a plain object, which has so many words.
+pub fn behind_head(image: &HeapImage, cell: Cell, head: u32) -> Span
     requires sized { HasWords (image_heap image.now) }
     requires stands { StandsIn (image_heap image.now) cell }
-    requires long { store_head ≤ cell.size }
+    requires long { head ≤ cell.size }
     ensures slots { span_words (image_heap image.now) result
-        ≡ drop store_head (words_of_cell (image_heap image.now) cell) }
+        ≡ drop head (words_of_cell (image_heap image.now) cell) }
     ensures is { IsSpan (image_heap image.now) result }
-    ensures from { result.from ≡ cell.at + store_head }
+    ensures from { result.from ≡ cell.at + head }
     ensures end { result.end ≡ cell.at + cell.size }
 {
     // No address of a heap is past 32 bits.
     image.regions.sizes_fit();
     Span {
-        from: cell.at + STORE_HEAD,
+        from: cell.at + head,
         end: cell.at + cell.size,
     }
 }

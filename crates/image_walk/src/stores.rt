@@ -9,6 +9,7 @@ use crate::slots::Referent;
 use crate::spans::{Span, behind_head};
 use heap_model::HeapImage;
 use tagged_word::Kind;
+use tagged_word::cell::STORE_HEAD;
 
 /// The slots of the store or weak table of the kind to which a word refers, by what the word stands for; no slots where
 /// the word says that there is none.
@@ -24,7 +25,7 @@ pub fn slots_beside(image: &HeapImage, word: u64, referent: Referent, kind: Kind
         Referent::Undefined => Some(Span { from: 0, end: 0 }),
         Referent::Other(cell) => {
             if cell.layout.kind == kind {
-                Some(behind_head(image, cell))
+                Some(behind_head(image, cell, STORE_HEAD))
             } else {
                 None
             }

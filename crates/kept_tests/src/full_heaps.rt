@@ -21,14 +21,14 @@ struct Case {
 const CASES: [Case; 9] = [
     Case {
         script: b"list l\nlist m\nlist n\nlet p undefined\n\
-            repeat 210\nnew x 8\nset x n p\nlet p x\nend",
+            repeat 210\nnew x 7\nset x n p\nlet p x\nend",
         what: "full of lists and of objects of 10 words",
         ended: (3, 10),
         exact: true,
         most: 9,
     },
     Case {
-        script: b"let p undefined\nrepeat 529\nnew x 2\nset x n p\nlet p x\nend",
+        script: b"let p undefined\nrepeat 529\nnew x 1\nset x n p\nlet p x\nend",
         what: "full of objects of 4 words",
         ended: (3, 4),
         exact: true,
@@ -36,21 +36,21 @@ const CASES: [Case; 9] = [
     },
     Case {
         script: b"weak m\nnew k 0\nwput m k 5000000000\ndrop k\nlet p undefined\n\
-            repeat 211\nnew x 8\nset x n p\nlet p x\nend",
+            repeat 211\nnew x 7\nset x n p\nlet p x\nend",
         what: "full, with a map whose key can't be reached",
         ended: (3, 10),
         exact: true,
-        most: 4,
+        most: 5,
     },
     Case {
-        script: b"let p undefined\nrepeat 10\nnew x 2\nset x n p\nlet p x\nend\ngc",
+        script: b"let p undefined\nrepeat 10\nnew x 1\nset x n p\nlet p x\nend\ngc",
         what: "objects behind a collection",
         ended: (0, 0),
         exact: true,
         most: 2_008,
     },
     Case {
-        script: b"let p undefined\nrepeat 10\nnew x 2\nset x n p\nlet p x\nend\ngc\nnew y 2\ndrop y",
+        script: b"let p undefined\nrepeat 10\nnew x 1\nset x n p\nlet p x\nend\ngc\nnew y 1\ndrop y",
         what: "and one that is dead",
         ended: (0, 0),
         exact: false,
@@ -61,7 +61,7 @@ const CASES: [Case; 9] = [
         what: "a store that a larger one replaced",
         ended: (0, 0),
         exact: false,
-        most: 2_046,
+        most: 2_045,
     },
     Case {
         script: b"list l\npush l 1\npush l 2\ntrunc l 1",

@@ -32,26 +32,26 @@ const SCRIPTS: [&[u8]; 24] = [
       push l 7\nput l 0 1\ntrunc l 3\nscavenge\npush l 5000000000",
     b"weak m\nnew k 1\nwput m k 5000000000\nset k f k\nlist l\npush l k\ndrop k\nscavenge\nat j l 0\n\
       wput m j m\nnew k 0\nwput m k 1\nwput m l 2\nwdel m k\nscavenge\ndrop l",
-    b"let w 5000000000\nnew a 1\nnew b 1\nset a n b\nset b n a\ndrop b\nscavenge\nnew c 8\nscavenge\nnew d 8\n\
-      new e 8\nnew f 8\nnew g 8\nnew h 8\nnew i 8\nnew j 8\nnew k 8\nnew c 8\nnew d 8\nnew e 8\nnew f 8",
+    b"let w 5000000000\nnew a 1\nnew b 1\nset a n b\nset b n a\ndrop b\nscavenge\nnew c 7\nscavenge\nnew d 7\n\
+      new e 7\nnew f 7\nnew g 7\nnew h 7\nnew i 7\nnew j 7\nnew k 7\nnew c 7\nnew d 7\nnew e 7\nnew f 7",
     b"new x 1\nset x a x\nset x b 5000000000\nscavenge\nscavenge\nnew y 0\nset x a y\ndrop y\n\
       set x c 6000000000\nscavenge\nset x b 7\nnew y 0\nset x d y\ndel x a\nset x b 8000000000",
     b"list l\npush l 1\npush l 5000000000\npush l l\nscavenge\nscavenge\nnew y 1\nput l 0 y\nset y a l\n\
       drop y\nscavenge\nshift l 1\npush l 7000000000\nscavenge\ntrunc l 2\nnew y 0\npush l y",
     b"weak m\nnew k 0\nwput m k 1\nscavenge\nscavenge\nnew j 1\nwput m j k\nwput m k j\nset j a m\n\
       drop k\nscavenge\nwput m j 5000000000\nscavenge\nwdel m j\nnew k 0\nwput m k k",
-    b"list l\nnew a 8\npush l a\nnew a 8\npush l a\nnew a 8\npush l a\nnew a 8\npush l a\n\
-      new a 8\npush l a\nnew a 8\npush l a\nnew a 8\npush l a\nnew a 8\npush l a\n\
-      new a 8\npush l a\nnew a 8\npush l a\nnew a 8\npush l a\nnew a 8\npush l a\n\
-      new a 8\npush l a\nnew a 8\npush l a\nnew a 8\npush l a\nnew a 8\npush l a\nprint l",
-    b"list l\nnew a 8\nnew b 8\nnew c 8\nnew d 8\nnew e 8\nnew f 8\nnew g 8\nnew h 8\nnew i 8\nnew j 8\n\
-      new k 8\nnew n 8\nnew p 2\npush l 5000000000\nnew x 0\npush l x\nset x f l\nput l 0 x\n\
+    b"list l\nnew a 7\npush l a\nnew a 7\npush l a\nnew a 7\npush l a\nnew a 7\npush l a\n\
+      new a 7\npush l a\nnew a 7\npush l a\nnew a 7\npush l a\nnew a 7\npush l a\n\
+      new a 7\npush l a\nnew a 7\npush l a\nnew a 7\npush l a\nnew a 7\npush l a\n\
+      new a 7\npush l a\nnew a 7\npush l a\nnew a 7\npush l a\nnew a 7\npush l a\nprint l",
+    b"list l\nnew a 7\nnew b 7\nnew c 7\nnew d 7\nnew e 7\nnew f 7\nnew g 7\nnew h 7\nnew i 7\nnew j 7\n\
+      new k 7\nnew n 7\nnew p 1\npush l 5000000000\nnew x 0\npush l x\nset x f l\nput l 0 x\n\
       push l 6000000000\ndrop x\nscavenge\nshift l 1\npush l 7000000000\nscavenge\ntrunc l 1\npush l l",
-    b"new x 1\nset x a x\nnew a 8\nnew b 8\nnew c 8\nnew d 8\nnew e 8\nnew f 8\nnew g 8\nnew h 8\n\
-      new i 8\nnew j 8\nnew k 8\nnew n 8\nnew p 3\nset x a 5000000000\nset x b a\nnew y 0\nset a f y\n\
+    b"new x 1\nset x a x\nnew a 7\nnew b 7\nnew c 7\nnew d 7\nnew e 7\nnew f 7\nnew g 7\nnew h 7\n\
+      new i 7\nnew j 7\nnew k 7\nnew n 7\nnew p 1\nset x a 5000000000\nset x b a\nnew y 0\nset a f y\n\
       drop y\nscavenge\nset x a 6000000000\nset x c x\nscavenge\ndel x a",
-    b"weak m\nnew a 8\nnew b 8\nnew c 8\nnew d 8\nnew e 8\nnew f 8\nnew g 8\nnew h 8\nnew i 8\nnew j 8\n\
-      new k 8\nnew n 8\nnew p 2\nwput m a b\nwput m b 5000000000\nnew q 0\nwput m q q\ndrop q\n\
+    b"weak m\nnew a 7\nnew b 7\nnew c 7\nnew d 7\nnew e 7\nnew f 7\nnew g 7\nnew h 7\nnew i 7\nnew j 7\n\
+      new k 7\nnew n 7\nnew p 1\nwput m a b\nwput m b 5000000000\nnew q 0\nwput m q q\ndrop q\n\
       scavenge\nwdel m a\nnew q 0\nwput m q 6000000000\nscavenge",
 ];
 

@@ -134,8 +134,8 @@ module _ {heap : Heap} {graph : Graph} {rows : List Row} (is_graph : IsGraph gra
       → slice_get graph.objects (number_of cell) ≡ Some what → IsTrue (is_marked (reach graph) (number_of cell))
       → ShowsObject heap (reach graph) cell words what
       → pairs_counted heap cell.layout.kind cell.at ≡ marked_entries (reach graph) what
-  counted_by cell words (graph_object.Plain cap fields) place there reached shows =
-      ap (λ k. pairs_counted heap k cell.at) shows.of_kind
+  counted_by cell words (graph_object.Plain cap proto fields) place there reached shows =
+      ap (λ k. pairs_counted heap k cell.at) shows.0.of_kind
   counted_by cell words (graph_object.List elements) place there reached shows =
       ap (λ k. pairs_counted heap k cell.at) shows.of_kind
   counted_by cell words (graph_object.Weak entries) place there reached shows =

@@ -76,10 +76,10 @@ module _ {heap : Heap} {graph : Graph} (shows : Shows heap graph) where
       → ShowsObject heap (reach graph) cell words what → HasWord words store_slot store
       → RefersTo heap store other others → other.at ≡ table → HasEntry heap table key at → Belongs heap graph key
       → Belongs heap graph at
-  table_belongs table key at cell other words others store (graph_object.Plain cap fields) is there shown_by slot target
-      stands entry key_belongs =
-      let same = same_Some _ _ (sym slot ∙ shown_by.has.slot) in
-      let of_store = holds_kind shown_by.has.stands (subst (λ n. RefersTo heap n other others) same target) in
+  table_belongs table key at cell other words others store (graph_object.Plain cap proto fields) is there shown_by slot
+      target stands entry key_belongs =
+      let same = same_Some _ _ (sym slot ∙ shown_by.0.has.slot) in
+      let of_store = holds_kind shown_by.0.has.stands (subst (λ n. RefersTo heap n other others) same target) in
       let of_table = kinds_differ kind.Table target.has entry.has (stands ∙ sym entry.stands) entry.of_kind in
       let both : kind.Store ≡ kind.Table = sym of_store ∙ of_table in
       absurd (cc)

@@ -1,10 +1,11 @@
 -- Where an object is marked in a closed set, so is each object to which it links.
-use Rattle.std.proofs.Common.{◌≡◌, ℕ, ◌<◌, ◌≤◌, Bool, true, List, length, get_or, Some, Contains, slice_get, IsTrue}
-use Rattle.std.proofs.Common.{refl, sym, ◌∙◌, ap, subst, arith}
+use Rattle.std.proofs.Common.{◌≡◌, ℕ, ◌<◌, ◌≤◌, Bool, true, List, length, get_or, Option, Some, Contains, slice_get}
+use Rattle.std.proofs.Common.{IsTrue, inl, inr, refl, sym, ◌∙◌, ap, subst, arith}
 use Rattle.std.proofs.lemmas.Option.{same_Some, none-some, slice_get-get_or, slice_get_within}
 use Rattle.tagged_word.specs.declared.layout.Kind.TheVariants as kind
-use Rattle.tagged_word.specs.Cells.{tagged_offsets_of, scavenge_offsets, scavenge_offsets_of, store_slot}
+use Rattle.tagged_word.specs.Cells.{tagged_offsets_of, scavenge_offsets, scavenge_offsets_of, store_slot, proto_slot}
 use Rattle.tagged_word.specs.Cells.{is_object_kind}
+use Rattle.tagged_word.proofs.Offsets.{plain_has_proto}
 use Rattle.heap_model.specs.Types.{Value, Rep, Object, Field, Entry, Path, Cell}
 use Rattle.object_graph.specs.declared.value.Value.TheVariants.{Ref}
 use Rattle.object_graph.specs.declared.value.Rep.TheVariants as rep
@@ -17,7 +18,8 @@ use Rattle.heap_model.specs.Heaps.{Heap, HasCell}
 use Rattle.heap_model.specs.Slots.{reference_word, IsPlace, RefersTo, RefersToPlace}
 use Rattle.heap_model.specs.Kinds.{HasWord, Pair, HasTable, IsPlainCell, IsListCell, IsSoundOf}
 use Rattle.heap_model.specs.Wholeness.{HasSlotAt, Whole}
-use Rattle.heap_model.specs.Showing.{ShowsValue, ShowsField, ShowsPlain, ShowsList, ShowsWeak, ShowsObject}
+use Rattle.heap_model.specs.Showing.{ShowsValue, ShowsField, ShowsPlain, ShowsProto, ShowsList, ShowsWeak, ShowsObject}
+use Rattle.heap_model.proofs.CellWords.{slots_by_kind}
 use Rattle.heap_model.proofs.ObjectSlots.{FieldSlot, field_slot, slot_beside, store_slot_in}
 use Rattle.heap_model.proofs.OneBeside.{one_beside, one_slots}
 use Rattle.heap_moves.proofs.MovedShown.{path_field, path_has}
@@ -138,6 +140,19 @@ module _ {heap : Heap} {marked : ℕ → Bool} (whole : Whole heap) (closed : Is
             ];
       }
 
+  -- the prototype of a plain object is marked
+  proto_marked : {cell : Cell} {words : List ℕ} (proto : Option ℕ) (number : ℕ) → HasCell heap cell words
+      → IsTrue (marked cell.at) → cell.layout.kind ≡ kind.Plain → ShowsProto heap words proto → proto ≡ Some number
+      → HasMark heap marked number
+  proto_marked {cell} {words} proto number has is of_kind shows same =
+      let (word, stands, refers) = subst (ShowsProto heap words) same shows in
+      let visited = slots_by_kind cell kind.Plain proto_slot of_kind (plain_has_proto cell.layout) in
+      record {
+        at = refers.at;
+        place = refers.place;
+        is = own_marked proto_slot word refers.at has (ap is_object_kind of_kind) is visited stands refers.refers;
+      }
+
   -- what an element of a list refers to is marked
   list_marked : {cell : Cell} {words : List ℕ} (elements : List Value) (number : ℕ) → HasCell heap cell words
       → IsTrue (marked cell.at) → ShowsList heap cell words elements → Contains elements (Ref number)
@@ -211,8 +226,10 @@ module _ {heap : Heap} {marked : ℕ → Bool} (whole : Whole heap) (closed : Is
       → ((key : ℕ) → inside key ≡ true → IsTrue (is_marked marks key)
       × ((at : ℕ) → IsPlace heap key at → IsTrue (marked at)))
       → LinksTo inside what number → HasMark heap marked number
-  links_marked marks inside (graph_object.Plain cap fields) number has is shows keys link =
-      plain_marked cap fields number link.0 has is shows link.1 link.2
+  links_marked marks inside (graph_object.Plain cap proto fields) number has is shows keys (inl same) =
+      proto_marked proto number has is shows.0.of_kind shows.1 same
+  links_marked marks inside (graph_object.Plain cap proto fields) number has is shows keys (inr link) =
+      plain_marked cap fields number link.0 has is shows.0 link.1 link.2
   links_marked marks inside (graph_object.List elements) number has is shows keys link =
       list_marked elements number has is shows link
   links_marked marks inside (graph_object.Weak entries) number has is shows keys link =

@@ -1,12 +1,13 @@
 -- To what a slot of an object refers that is shown: an object to which it links, or a box.
 use Rattle.std.proofs.Common.{◌≡◌, ℕ, ◌+◌, ◌≤◌, inl, inr, Bool, true, false, List, ◌++◌, length, drop, get_or}
-use Rattle.std.proofs.Common.{Some, Contains, slice_get, nat_lt, refl, sym, ◌∙◌, ap, subst, arith, length-drop}
+use Rattle.std.proofs.Common.{Option, Some, None, Contains, slice_get, nat_lt, refl, sym, ◌∙◌, ap, subst, arith}
+use Rattle.std.proofs.Common.{length-drop}
 use Rattle.std.proofs.lemmas.Bool.{false≢true, cases_lt}
 use Rattle.std.proofs.lemmas.Bool.Decides.{nat_tests}
 use Rattle.std.proofs.lemmas.Option.{same_Some, slice_get-get_or, slice_get_within, get_or_from_slice_get}
 use Rattle.std.proofs.lemmas.List.{length-map}
 use Rattle.tagged_word.specs.declared.layout.Kind.TheVariants as kind
-use Rattle.tagged_word.specs.Cells.{in_object_offsets, store_slot, plain_head}
+use Rattle.tagged_word.specs.Cells.{in_object_offsets, store_slot, proto_slot, plain_head}
 use Rattle.heap_model.specs.Types.{LayoutWord, Value, Object, Field, Path, Cell}
 use Rattle.object_graph.specs.declared.value.Value.TheVariants.{Undefined}
 use Rattle.object_graph.specs.declared.value.Rep.TheVariants as rep
@@ -18,11 +19,11 @@ use Rattle.heap_model.specs.Heaps.{Heap, HasCell}
 use Rattle.heap_model.specs.Slots.{reference_word, IsPlace, HoldsStore}
 use Rattle.heap_model.specs.Kinds.{HasWord, IsPlainCell, IsListCell, IsSoundOf}
 use Rattle.heap_model.specs.Wholeness.{Whole}
-use Rattle.heap_model.specs.Showing.{ShowsPlain, ShowsList}
+use Rattle.heap_model.specs.Showing.{ShowsPlain, ShowsProto, ShowsList}
 use Rattle.heap_model.proofs.CellWords.{slice_get-append_right, words_by_kind}
 use Rattle.heap_model.proofs.OneBeside.{one_beside, one_slots}
 use Rattle.heap_model.proofs.PathLayouts.{layout_is}
-use Rattle.heap_model.proofs.WordClasses.{hole_refers_not}
+use Rattle.heap_model.proofs.WordClasses.{same_reference, undefined_refers_not, hole_refers_not}
 use Rattle.heap_moves.proofs.MovedShown.{path_field, path_has}
 use Rattle.live_cells.proofs.ShownTargets.{IsBoxAt, ShownTarget, value_target, field_target}
 use Rattle.live_cells.proofs.StoreSlots.{own_slot}
@@ -42,11 +43,11 @@ at_is_in xs k x there = (k, slice_get_within xs k x there, get_or_from_slice_get
 
 module _ {heap : Heap} (whole : Whole heap) (marks : ℕ → Bool) where
   -- a slot of a plain object, by its place among these; it is not raw
-  plain_target : {cell : Cell} {words : List ℕ} (cap : ℕ) (fields : List Field) (k word at : ℕ)
+  plain_target : {cell : Cell} {words : List ℕ} (cap : ℕ) (proto : Option ℕ) (fields : List Field) (k word at : ℕ)
       → HasCell heap cell words → (shows : ShowsPlain heap cell words cap fields) → HasWord shows.slots k word
       → ((field : Field) → slice_get fields k ≡ Some field → nat_lt k cap ≡ true → field.rep ≡ rep.Wide → ⊥)
-      → word ≡ reference_word at → LinkTarget heap marks (graph_object.Plain cap fields) at
-  plain_target {cell} {words} cap fields k word at has shows stands tagged refers =
+      → word ≡ reference_word at → LinkTarget heap marks (graph_object.Plain cap proto fields) at
+  plain_target {cell} {words} cap proto fields k word at has shows stands tagged refers =
       let sound : IsPlainCell heap cell words =
       subst (λ kind. IsSoundOf kind heap cell words) shows.of_kind (whole.sound cell words has) in
       let path : Path = shape_path heap.paths cell.header.shape in
@@ -58,7 +59,7 @@ module _ {heap : Heap} (whole : Whole heap) (marks : ℕ → Bool) where
             let there : slice_get fields k ≡ Some field = slice_get-get_or fields k no_field within in
             elim (field_target at (shows.each k field word there stands) (tagged field there) refers) [
               | ShownTarget.to_object number is place ↦
-                  LinkTarget.to_object number (field, at_is_in fields k field there, is) place
+                  LinkTarget.to_object number (inr (field, at_is_in fields k field there, is)) place
               | ShownTarget.to_box in_box ↦ LinkTarget.to_box in_box
             ]
         | inr past ↦
@@ -69,25 +70,38 @@ module _ {heap : Heap} (whole : Whole heap) (marks : ℕ → Bool) where
       ]
 
   -- an in-object slot of a plain object
-  pub in_object_target : {cell : Cell} {words : List ℕ} (cap : ℕ) (fields : List Field) (offset word at : ℕ)
+  pub in_object_target : {cell : Cell} {words : List ℕ} (cap : ℕ) (proto : Option ℕ) (fields : List Field)
+      (offset word at : ℕ)
       → HasCell heap cell words → ShowsPlain heap cell words cap fields
       → Contains (in_object_offsets cell.layout) offset → HasWord words offset word → word ≡ reference_word at
-      → LinkTarget heap marks (graph_object.Plain cap fields) at
-  in_object_target {cell} {words} cap fields offset word at has shows visited slot refers =
+      → LinkTarget heap marks (graph_object.Plain cap proto fields) at
+  in_object_target {cell} {words} cap proto fields offset word at has shows visited slot refers =
       let sound : IsPlainCell heap cell words =
       subst (λ kind. IsSoundOf kind heap cell words) shows.of_kind (whole.sound cell words has) in
       let path : Path = shape_path heap.paths cell.header.shape in
       let own = own_slot offset word whole.sized has sound.shape shows.has visited slot in
-      plain_target cap fields own.at word at has shows own.stands
+      plain_target cap proto fields own.at word at has shows own.stands
       (λ field there is_own wide. own.tagged (path_field field) (path_has path cap fields own.at field shows.path there)
       wide) refers
 
+  -- the prototype slot of a plain object
+  pub proto_target : {word : ℕ} (words : List ℕ) (cap : ℕ) (proto : Option ℕ) (fields : List Field) (at : ℕ)
+      → ShowsProto heap words proto → HasWord words proto_slot word → word ≡ reference_word at
+      → LinkTarget heap marks (graph_object.Plain cap proto fields) at
+  proto_target words cap None fields at shows slot refers =
+      absurd (undefined_refers_not at (same_Some _ _ (sym shows ∙ slot) ∙ refers))
+  proto_target words cap (Some number) fields at (held, stands, to) slot refers =
+      let same : to.at ≡ at =
+      same_reference to.at at (sym to.refers ∙ same_Some _ _ (sym stands ∙ slot) ∙ refers) in
+      LinkTarget.to_object number (inl refl) (subst (IsPlace heap number) same to.place)
+
   -- a slot in the store of a plain object
-  pub stored_target : {cell : Cell} {words beside : List ℕ} (cap : ℕ) (fields : List Field) (store k word at : ℕ)
+  pub stored_target : {cell : Cell} {words beside : List ℕ} (cap : ℕ) (proto : Option ℕ) (fields : List Field)
+      (store k word at : ℕ)
       → HasCell heap cell words → ShowsPlain heap cell words cap fields → HasWord words store_slot store
       → HoldsStore heap kind.Store store beside → HasWord beside k word → word ≡ reference_word at
-      → LinkTarget heap marks (graph_object.Plain cap fields) at
-  stored_target {cell} {words} {beside} cap fields store k word at has shows slot holds there refers =
+      → LinkTarget heap marks (graph_object.Plain cap proto fields) at
+  stored_target {cell} {words} {beside} cap proto fields store k word at has shows slot holds there refers =
       let sound : IsPlainCell heap cell words =
       subst (λ kind. IsSoundOf kind heap cell words) shows.of_kind (whole.sound cell words has) in
       let path : Path = shape_path heap.paths cell.header.shape in
@@ -107,7 +121,7 @@ module _ {heap : Heap} (whole : Whole heap) (marks : ℕ → Bool) where
       let stands : HasWord shows.slots place word = subst (λ all. HasWord all place word) (sym shows.has.are) in_both in
       let behind : cap ≤ place = omega (arith, long) in
       let test : nat_lt place cap ≡ false = grind (arith, nat_tests, behind) in
-      plain_target cap fields place word at has shows stands
+      plain_target cap proto fields place word at has shows stands
       (λ field there is_own wide. false≢true (sym test ∙ is_own)) refers
 
   -- a slot in the store of a list

@@ -105,7 +105,7 @@ module _ {heap : Heap} {graph : Graph} (marked : ℕ → Bool) (shows : Shows he
   -- an object that links, where each key that is inside can be reached, links to what can be reached
   links_reached : (what : Object) (number : ℕ) → LinksTo inside what number
       → LinksTo (is_marked (reach graph)) what number
-  links_reached (graph_object.Plain cap fields) number link = link
+  links_reached (graph_object.Plain cap proto fields) number link = link
   links_reached (graph_object.List elements) number link = link
   links_reached (graph_object.Weak entries) number link =
       (link.0, link.1, inside_reached link.0.key link.2, link.3)

@@ -1,11 +1,12 @@
 -- What a slot refers to that marking visits belongs to an object that can be reached, where its cell does.
-use Rattle.std.proofs.Common.{◌≡◌, ℕ, ◌-◌, List, drop, Some, Contains, slice_get, IsTrue, inl, inr, refl}
+use Rattle.std.proofs.Common.{◌≡◌, ℕ, ◌-◌, List, drop, Some, Contains, slice_get, IsTrue, refl}
 use Rattle.std.proofs.Common.{sym, ◌∙◌, ap, subst, arith}
 use Rattle.std.proofs.lemmas.Option.{same_Some}
 use Rattle.tagged_word.specs.declared.layout.Kind.TheVariants as kind
-use Rattle.tagged_word.specs.Cells.{tagged_offsets, tagged_offsets_of, in_object_offsets, store_head, store_slot}
+use Rattle.tagged_word.specs.Cells.{tagged_offsets, tagged_offsets_of, store_head, store_slot}
 use Rattle.tagged_word.specs.Cells.{is_object_kind}
-use Rattle.tagged_word.proofs.Members.{in_cases, one_in, range_bounds}
+use Rattle.tagged_word.proofs.Members.{one_in, range_bounds}
+use Rattle.tagged_word.proofs.Offsets.{IsPlainSlot, plain_slot_is, in_object_in}
 use Rattle.heap_model.specs.Types.{Kind, Object, Cell}
 use Rattle.object_graph.specs.declared.object.Object.TheVariants as graph_object
 use Rattle.object_graph.specs.Graphs.{Graph}
@@ -25,7 +26,7 @@ use Rattle.live_cells.specs.Live.{HasSlotTo}
 use Rattle.live_cells.proofs.Slots.{marking_slots, table_kind}
 use Rattle.live_cells.proofs.ReachedMarked.{shown}
 use Rattle.live_cells.proofs.ShownTargets.{IsBoxAt}
-use Rattle.live_cells.proofs.ObjectTargets.{LinkTarget, in_object_target, stored_target, element_target}
+use Rattle.live_cells.proofs.ObjectTargets.{LinkTarget, in_object_target, proto_target, stored_target, element_target}
 
 -- an object that can be reached, by its cell
 pub record IsReachedCell (heap : Heap) (graph : Graph) (cell : Cell) (words : List ℕ) : Type 0 where
@@ -119,18 +120,25 @@ module _ {heap : Heap} {graph : Graph} (shows : Shows heap graph) where
       → ShowsObject heap (reach graph) cell words what
       → Contains (tagged_offsets cell.layout cell.length) offset → HasWord words offset word
       → word ≡ reference_word at → Belongs heap graph at
-  own_belongs {cell} {words} (graph_object.Plain cap fields) offset word at is there shown_by visited slot refers =
-      let of_plain = subst (λ k. Contains (tagged_offsets_of k cell.layout cell.length) offset) shown_by.of_kind
+  own_belongs {cell} {words} (graph_object.Plain cap proto fields) offset word at is there shown_by visited slot
+      refers =
+      let of_plain = subst (λ k. Contains (tagged_offsets_of k cell.layout cell.length) offset) shown_by.0.of_kind
       visited in
-      elim (in_cases store_slot (in_object_offsets cell.layout) offset of_plain) [
-        | inl same ↦
+      elim (plain_slot_is cell.layout offset of_plain) [
+        | IsPlainSlot.store same ↦
             let store = subst (λ n. HasWord words n word) (sym same) slot in
             store_belongs word at is store refers (store_word word shows.whole is.has is.object store)
-        | inr own ↦ link_belongs (graph_object.Plain cap fields) at is there
+        | IsPlainSlot.proto same ↦
+            let held = subst (λ n. HasWord words n word) (sym same) slot in
+            link_belongs (graph_object.Plain cap proto fields) at is there
             (HasSlotAt.own offset word (marking_slots cell.layout.kind cell.layout cell.length offset visited) slot)
             refers
-            (in_object_target shows.whole (is_marked (reach graph)) cap fields offset word at is.has shown_by own slot
-            refers)
+            (proto_target shows.whole (is_marked (reach graph)) words cap proto fields at shown_by.1 held refers)
+        | IsPlainSlot.own own ↦ link_belongs (graph_object.Plain cap proto fields) at is there
+            (HasSlotAt.own offset word (marking_slots cell.layout.kind cell.layout cell.length offset visited) slot)
+            refers
+            (in_object_target shows.whole (is_marked (reach graph)) cap proto fields offset word at is.has
+            shown_by.0 (in_object_in cell.layout offset own) slot refers)
       ]
   own_belongs {cell} {words} (graph_object.List elements) offset word at is there shown_by visited slot refers =
       let of_list = subst (λ k. Contains (tagged_offsets_of k cell.layout cell.length) offset) shown_by.of_kind
@@ -149,12 +157,12 @@ module _ {heap : Heap} {graph : Graph} (shows : Shows heap graph) where
       → ShowsObject heap (reach graph) cell words what → HasWord words store_slot store
       → RefersTo heap store other others → other.layout.kind ≡ kind.Store
       → HasWord (drop store_head others) k word → word ≡ reference_word at → Belongs heap graph at
-  stored_belongs {other = other} {others = others} (graph_object.Plain cap fields) store k word at is there
+  stored_belongs {other = other} {others = others} (graph_object.Plain cap proto fields) store k word at is there
       shown_by slot target of_kind stands refers =
       let holds = HoldsStore.store store other others target of_kind in
-      link_belongs (graph_object.Plain cap fields) at is there (slot_beside store k word slot holds stands).1 refers
-      (stored_target shows.whole (is_marked (reach graph)) cap fields store k word at is.has shown_by slot holds stands
-      refers)
+      link_belongs (graph_object.Plain cap proto fields) at is there (slot_beside store k word slot holds stands).1
+      refers (stored_target shows.whole (is_marked (reach graph)) cap proto fields store k word at is.has shown_by.0
+      slot holds stands refers)
   stored_belongs {other = other} {others = others} (graph_object.List elements) store k word at is there
       shown_by slot target of_kind stands refers =
       let holds = HoldsStore.store store other others target of_kind in

@@ -7,8 +7,8 @@ use Rattle.tagged_word.specs.declared.layout.Kind.TheVariants as kind
 use Rattle.tagged_word.specs.Layouts.{is_raw}
 use Rattle.tagged_word.specs.Cells.{tagged_offsets_of, in_object_offsets, store_head, store_slot, plain_head}
 use Rattle.tagged_word.specs.Cells.{is_object_kind}
-use Rattle.tagged_word.proofs.Members.{in_cases, one_in, in_range}
-use Rattle.tagged_word.proofs.Offsets.{in_object_is}
+use Rattle.tagged_word.proofs.Members.{one_in, in_range}
+use Rattle.tagged_word.proofs.Offsets.{IsPlainSlot, plain_slot_is, in_object_in, in_object_is}
 use Rattle.object_graph.specs.declared.value.Rep.TheVariants as rep
 use Rattle.shape_tree.specs.Shapes.{IsPathShape, shape_path}
 use Rattle.shape_tree.specs.ShapeLayouts.{layout_of, in_object_fields}
@@ -22,7 +22,7 @@ use Rattle.heap_model.proofs.CellWords.{behind_head, behind_head_few}
 use Rattle.heap_model.proofs.ObjectSlots.{pair_words}
 use Rattle.heap_model.proofs.PathLayouts.{layout_is}
 use Rattle.heap_model.proofs.SlotWords.{IsStoreKind, store_is_owned, store_word, store_target, same_target}
-use Rattle.heap_model.proofs.SlotWords.{field_is_slot, in_object_not_wide}
+use Rattle.heap_model.proofs.SlotWords.{field_is_slot, in_object_not_wide, proto_word, proto_names_nothing}
 use Rattle.heap_model.proofs.SlotsHold.{beside_holds}
 use Rattle.heap_model.proofs.WordClasses.{same_reference, undefined_refers_not, hole_refers_not, small_refers_not}
 use Rattle.live_cells.specs.Live.{HasSlotTo, HasEntry}
@@ -106,9 +106,14 @@ store_slot_of : {heap : Heap} {owner other : Cell} {words others : List ℕ} (k 
     → Contains (tagged_offsets_of k owner.layout owner.length) offset → HasWord words offset word
     → RefersTo heap word other others → IsStoreKind other.layout.kind → HasWord words store_slot word
 store_slot_of {owner = owner} {words = words} kind.Plain offset word sized has object sound there slot refers of_kind =
-    elim (in_cases store_slot (in_object_offsets owner.layout) offset there) [
-      | inl same ↦ subst (λ n. HasWord words n word) (sym same) slot
-      | inr own ↦ absurd (in_object_to_none offset word sized has sound own slot refers of_kind)
+    elim (plain_slot_is owner.layout offset there) [
+      | IsPlainSlot.store same ↦ subst (λ n. HasWord words n word) (sym same) slot
+      | IsPlainSlot.proto same ↦
+          let proto = subst (λ n. HasWord words n word) (sym same) slot in
+          absurd (proto_names_nothing word (proto_word word sound proto) refers (store_is_owned of_kind))
+      | IsPlainSlot.own own ↦
+          absurd (in_object_to_none offset word sized has sound (in_object_in owner.layout offset own) slot refers
+          of_kind)
     ]
 store_slot_of {words = words} kind.List offset word sized has object sound there slot refers of_kind =
     subst (λ n. HasWord words n word) (sym (one_in store_slot offset there)) slot

@@ -2,13 +2,16 @@
 use Rattle.std.proofs.Common.{◌≡◌, ◌≢◌, inl, inr, ◌+◌, ℕ, Bool, true, IsTrue, IsSome, List, []}
 use Rattle.std.proofs.Common.{Some, All, Contains, if◌then◌else◌, slice_index}
 use Rattle.std.proofs.Common.{eq-eqb, refl, sym, ap, subst, ◌∙◌, arith}
+use Rattle.std.proofs.lemmas.Bool.{cases_eq}
 use Rattle.std.proofs.lemmas.List.Elements.{All-contains}
 use Rattle.tagged_word.specs.declared.reading.Reading.{Reading}
 use Rattle.tagged_word.proofs.Members.{in_map, map_from}
 use Rattle.page_space.specs.Extents.{eden_start}
 use Rattle.cell_layout.specs.declared.cell.Cell.{Cell}
 use Rattle.cell_layout.specs.Cells.{layouts_in, reading_of}
-use Rattle.cell_list.specs.Listing.{Listing}
+use Rattle.core_parts.specs.Lists.{joined}
+use Rattle.core_parts.proofs.Joining.{joined_in, joined_keeps}
+use Rattle.core_parts.proofs.Leaving.{left_keeps}
 use Rattle.core_parts.proofs.Tested.{not_equal}
 use Rattle.mark_laws.specs.PageWords.{HasMainSound}
 use Rattle.mark_laws.specs.Types.{MainView}
@@ -27,6 +30,7 @@ use Rattle.heap_table.specs.Overviews.{overview, stepped}
 use Rattle.heap_table.specs.Seats.{Seat}
 use Rattle.mark_barrier.specs.Owing.{EachTarget, IsToCome, Owes, own_cell, page_words_of, slot_word}
 use Rattle.mark_barrier.specs.Paid.{IsBlackened, ListsGrey, ListsAllBut, StepsTo}
+use Rattle.mark_barrier.specs.Waiting.{Waiting}
 
 module _ (seat : Seat) (at : ℕ) (colour : Colour) where
   abbrev main : MainView
@@ -35,9 +39,20 @@ module _ (seat : Seat) (at : ℕ) (colour : Colour) where
   abbrev blackened_seat : Seat
   blackened_seat = stepped seat (event.Blacken at) (number_of colour)
 
-  -- it waits no more
-  pub black_lists : (listing : Listing) → ListsAllBut seat listing at → ListsGrey blackened_seat listing
-  black_lists listing lists = record { bound = lists.bound; listed = lists.listed; born = lists.born }
+  -- it waits no more, and may be on the lists still
+  pub black_lists : (grey : Waiting) → ListsAllBut seat grey at → ListsGrey blackened_seat grey
+  black_lists grey lists = record {
+    room = lists.room;
+    waits = lists.waits;
+    was = λ one on. elim (cases_eq one at) [
+      | inl is ↦ inr (subst (Contains (joined main.mine at)) (sym is) (joined_in main.mine at))
+      | inr other ↦ elim (lists.was one on) [
+        | inl waits ↦ inl (left_keeps main.grey at one other waits)
+        | inr mine ↦ inr (joined_keeps main.mine at one mine)
+      ]
+    ];
+    born = lists.born;
+  }
 
   -- where it was black nothing more is owed
   pub black_owed : number_of colour ≡ black → (overview blackened_seat).view.owed ≡ main.owed

@@ -1,5 +1,7 @@
 pub mod Darker
 pub mod Listed
+pub mod Popped
+pub mod Passing
 pub mod Steps
 pub mod Owing
 pub mod Blackened

@@ -1,171 +1,233 @@
--- The list of grey cells goes with the seat.
-use Rattle.std.proofs.Common.{[], ◌≡◌, ◌≢◌, ◌⊎◌, ◌↔◌, inl, inr, ℕ, List, Contains, sym, subst, ◌∙◌, Option, Some, None}
+-- The lists of grey cells go with the seat.
+use Rattle.std.proofs.Common.{[], ◌≡◌, ◌≢◌, ◌⊎◌, ◌↔◌, inl, inr, ℕ, List, Contains, refl, sym, subst, ◌∙◌}
+use Rattle.std.proofs.Common.{Option, Some, None}
 use Rattle.std.proofs.lemmas.Bool.{cases_eq}
-use Rattle.std.proofs.lemmas.List.Elements.{All-contains}
-use Rattle.cell_list.specs.Listing.{Listing}
 use Rattle.tagged_word.specs.Readings.{reference_in}
+use Rattle.cell_list.specs.Listing.{Listing}
 use Rattle.core_parts.specs.Boards.{giver_left, joined_by}
 use Rattle.core_parts.specs.Lists.{joined, left}
 use Rattle.core_parts.proofs.Handing.{lost_give}
 use Rattle.core_parts.proofs.Joining.{joined_from, joined_in, joined_keeps}
 use Rattle.core_parts.proofs.Leaving.{left_from, left_keeps, left_out}
-use Rattle.mark_laws.proofs.Joins.{all_from, joined_other, joined_white}
+use Rattle.mark_laws.proofs.Joins.{joined_other, joined_white}
 use Rattle.mark_world.specs.declared.event.Event.TheVariants as event
-use Rattle.mark_world.specs.Soundness.{AreIn}
 use Rattle.mark_world.specs.Steps.{black, white}
 use Rattle.heap_table.specs.Overviews.{overview, stepped, stored}
 use Rattle.heap_table.specs.Seats.{Seat}
 use Rattle.mark_barrier.specs.Paid.{IsPaid, ListsAllBut, ListsGrey}
+use Rattle.mark_barrier.specs.Waiting.{HasRoom, IsOn, Waiting}
 
--- a list that one joined has the others, and this one
-joined_members : (list : List ℕ) (at one : ℕ) → Contains (joined list at) one ↔ (Contains list one ⊎ (one ≡ at))
-joined_members list at one = (
-  λ on. elim (cases_eq one at) [ inl new ↦ inr new | inr other ↦ inl (joined_from list at one other on) ],
-  λ either. elim either [
-    | inl was ↦ joined_keeps list at one was
-    | inr new ↦ subst (Contains (joined list at)) (sym new) (joined_in list at)
-  ],
-)
+-- One cell was added to the lists, and no other.
+pub record Adds (old new : Waiting) (at : ℕ) : Type 0 where
+  pub list : new.list.bound ≡ old.list.bound
+  pub passed : new.passed.bound ≡ old.passed.bound
+  pub there : IsOn new at
+  pub kept : (one : ℕ) → IsOn old one → IsOn new one
+  pub either : (one : ℕ) → IsOn new one → IsOn old one ⊎ (one ≡ at)
 
--- a list that one left has the others
-pub left_members : (list : List ℕ) (at one : ℕ) → Contains (left list at) one ↔ (Contains list one × (one ≢ at))
-left_members list at one = (
-  λ on. (left_from list at one on, λ same. left_out list at (subst (Contains (left list at)) same on)),
-  λ both. left_keeps list at one both.1 both.0,
-)
+-- it is so where one is listed
+pub adds_listed : (list now passed : Listing) (at : ℕ) → now.bound ≡ list.bound
+    → ((one : ℕ) → Contains now.addresses one ↔ (Contains list.addresses one ⊎ (one ≡ at)))
+    → Adds (record { list = list; passed = passed }) (record { list = now; passed = passed }) at
+adds_listed list now passed at bound members = record {
+  list = bound;
+  passed = refl;
+  there = inl ((members at).1 (inr refl));
+  kept = λ one on. elim on [ inl was ↦ inl ((members one).1 (inl was)) | inr over ↦ inr over ];
+  either = λ one on. elim on [
+    | inl listed ↦ elim ((members one).0 listed) [ inl was ↦ inl (inl was) | inr new ↦ inr new ]
+    | inr over ↦ inl (inr over)
+  ];
+}
 
--- the cell that left is the one that is missing
-pub left_or_one : (list : List ℕ) (at one : ℕ) → Contains list at
-    → Contains list one ↔ (Contains (left list at) one ⊎ (one ≡ at))
-left_or_one list at one had = (
-  λ on. elim (cases_eq one at) [ inl same ↦ inr same | inr other ↦ inl (left_keeps list at one other on) ],
-  λ either. elim either [
-    | inl other ↦ left_from list at one other
-    | inr same ↦ subst (Contains list) (sym same) had
-  ],
-)
+-- there is as much room as before
+same_room : (old new : Waiting) (at bound : ℕ) → Adds old new at → HasRoom old bound → HasRoom new bound
+same_room old new at bound adds room =
+    record { list = adds.list ∙ room.list; passed = adds.passed ∙ room.passed }
 
--- a cell that is added to two lists of the same cells is on both
-both_added : (grey other addresses now : List ℕ) (at : ℕ)
-    → ((one : ℕ) → Contains addresses one ↔ Contains grey one)
-    → ((one : ℕ) → Contains now one ↔ (Contains addresses one ⊎ (one ≡ at)))
-    → ((one : ℕ) → Contains other one ↔ (Contains grey one ⊎ (one ≡ at))) → (one : ℕ)
-    → Contains now one ↔ Contains other one
-both_added grey other addresses now at same members more one = (
-  λ on. (more one).1 (elim ((members one).0 on) [ inl was ↦ inl ((same one).0 was) | inr new ↦ inr new ]),
-  λ on. (members one).1 (elim ((more one).0 on) [ inl was ↦ inl ((same one).1 was) | inr new ↦ inr new ]),
-)
+module _ (seat : Seat) (before now : Waiting) (at : ℕ) (lists : ListsGrey seat before) (adds : Adds before now at) where
+  -- what waits then is on the lists
+  joined_waits : (one : ℕ) → Contains (joined (overview seat).view.grey at) one → IsOn now one
+  joined_waits one on = elim (cases_eq one at) [
+    | inl is ↦ subst (IsOn now) (sym is) adds.there
+    | inr other ↦ adds.kept one (lists.waits one (joined_from (overview seat).view.grey at one other on))
+  ]
 
--- what is listed is born, where it was before, and what was added is
-added_born : (born addresses now : List ℕ) (at : ℕ) → AreIn born addresses
-    → ((one : ℕ) → Contains now one ↔ (Contains addresses one ⊎ (one ≡ at))) → Contains born at → AreIn born now
-added_born born addresses now at all members has = all_from (Contains born) now (λ one on.
-    elim ((members one).0 on) [
-      | inl before ↦ All-contains (Contains born) addresses one all before
-      | inr new ↦ subst (Contains born) (sym new) has
-    ])
+  -- what is on the lists waits, or is black
+  joined_was : (one : ℕ) → IsOn now one
+      → Contains (joined (overview seat).view.grey at) one ⊎ Contains (overview seat).view.mine one
+  joined_was one on = elim (adds.either one on) [
+    | inl was ↦ elim (lists.was one was) [
+      | inl waits ↦ inl (joined_keeps (overview seat).view.grey at one waits)
+      | inr mine ↦ inr mine
+    ]
+    | inr is ↦ inl (subst (Contains (joined (overview seat).view.grey at)) (sym is)
+        (joined_in (overview seat).view.grey at))
+  ]
 
-module _ (seat : Seat) (listing now : Listing) (at : ℕ) (lists : ListsGrey seat listing)
-    (bound : now.bound ≡ listing.bound)
-    (members : (one : ℕ) → Contains now.addresses one ↔ (Contains listing.addresses one ⊎ (one ≡ at))) where
-  -- the cell waits and is listed
-  joined_listed : (one : ℕ) → Contains now.addresses one ↔ Contains (joined (overview seat).view.grey at) one
-  joined_listed =
-      both_added (overview seat).view.grey (joined (overview seat).view.grey at) listing.addresses now.addresses at
-      lists.listed members (joined_members (overview seat).view.grey at)
+  -- it is born
+  added_born : Contains (overview seat).view.born at → (one : ℕ) → IsOn now one
+      → Contains (overview seat).view.born one
+  added_born born one on = elim (adds.either one on) [
+    | inl was ↦ lists.born one was
+    | inr is ↦ subst (Contains (overview seat).view.born) (sym is) born
+  ]
 
   -- a cell that was found white is listed
   pub white_listed : (found : ℕ) → found ≡ white → Contains (overview seat).view.born at
       → ListsGrey (stepped seat (event.ShadeMain at) found) now
-  white_listed found is born = record {
-    bound = bound ∙ lists.bound;
-    listed = subst (λ (grey : List ℕ). (one : ℕ) → Contains now.addresses one ↔ Contains grey one)
-        (sym (joined_white (overview seat).view.grey at found is)) joined_listed;
-    born = added_born (overview seat).view.born listing.addresses now.addresses at lists.born members born;
-  }
+  white_listed found is born =
+      let same = sym (joined_white (overview seat).view.grey at found is) in
+      record {
+        room = same_room before now at _ adds lists.room;
+        waits = subst (λ (grey : List ℕ). (one : ℕ) → Contains grey one → IsOn now one) same joined_waits;
+        was = subst (λ (grey : List ℕ). (one : ℕ) → IsOn now one
+            → Contains grey one ⊎ Contains (overview seat).view.mine one) same joined_was;
+        born = added_born born;
+      }
 
   -- and one that was taken from the board
   pub taken_paid : (place found : ℕ) → reference_in found ≡ Some at → (overview seat).view.owed ≡ []
       → Contains (overview seat).view.born at → IsPaid (stepped seat (event.TakeMain place) found) now
   taken_paid place found is owed born = record {
     lists = record {
-      bound = bound ∙ lists.bound;
-      listed = subst (λ (to : Option ℕ). (one : ℕ) → Contains now.addresses one
-          ↔ Contains (joined_by (overview seat).view.grey to) one) (sym is) joined_listed;
-      born = added_born (overview seat).view.born listing.addresses now.addresses at lists.born members born;
+      room = same_room before now at _ adds lists.room;
+      waits = subst (λ (to : Option ℕ). (one : ℕ) → Contains (joined_by (overview seat).view.grey to) one
+          → IsOn now one) (sym is) joined_waits;
+      was = subst (λ (to : Option ℕ). (one : ℕ) → IsOn now one
+          → Contains (joined_by (overview seat).view.grey to) one ⊎ Contains (overview seat).view.mine one) (sym is)
+          joined_was;
+      born = added_born born;
     };
     owed = owed;
   }
 
--- where no cell was on the board the list stays
-pub none_taken : (seat : Seat) (listing : Listing) (place found : ℕ) → reference_in found ≡ None → IsPaid seat listing
-    → IsPaid (stepped seat (event.TakeMain place) found) listing
-none_taken seat listing place found none paid = record {
+-- where no cell was on the board the lists stay
+pub none_taken : (seat : Seat) (grey : Waiting) (place found : ℕ) → reference_in found ≡ None → IsPaid seat grey
+    → IsPaid (stepped seat (event.TakeMain place) found) grey
+none_taken seat grey place found none paid = record {
   lists = record {
-    bound = paid.lists.bound;
-    listed = subst (λ (to : Option ℕ). (one : ℕ) → Contains listing.addresses one
-        ↔ Contains (joined_by (overview seat).view.grey to) one) (sym none) paid.lists.listed;
+    room = paid.lists.room;
+    waits = subst (λ (to : Option ℕ). (one : ℕ) → Contains (joined_by (overview seat).view.grey to) one
+        → IsOn grey one) (sym none) paid.lists.waits;
+    was = subst (λ (to : Option ℕ). (one : ℕ) → IsOn grey one
+        → Contains (joined_by (overview seat).view.grey to) one ⊎ Contains (overview seat).view.mine one) (sym none)
+        paid.lists.was;
     born = paid.lists.born;
   };
   owed = paid.owed;
 }
 
 -- one that was found grey or black is not listed
-pub other_listed : (seat : Seat) (listing : Listing) (at found : ℕ) → ListsGrey seat listing → found ≢ white
-    → ListsGrey (stepped seat (event.ShadeMain at) found) listing
-other_listed seat listing at found lists other = record {
-  bound = lists.bound;
-  listed = subst (λ (grey : List ℕ). (one : ℕ) → Contains listing.addresses one ↔ Contains grey one)
-      (sym (joined_other (overview seat).view.grey at found other)) lists.listed;
-  born = lists.born;
-}
+pub other_listed : (seat : Seat) (grey : Waiting) (at found : ℕ) → ListsGrey seat grey → found ≢ white
+    → ListsGrey (stepped seat (event.ShadeMain at) found) grey
+other_listed seat grey at found lists other =
+    let same = sym (joined_other (overview seat).view.grey at found other) in
+    record {
+      room = lists.room;
+      waits = subst (λ (list : List ℕ). (one : ℕ) → Contains list one → IsOn grey one) same lists.waits;
+      was = subst (λ (list : List ℕ). (one : ℕ) → IsOn grey one
+          → Contains list one ⊎ Contains (overview seat).view.mine one) same lists.was;
+      born = lists.born;
+    }
 
--- the list stays where a cell is published
-pub publish_paid : (seat : Seat) (listing : Listing) (at : ℕ) → IsPaid seat listing
-    → IsPaid (stepped seat (event.NewBlack at) black) listing
-publish_paid seat listing at paid = record {
+-- the lists stay where a cell is published
+pub publish_paid : (seat : Seat) (grey : Waiting) (at : ℕ) → IsPaid seat grey
+    → IsPaid (stepped seat (event.NewBlack at) black) grey
+publish_paid seat grey at paid = record {
   lists = record {
-    bound = paid.lists.bound;
-    listed = paid.lists.listed;
-    born = all_from (Contains (joined (overview seat).view.born at)) listing.addresses (λ one on.
-        joined_keeps (overview seat).view.born at one
-        (All-contains (Contains (overview seat).view.born) listing.addresses one paid.lists.born on));
+    room = paid.lists.room;
+    waits = paid.lists.waits;
+    was = λ one on. elim (paid.lists.was one on) [
+      | inl waits ↦ inl waits
+      | inr mine ↦ inr (joined_keeps (overview seat).view.mine at one mine)
+    ];
+    born = λ one on. joined_keeps (overview seat).view.born at one (paid.lists.born one on);
   };
   owed = paid.owed;
 }
 
 -- and where a word is stored
-pub store_lists : (seat : Seat) (listing : Listing) (at word : ℕ) → ListsGrey seat listing
-    → ListsGrey (stored seat (event.StoreSlot at word) at word) listing
-store_lists seat listing at word lists = record { bound = lists.bound; listed = lists.listed; born = lists.born }
+pub store_lists : (seat : Seat) (grey : Waiting) (at word : ℕ) → ListsGrey seat grey
+    → ListsGrey (stored seat (event.StoreSlot at word) at word) grey
+store_lists seat grey at word lists =
+    record { room = lists.room; waits = lists.waits; was = lists.was; born = lists.born }
 
--- a cell that was given to the board is not listed
-pub given_paid : (seat : Seat) (listing : Listing) (place at found : ℕ) → found ≡ 0 → ListsAllBut seat listing at
-    → (overview seat).view.owed ≡ [] → IsPaid (stepped seat (event.GiveMain place at) found) listing
-given_paid seat listing place at found none lists owed = record {
-  lists = record {
-    bound = lists.bound;
-    listed = subst (λ (word : ℕ). (one : ℕ) → Contains listing.addresses one
-        ↔ Contains (giver_left (overview seat).view.grey word at) one) (sym none) lists.listed;
-    born = lists.born;
-  };
-  owed = owed;
-}
+-- a cell that was given to the board, and is on neither list, waits no more
+pub given_paid : (seat : Seat) (grey : Waiting) (place at found : ℕ) → found ≡ 0 → ListsAllBut seat grey at
+    → (IsOn grey at → ⊥) → (overview seat).view.owed ≡ []
+    → IsPaid (stepped seat (event.GiveMain place at) found) grey
+given_paid seat grey place at found none lists off owed =
+    let was : (one : ℕ) → IsOn grey one
+    → Contains (left (overview seat).view.grey at) one ⊎ Contains (overview seat).view.mine one =
+    λ one on. elim (lists.was one on) [
+      | inl waits ↦ inl (left_keeps (overview seat).view.grey at one (λ is. off (subst (IsOn grey) is on)) waits)
+      | inr mine ↦ inr mine
+    ] in
+    record {
+      lists = record {
+        room = lists.room;
+        waits = subst (λ (word : ℕ). (one : ℕ) → Contains (giver_left (overview seat).view.grey word at) one
+            → IsOn grey one) (sym none) lists.waits;
+        was = subst (λ (word : ℕ). (one : ℕ) → IsOn grey one
+            → Contains (giver_left (overview seat).view.grey word at) one ⊎ Contains (overview seat).view.mine one)
+            (sym none) was;
+        born = lists.born;
+      };
+      owed = owed;
+    }
 
 -- one that was not given is listed again
-pub kept_paid : (seat : Seat) (listing now : Listing) (place at found : ℕ) → found ≢ 0 → ListsAllBut seat listing at
+pub kept_paid : (seat : Seat) (grey now : Waiting) (place at found : ℕ) → found ≢ 0 → ListsAllBut seat grey at
     → (overview seat).view.owed ≡ [] → Contains (overview seat).view.grey at → Contains (overview seat).view.born at
-    → now.bound ≡ listing.bound
-    → ((one : ℕ) → Contains now.addresses one ↔ (Contains listing.addresses one ⊎ (one ≡ at)))
-    → IsPaid (stepped seat (event.GiveMain place at) found) now
-kept_paid seat listing now place at found other lists owed waits born bound members = record {
-  lists = record {
-    bound = bound ∙ lists.bound;
-    listed = subst (λ (grey : List ℕ). (one : ℕ) → Contains now.addresses one ↔ Contains grey one)
-        (sym (lost_give (overview seat).view.grey found at other).1)
-        (both_added (left (overview seat).view.grey at) (overview seat).view.grey listing.addresses now.addresses at
-        lists.listed members (λ one. left_or_one (overview seat).view.grey at one waits));
-    born = added_born (overview seat).view.born listing.addresses now.addresses at lists.born members born;
-  };
-  owed = owed;
+    → Adds grey now at → IsPaid (stepped seat (event.GiveMain place at) found) now
+kept_paid seat grey now place at found other lists owed waits born adds =
+    let same = sym (lost_give (overview seat).view.grey found at other).1 in
+    let still : (one : ℕ) → Contains (overview seat).view.grey one → IsOn now one =
+    λ one on. elim (cases_eq one at) [
+      | inl is ↦ subst (IsOn now) (sym is) adds.there
+      | inr apart ↦ adds.kept one (lists.waits one (left_keeps (overview seat).view.grey at one apart on))
+    ] in
+    let was : (one : ℕ) → IsOn now one
+    → Contains (overview seat).view.grey one ⊎ Contains (overview seat).view.mine one =
+    λ one on. elim (adds.either one on) [
+      | inl before ↦ lists.was one before
+      | inr is ↦ inl (subst (Contains (overview seat).view.grey) (sym is) waits)
+    ] in
+    record {
+      lists = record {
+        room = same_room grey now at _ adds lists.room;
+        waits = subst (λ (list : List ℕ). (one : ℕ) → Contains list one → IsOn now one) same still;
+        was = subst (λ (list : List ℕ). (one : ℕ) → IsOn now one
+            → Contains list one ⊎ Contains (overview seat).view.mine one) same was;
+        born = λ one on. elim (adds.either one on) [
+          | inl before ↦ lists.born one before
+          | inr is ↦ subst (Contains (overview seat).view.born) (sym is) born
+        ];
+      };
+      owed = owed;
+    }
+
+-- where all are on the lists, all but one are
+pub all_but : (seat : Seat) (grey : Waiting) (at : ℕ) → ListsGrey seat grey → ListsAllBut seat grey at
+all_but seat grey at lists = record {
+  room = lists.room;
+  waits = λ one waits. lists.waits one (left_from (overview seat).view.grey at one waits);
+  was = lists.was;
+  born = lists.born;
+}
+
+-- where one was taken off the lists, all others that wait are on them
+pub others_on : (seat : Seat) (grey rest : Waiting) (at : ℕ) → ListsGrey seat grey → HasRoom rest grey.list.bound
+    → ((one : ℕ) → IsOn grey one → one ≢ at → IsOn rest one) → ((one : ℕ) → IsOn rest one → IsOn grey one)
+    → ListsAllBut seat rest at
+others_on seat grey rest at lists room others more = record {
+  room = record { list = room.list ∙ lists.room.list; passed = room.passed ∙ lists.room.list };
+  waits = λ one waits. elim (cases_eq one at) [
+    | inl is ↦ absurd (left_out (overview seat).view.grey at
+        (subst (Contains (left (overview seat).view.grey at)) is waits))
+    | inr apart ↦ others one (lists.waits one (left_from (overview seat).view.grey at one waits)) apart
+  ];
+  was = λ one on. lists.was one (more one on);
+  born = λ one on. lists.born one (more one on);
 }

@@ -17,6 +17,7 @@ use Rattle.shared_table.specs.Changes.{home_with, taking}
 use Rattle.heap_table.specs.Overviews.{knowing, overview}
 use Rattle.heap_table.specs.Seats.{Seat}
 use Rattle.mark_barrier.specs.Paid.{IsPaid}
+use Rattle.mark_barrier.specs.Waiting.{IsOn, Waiting}
 
 -- the seat and its view once a seat was taken back, whether it was the last one
 pub record IsBack (old new : Seat) (view : HelperView) : Type 0 where
@@ -52,33 +53,68 @@ waiting_is main view none =
     ap (λ (snap : Option Snap). joined_by (all_joined main.grey view.grey) (option_map (λ (s : Snap). s.cell) snap))
     none
 
--- the list has just the cells that wait with the mutator then
-pub back_paid : (old new : Seat) (listing waiting now : Listing) (view : HelperView) → IsBack old new view
-    → IsPaid old listing → view.snap ≡ None → view.visit ≡ []
-    → ((at : ℕ) → Contains waiting.addresses at ↔ Contains view.grey at) → HasJoined listing now waiting
-    → now.bound ≡ listing.bound → AreIn (overview new).view.born (overview new).view.grey → IsPaid new now
-back_paid old new listing waiting now view back paid snap visit same joined bound born =
-    let grey : List ℕ = (overview old).view.grey in
-    let is : (overview new).view.grey ≡ all_joined grey view.grey =
+-- what is on the lists was on them, or came with the seat
+back_on : (grey now : Waiting) (waiting : Listing) (at : ℕ) → HasJoined grey.list now.list waiting
+    → (Contains now.passed.addresses at → Contains grey.passed.addresses at) → IsOn now at
+    → IsOn grey at ⊎ Contains waiting.addresses at
+back_on grey now waiting at joined over on = elim on [
+  | inl listed ↦ elim ((joined at).0 listed) [ inl was ↦ inl (inl was) | inr came ↦ inr came ]
+  | inr kept ↦ inl (inr (over kept))
+]
+
+-- the lists have the cells that wait with the mutator then
+pub back_paid : (old new : Seat) (grey now : Waiting) (waiting : Listing) (view : HelperView) → IsBack old new view
+    → IsPaid old grey → view.snap ≡ None → view.visit ≡ []
+    → ((at : ℕ) → Contains waiting.addresses at ↔ Contains view.grey at) → HasJoined grey.list now.list waiting
+    → now.list.bound ≡ grey.list.bound → now.passed ≡ grey.passed
+    → AreIn (overview new).view.born (overview new).view.grey → IsPaid new now
+back_paid old new grey now waiting view back paid snap visit same joined bound passed born =
+    let before : List ℕ = (overview old).view.grey in
+    let is : (overview new).view.grey ≡ all_joined before view.grey =
     ap (λ (v : MainView). v.grey) back.view_is ∙ waiting_is (overview old).view view snap in
-    let listed : (at : ℕ) → Contains now.addresses at ↔ Contains (all_joined grey view.grey) at =
+    let here : (overview new).view.mine ≡ (overview old).view.mine = ap (λ (v : MainView). v.mine) back.view_is in
+    let there : (overview new).view.born ≡ (overview old).view.born = ap (λ (v : MainView). v.born) back.view_is in
+    let space : eden_start new.space ≡ eden_start old.space = ap (λ (s : Space). eden_start s) back.space in
+    let over : (at : ℕ) → Contains now.passed.addresses at ↔ Contains grey.passed.addresses at =
     λ at. (
-      λ on. elim ((joined at).0 on) [
-        | inl was ↦ all_keep grey view.grey at ((paid.lists.listed at).0 was)
-        | inr came ↦ all_there grey view.grey at ((same at).0 came)
-      ],
-      λ waits. (joined at).1 (elim (from_either grey view.grey at waits) [
-        | inl was ↦ inl ((paid.lists.listed at).1 was)
-        | inr came ↦ inr ((same at).1 came)
-      ]),
+      λ on. subst (λ (l : Listing). Contains l.addresses at) passed on,
+      λ on. subst (λ (l : Listing). Contains l.addresses at) (sym passed) on,
     ) in
-    let all = subst (λ (list : List ℕ). (at : ℕ) → Contains now.addresses at ↔ Contains list at) (sym is) listed in
+    let came : (at : ℕ) → Contains view.grey at → Contains (all_joined before view.grey) at =
+    λ at on. all_there before view.grey at on in
+    let waits : (at : ℕ) → Contains (all_joined before view.grey) at → IsOn now at =
+    λ at on. elim (from_either before view.grey at on) [
+      | inl was ↦ elim (paid.lists.waits at was) [
+        | inl listed ↦ inl ((joined at).1 (inl listed))
+        | inr kept ↦ inr ((over at).1 kept)
+      ]
+      | inr with_it ↦ inl ((joined at).1 (inr ((same at).1 with_it)))
+    ] in
+    let was : (at : ℕ) → IsOn now at
+    → Contains (all_joined before view.grey) at ⊎ Contains (overview old).view.mine at =
+    λ at on. elim (back_on grey now waiting at joined (over at).0 on) [
+      | inl before_on ↦ elim (paid.lists.was at before_on) [
+        | inl waited ↦ inl (all_keep before view.grey at waited)
+        | inr mine ↦ inr mine
+      ]
+      | inr with_it ↦ inl (came at ((same at).0 with_it))
+    ] in
     record {
       lists = record {
-        bound = bound ∙ paid.lists.bound ∙ sym (ap (λ (s : Space). eden_start s) back.space);
-        listed = all;
-        born = all_from (Contains (overview new).view.born) now.addresses (λ at on.
-            All-contains (Contains (overview new).view.born) (overview new).view.grey at born ((all at).0 on));
+        room = record {
+          list = bound ∙ paid.lists.room.list ∙ sym space;
+          passed = ap (λ (l : Listing). l.bound) passed ∙ paid.lists.room.passed ∙ sym space;
+        };
+        waits = subst (λ (list : List ℕ). (at : ℕ) → Contains list at → IsOn now at) (sym is) waits;
+        was = subst (λ (list : List ℕ). (at : ℕ) → IsOn now at
+            → Contains list at ⊎ Contains (overview new).view.mine at) (sym is)
+            (subst (λ (list : List ℕ). (at : ℕ) → IsOn now at
+            → Contains (all_joined before view.grey) at ⊎ Contains list at) (sym here) was);
+        born = λ at on. elim (back_on grey now waiting at joined (over at).0 on) [
+          | inl before_on ↦ subst (λ (list : List ℕ). Contains list at) (sym there) (paid.lists.born at before_on)
+          | inr with_it ↦ All-contains (Contains (overview new).view.born) (overview new).view.grey at born
+              (subst (λ (list : List ℕ). Contains list at) (sym is) (came at ((same at).0 with_it)))
+        ];
       };
       owed = ap (λ (v : MainView). v.owed) back.view_is
           ∙ ap (all_joined (overview old).view.owed) visit ∙ paid.owed;

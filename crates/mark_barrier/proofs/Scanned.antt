@@ -1,11 +1,7 @@
 -- What a scan makes of a seat, cell by cell.
-use Rattle.std.proofs.Common.{◌≡◌, ◌≢◌, ◌↔◌, inl, inr, ℕ, IsTrue, is_some, List, [], ◌∷◌, Contains, refl, sym, ap}
+use Rattle.std.proofs.Common.{◌≡◌, inl, inr, ℕ, IsTrue, is_some, List, [], Contains, refl, sym, ap}
 use Rattle.std.proofs.Common.{subst, ◌∙◌}
-use Rattle.std.proofs.lemmas.List.Elements.{All-contains, All-contains_itself, Contains-append_cases}
-use Rattle.std.proofs.lemmas.List.Elements.{Contains-append_left}
-use Rattle.std.proofs.lemmas.List.Elements.{Contains-push}
-use Rattle.tagged_word.proofs.Members.{one_in}
-use Rattle.cell_list.specs.Listing.{Listing, pushed}
+use Rattle.std.proofs.lemmas.List.Elements.{All-contains_itself}
 use Rattle.core_parts.specs.Lists.{joined}
 use Rattle.core_parts.proofs.Joining.{joined_keeps}
 use Rattle.mark_laws.specs.Growing.{Grows}
@@ -20,8 +16,9 @@ use Rattle.shared_table.specs.Worlds.{no_cycle, world_at_home}
 use Rattle.heap_table.specs.Overviews.{cycle_in, overview}
 use Rattle.heap_table.specs.Seats.{Seat}
 use Rattle.mark_barrier.specs.CycleSteps.{made_black}
-use Rattle.mark_barrier.specs.Paid.{IsPaid, ListsAllBut, Scans, StepsTo}
-use Rattle.mark_barrier.proofs.Listed.{left_members}
+use Rattle.mark_barrier.specs.Paid.{IsPaid, ListsAllBut, ListsGrey, Scans, StepsTo}
+use Rattle.mark_barrier.specs.Waiting.{IsEmpty, TakesOff, Waiting}
+use Rattle.mark_barrier.proofs.Listed.{others_on}
 use Rattle.mark_barrier.proofs.Owing.{none_in}
 use Rattle.mark_barrier.proofs.Steps.{same_steps, steps_on}
 
@@ -75,69 +72,19 @@ module _ (first second third : Seat) (old at : ℕ) (words layouts : List ℕ) (
     settled = λ settled. settles (before.settled settled);
   }
 
-module _ (seat : Seat) (listing rest : Listing) (at : ℕ) (is : listing ≡ pushed rest at)
-    (gone : Contains rest.addresses at → ⊥) (bound : rest.bound ≡ listing.bound) (paid : IsPaid seat listing) where
-  -- what the list had is the cell that was taken off, or still on it
-  still_on : (one : ℕ) → Contains listing.addresses one → one ≢ at → Contains rest.addresses one
-  still_on one on other =
-      elim (Contains-append_cases rest.addresses (at ∷ []) one
-      (subst (λ (l : Listing). Contains l.addresses one) is on)) [
-        | inl before ↦ before
-        | inr last ↦ absurd (other (sym (one_in at one last)))
-      ]
+-- with no cell on the lists none waits
+pub none_waits : (seat : Seat) (grey : Waiting) → IsPaid seat grey → IsEmpty grey → (overview seat).view.grey ≡ []
+none_waits seat grey paid empty = none_in (overview seat).view.grey (λ one waits.
+    elim (paid.lists.waits one waits) [
+      | inl listed ↦ in_none grey.list.addresses one empty.list listed
+      | inr over ↦ in_none grey.passed.addresses one empty.passed over
+    ])
 
-  -- what is on it was
-  was_on : (one : ℕ) → Contains rest.addresses one → Contains listing.addresses one
-  was_on one on =
-      subst (λ (l : Listing). Contains l.addresses one) (sym is)
-      (Contains-append_left rest.addresses (at ∷ []) one on)
-
-  -- the cell that was taken off was listed
-  popped_on : Contains listing.addresses at
-  popped_on = subst (λ (l : Listing). Contains l.addresses at) (sym is) (Contains-push rest.addresses at)
-
-  -- so it waits
-  pub popped_waits : Contains (overview seat).view.grey at
-  popped_waits = (paid.lists.listed at).0 popped_on
-
-  -- and is born
-  pub popped_born : Contains (overview seat).view.born at
-  popped_born = All-contains (Contains (overview seat).view.born) listing.addresses at paid.lists.born popped_on
-
-  -- all others that wait are listed
-  pub popped_lists : ListsAllBut seat rest at
-  popped_lists = record {
-    bound = bound ∙ paid.lists.bound;
-    listed = λ one. (
-      λ on. (left_members (overview seat).view.grey at one).1 (
-        (paid.lists.listed one).0 (was_on one on),
-        λ same. gone (subst (Contains rest.addresses) same on),
-      ),
-      λ waits. let both = (left_members (overview seat).view.grey at one).0 waits in
-          still_on one ((paid.lists.listed one).1 both.0) both.1,
-    );
-    born = all_from (Contains (overview seat).view.born) rest.addresses (λ one on.
-        All-contains (Contains (overview seat).view.born) listing.addresses one paid.lists.born (was_on one on));
-  }
-
--- all others that wait are listed, where the cell was taken off
-pub others_from : (seat : Seat) (listing rest : Listing) (at : ℕ) → IsPaid seat listing → rest.bound ≡ listing.bound
-    → ((one : ℕ) → Contains rest.addresses one ↔ (Contains listing.addresses one × (one ≢ at)))
+-- where one was taken off, all others that wait are on the lists
+pub taken_off : (seat : Seat) (grey rest : Waiting) (at : ℕ) → ListsGrey seat grey → TakesOff grey rest at
     → ListsAllBut seat rest at
-others_from seat listing rest at paid bound members = record {
-  bound = bound ∙ paid.lists.bound;
-  listed = λ one. (
-    λ on. let both = (members one).0 on in
-        (left_members (overview seat).view.grey at one).1 ((paid.lists.listed one).0 both.0, both.1),
-    λ waits. let both = (left_members (overview seat).view.grey at one).0 waits in
-        (members one).1 ((paid.lists.listed one).1 both.0, both.1),
-  );
-  born = all_from (Contains (overview seat).view.born) rest.addresses (λ one on.
-      All-contains (Contains (overview seat).view.born) listing.addresses one paid.lists.born ((members one).0 on).0);
-}
-
--- with no cell listed none waits
-pub none_waits : (seat : Seat) (listing : Listing) → IsPaid seat listing → listing.addresses ≡ []
-    → (overview seat).view.grey ≡ []
-none_waits seat listing paid none = none_in (overview seat).view.grey (λ one waits.
-    in_none listing.addresses one none ((paid.lists.listed one).1 waits))
+taken_off seat grey rest at lists off =
+    others_on seat grey rest at lists (record {
+      list = off.list;
+      passed = off.passed ∙ lists.room.passed ∙ sym lists.room.list;
+    }) off.others off.none_more

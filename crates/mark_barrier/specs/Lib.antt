@@ -1,4 +1,5 @@
 pub mod Model
+pub mod Waiting
 pub mod CycleSteps
 pub mod Paid
 pub mod Owing

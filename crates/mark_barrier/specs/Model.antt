@@ -1,7 +1,7 @@
--- What a list of grey cells keeps in its fields.
-use Rattle.cell_list.specs.Listing.{Listing}
+-- What the grey cells that wait with the mutator keep in their fields.
+use Rattle.mark_barrier.specs.Waiting.{Waiting}
 use Rattle.mark_barrier.specs.declared.grey_cells.GreyCells.TheInside.{Inside}
 
--- the cells that are listed
-abbrev pub listed_in : Inside → Listing
-listed_in grey = grey.list
+-- the cells that are listed, and those that were passed over
+abbrev pub waiting_in : Inside → Waiting
+waiting_in grey = record { list = grey.list; passed = grey.passed }

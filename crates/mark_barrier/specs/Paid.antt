@@ -1,8 +1,9 @@
 -- What holds between the whole steps of the mutator, and what such a step leaves.
-use Rattle.std.specs.Prelude.{◌≡◌, ◌≢◌, ◌⊎◌, ◌↔◌, ℕ, ◌+◌, ◌≤◌, ◌==◌, true, IsTrue, is_some, List, [], Contains}
+use Rattle.std.specs.Prelude.{◌≡◌, ◌≢◌, ◌⊎◌, ℕ, ◌+◌, ◌<◌, ◌≤◌, ◌==◌, true, IsTrue, is_some, List, [], ◌∷◌, ◌++◌, All}
+use Rattle.std.specs.Prelude.{Contains}
 use Rattle.std.specs.Prelude.{length, replicate, slice_index, slice_set, Option, Some, None, count_by}
 use Rattle.page_space.specs.Extents.{eden_start}
-use Rattle.cell_list.specs.Listing.{Listing, pushed}
+use Rattle.mark_barrier.specs.Waiting.{HasRoom, IsOn, Waiting, count_on}
 use Rattle.core_parts.specs.declared.note.Note.TheVariants.{Gave, Took}
 use Rattle.core_parts.specs.Boards.{empty_board, given_word, giver_left, taker_joined}
 use Rattle.core_parts.specs.Lists.{left}
@@ -17,20 +18,23 @@ use Rattle.shared_table.specs.Worlds.{world_at_home}
 use Rattle.heap_table.specs.Overviews.{cycle_in, known, overview, unopened}
 use Rattle.heap_table.specs.Seats.{Seat}
 
--- Listed are just the cells that wait with the mutator, and each is born.
-pub record ListsGrey (seat : Seat) (grey : Listing) : Type 0 where
-  pub bound : grey.bound ≡ eden_start seat.space
-  pub listed : (at : ℕ) → Contains grey.addresses at ↔ Contains (overview seat).view.grey at
-  pub born : AreIn (overview seat).view.born grey.addresses
+-- Each cell that waits with the mutator is listed or passed over. Each cell that is so is born, and waits or is one
+-- that the mutator made black.
+pub record ListsGrey (seat : Seat) (grey : Waiting) : Type 0 where
+  pub room : HasRoom grey (eden_start seat.space)
+  pub waits : (at : ℕ) → Contains (overview seat).view.grey at → IsOn grey at
+  pub was : (at : ℕ) → IsOn grey at → Contains (overview seat).view.grey at ⊎ Contains (overview seat).view.mine at
+  pub born : (at : ℕ) → IsOn grey at → Contains (overview seat).view.born at
 
--- Listed are just the others of them than one cell, and each is born.
-pub record ListsAllBut (seat : Seat) (grey : Listing) (cell : ℕ) : Type 0 where
-  pub bound : grey.bound ≡ eden_start seat.space
-  pub listed : (at : ℕ) → Contains grey.addresses at ↔ Contains (left (overview seat).view.grey cell) at
-  pub born : AreIn (overview seat).view.born grey.addresses
+-- The same, but that one cell that waits may be on neither list.
+pub record ListsAllBut (seat : Seat) (grey : Waiting) (cell : ℕ) : Type 0 where
+  pub room : HasRoom grey (eden_start seat.space)
+  pub waits : (at : ℕ) → Contains (left (overview seat).view.grey cell) at → IsOn grey at
+  pub was : (at : ℕ) → IsOn grey at → Contains (overview seat).view.grey at ⊎ Contains (overview seat).view.mine at
+  pub born : (at : ℕ) → IsOn grey at → Contains (overview seat).view.born at
 
--- Grey cells that wait with the mutator are listed, and it owes nothing.
-pub record IsPaid (seat : Seat) (grey : Listing) : Type 0 where
+-- Grey cells that wait with the mutator are on its lists, and it owes nothing.
+pub record IsPaid (seat : Seat) (grey : Waiting) : Type 0 where
   pub lists : ListsGrey seat grey
   pub owed : (overview seat).view.owed ≡ []
 
@@ -84,16 +88,47 @@ pub record IsGivenTo (old new : Seat) (place at : ℕ) : Type 0 where
   pub log : (overview new).view.log ≡ noted (overview old).view.log (Gave place found)
   pub grey : (overview new).view.grey ≡ giver_left (overview old).view.grey found at
 
--- the cell that was listed last was given
-pub record GivesLast (old new : Seat) (listed : Listing) (place : ℕ) : Type 0 where
+-- where colours are at home, that of a cell is black
+abbrev pub IsBlackened : Seat → ℕ → Type 0
+IsBlackened seat at = (overview seat).home ≡ true → slice_index (overview seat).colours at ≡ black
+
+-- A cell is black where colours are at home, or was passed over before.
+abbrev pub IsPassedOver : Seat → Waiting → ℕ → Type 0
+IsPassedOver seat before at = IsBlackened seat at ⊎ Contains before.passed.addresses at
+
+-- Of the listed cells the last one was found that waits and is not black. It is on neither list any more. Those that
+-- were listed after it are passed over.
+pub record FindsLast (seat : Seat) (before after : Waiting) (at : ℕ) : Type 0 where
+  pub behind : List ℕ
+  pub listed : before.list.addresses ≡ after.list.addresses ++ at ∷ behind
+  pub passed : AreIn after.passed.addresses behind
+  pub black : All (IsPassedOver seat before) behind
+  pub waits : Contains (overview seat).view.grey at
+  pub born : Contains (overview seat).view.born at
+  pub below : at < eden_start seat.space
+  pub off : IsOn after at → ⊥
+  pub lists : ListsAllBut seat after at
+  pub owed : (overview seat).view.owed ≡ []
+
+-- No listed cell was found that is not black: each is passed over.
+pub record FindsNone (seat : Seat) (before after : Waiting) : Type 0 where
+  pub none : after.list.addresses ≡ []
+  pub passed : AreIn after.passed.addresses before.list.addresses
+  pub black : All (IsPassedOver seat before) before.list.addresses
+  pub paid : IsPaid seat after
+
+-- The last listed cell that waits and is not black was given. Those that were listed after it are passed over.
+pub record GivesLast (old new : Seat) (before after : Waiting) (place : ℕ) : Type 0 where
   pub at : ℕ
-  pub rest : Listing
-  pub last : listed ≡ pushed rest at
+  pub found : Waiting
+  pub last : FindsLast old before found at
+  pub passed : after.passed ≡ found.passed
   pub given : IsGivenTo old new place at
 
--- the last listed cell was given; with none listed nothing happens
-abbrev pub Gives : Seat → Seat → Listing → ℕ → Type 0
-Gives old new listed place = ((listed.addresses ≡ []) × (new ≡ old)) ⊎ GivesLast old new listed place
+-- a listed cell that waits and is not black was given, if there was one
+abbrev pub Gives : Seat → Seat → Waiting → Waiting → ℕ → Type 0
+Gives old new before after place =
+    (FindsNone old before after × (new ≡ old)) ⊎ GivesLast old new before after place
 
 -- Cells that waited were made black: own words, published and born cells, and what was found at the opening, are as
 -- before. Cells have joined those that the mutator made black, and those that it is sure of. Where its part was done it
@@ -120,12 +155,12 @@ pub record IsDropped (old new : Seat) : Type 0 where
   pub board : (overview new).board ≡ empty_board
   pub cycle : cycle_in new ≡ unopened
 
--- how many cells are white, of those whose colours are known, and how many are listed
-abbrev pub left_to_do : Seat → Listing → ℕ
-left_to_do seat grey = count_by (λ colour. colour == white) (overview seat).colours + length grey.addresses
+-- how many cells are white, of those whose colours are known, and how many are on the lists
+abbrev pub left_to_do : Seat → Waiting → ℕ
+left_to_do seat grey = count_by (λ colour. colour == white) (overview seat).colours + count_on grey
 
--- where colours are at home, white and listed cells are together not more than before
-abbrev pub AreNoMore : Seat → Listing → Seat → Listing → Type 0
+-- where colours are at home, white cells and those on the lists are together not more than before
+abbrev pub AreNoMore : Seat → Waiting → Seat → Waiting → Type 0
 AreNoMore old before new after = (overview old).home ≡ true → left_to_do new after ≤ left_to_do old before
 
 -- the list without a target
@@ -140,7 +175,3 @@ without_target old list word = left_by list (target old word)
 -- where colours are at home, that of a cell is not white
 abbrev pub IsColoured : Seat → ℕ → Type 0
 IsColoured seat at = (overview seat).home ≡ true → slice_index (overview seat).colours at ≢ white
-
--- where colours are at home, that of a cell is black
-abbrev pub IsBlackened : Seat → ℕ → Type 0
-IsBlackened seat at = (overview seat).home ≡ true → slice_index (overview seat).colours at ≡ black

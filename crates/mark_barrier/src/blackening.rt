@@ -10,28 +10,28 @@ ghost use Rattle.mark_barrier.specs.CycleSteps.{made_black};
 ghost use Rattle.mark_barrier.specs.Owing.{Owes, own_cell};
 ghost use Rattle.mark_barrier.specs.Paid.{AreNoMore, IsBlackened, IsPaid, ListsGrey, ListsAllBut, StepsTo};
 
+use crate::grey_cells::GreyCells;
 use crate::shading::{pages_end, shade_target};
 use cell_layout::{Cell, next_tagged};
-use cell_list::CellList;
 use core_parts::read_cell;
 use heap_table::{Colour, MainSeat};
 use mark_world::page_end;
 use tagged_word::{Word, shape};
 
 /// Makes a born cell black, and shades the targets of its tagged slots, unless it was black. It waits no more then.
-pub(crate) fn make_black(list: &mut CellList, seat: &mut MainSeat, at: u32)
+pub(crate) fn make_black(grey: &mut GreyCells, seat: &mut MainSeat, at: u32)
     requires mark { seat.old.phase ≡ Mark }
-    requires lists { ListsAllBut seat.old list.old at }
+    requires lists { ListsAllBut seat.old grey.old at }
     requires owed { (overview seat.old).view.owed ≡ [] }
     requires born { Contains (overview seat.old).view.born at }
     requires layouts { layouts_in seat.old.space seat.old.table ≡ (overview seat.old).layouts }
-    ensures paid { IsPaid seat.new list.new }
+    ensures paid { IsPaid seat.new grey.new }
     ensures steps { let old = overview seat.old in
         let cycle = made_black old.old old.words old.layouts (cycle_in seat.old) at in
         StepsTo seat.old seat.new seat.old.table cycle }
     ensures black { IsBlackened seat.new at }
     ensures settled { Settled (world_at_home (overview seat.old)) → Settled (world_at_home (overview seat.new)) }
-    ensures no_more { AreNoMore seat.old list.old seat.new list.new }
+    ensures no_more { AreNoMore seat.old grey.old seat.new grey.new }
 {
     // A born cell is of a page, and so are the targets of its tagged slots.
     seat.sound();
@@ -40,7 +40,7 @@ pub(crate) fn make_black(list: &mut CellList, seat: &mut MainSeat, at: u32)
         Colour::Black => {}
         _ => {
             let cell = known_cell(seat, at);
-            shade_slots(list, seat, &cell);
+            shade_slots(grey, seat, &cell);
         }
     }
 }
@@ -71,20 +71,20 @@ fn known_cell(seat: &MainSeat, at: u32) -> Cell
 }
 
 /// Shades the target of each tagged slot of a cell. Nothing is owed then.
-fn shade_slots(list: &mut CellList, seat: &mut MainSeat, cell: &Cell)
+fn shade_slots(grey: &mut GreyCells, seat: &mut MainSeat, cell: &Cell)
     requires mark { seat.old.phase ≡ Mark }
-    requires lists { ListsGrey seat.old list.old }
+    requires lists { ListsGrey seat.old grey.old }
     requires owes { Owes seat.old cell.now 0 }
-    ensures lists { ListsGrey seat.new list.new }
+    ensures lists { ListsGrey seat.new grey.new }
     ensures owed { (overview seat.new).view.owed ≡ [] }
     ensures steps { StepsTo seat.old seat.new seat.old.table (cycle_in seat.old) }
-    ensures no_more { AreNoMore seat.old list.old seat.new list.new }
+    ensures no_more { AreNoMore seat.old grey.old seat.new grey.new }
 {
     seat.colours_fit();
     let mut from = 0;
     while let Some(offset) = next_tagged(cell, from) {
         let word = Word(seat.slot(cell.at, offset));
-        shade_target(list, seat, word);
+        shade_target(grey, seat, word);
         from = offset + 1;
     }
 }

@@ -1,9 +1,11 @@
 //! A cycle that is closed before its marking has ended.
-ghost use Rattle.std.specs.Prelude.{◌≡◌, true, []};
+ghost use Rattle.std.specs.Prelude.{◌≡◌, true};
+ghost use Rattle.page_space.specs.Extents.{eden_start};
 ghost use Rattle.core_parts.specs.Boards.{empty_board};
 ghost use Rattle.shared_table.specs.declared.phase.Phase.TheVariants.{Mark};
 ghost use Rattle.heap_table.specs.Overviews.{cycle_in, overview};
 ghost use Rattle.mark_barrier.specs.Paid.{IsDropped, IsPaid, StepsTo};
+ghost use Rattle.mark_barrier.specs.Waiting.{HasRoom, IsEmpty};
 
 use crate::grey_cells::GreyCells;
 use heap_table::MainSeat;
@@ -16,10 +18,12 @@ impl GreyCells {
         requires paid { IsPaid seat.old self.old }
         requires home { (overview seat.old).home ≡ true }
         ensures dropped { IsDropped seat.old seat.new }
-        ensures empty { self.new ≡ record self.old { addresses = [] } }
+        ensures empty { IsEmpty self.new }
+        ensures room { HasRoom self.new (eden_start seat.old.space) }
     {
         self.take_all(seat);
         self.list.clear();
+        self.passed.clear();
         seat.drop_cycle();
     }
 
@@ -28,7 +32,7 @@ impl GreyCells {
         requires mark { seat.old.phase ≡ Mark }
         requires paid { IsPaid seat.old self.old }
         requires home { (overview seat.old).home ≡ true }
-        ensures bound { self.new.bound ≡ self.old.bound }
+        ensures room { HasRoom self.new (eden_start seat.old.space) }
         ensures steps { StepsTo seat.old seat.new seat.old.table (cycle_in seat.old) }
         ensures empty { (overview seat.new).board ≡ empty_board }
     {

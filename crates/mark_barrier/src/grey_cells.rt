@@ -8,6 +8,7 @@ ghost use Rattle.shared_table.specs.declared.phase.Phase.TheVariants.{Mark};
 ghost use Rattle.heap_table.specs.Overviews.{cycle_in, MayStep, overview};
 ghost use Rattle.mark_barrier.specs.CycleSteps.{made_black, published, sure_of, sure_of_target};
 ghost use Rattle.mark_barrier.specs.Paid.{IsBlackened, IsColoured, IsPaid, Scans, StepsTo};
+ghost use Rattle.mark_barrier.specs.Waiting.{IsEmpty, empty_to};
 
 use crate::blackening::make_black;
 use crate::scanning::blacken_listed;
@@ -19,20 +20,24 @@ use std::alloc::Global;
 use std::marker::Model;
 use tagged_word::{NoMemory, Word};
 
-/// The cells that the mutator found white and shaded, which wait to be visited.
+/// The cells that the mutator found white and shaded, which wait to be visited. A cell that is made black stays on its
+/// list, since a list is not searched: what takes from it asks for the colour.
 #[derive(Drop)]
 pub struct GreyCells {
     pub(crate) list: CellList,
+    // Cells that were found black when one was to be given. They are kept, since one of them may wait still, and apart,
+    // so that each is looked at once.
+    pub(crate) passed: CellList,
 }
 
 impl Model for GreyCells {
-    ghost use Rattle.cell_list.specs.Listing.{Listing};
+    ghost use Rattle.mark_barrier.specs.Waiting.{Waiting};
 
-    ghost Value = { Listing };
+    ghost Value = { Waiting };
 
-    ghost use Rattle.mark_barrier.specs.Model.{listed_in};
+    ghost use Rattle.mark_barrier.specs.Model.{waiting_in};
 
-    ghost view = { listed_in };
+    ghost view = { waiting_in };
 }
 
 impl GreyCells {
@@ -41,10 +46,11 @@ impl GreyCells {
     /// # Errors
     /// Out of memory.
     pub fn new(alloc: Global, regions: Regions) -> Result<GreyCells, NoMemory>
-        ensures { IfOk result (λ grey. grey ≡ record { bound = eden_start regions; addresses = [] }) }
+        ensures { IfOk result (λ grey. grey ≡ empty_to (eden_start regions)) }
     {
         let list = CellList::new(alloc, pages_end(regions))?;
-        Ok(GreyCells { list })
+        let passed = CellList::new(alloc, pages_end(regions))?;
+        Ok(GreyCells { list, passed })
     }
 
     /// Shades a born cell.
@@ -58,7 +64,7 @@ impl GreyCells {
     {
         // A born cell is of a page.
         seat.sound();
-        shade_cell(&mut self.list, seat, at);
+        shade_cell(self, seat, at);
     }
 
     /// Stores a word in a slot of a page, and shades its target, if it has one in a page.
@@ -74,7 +80,7 @@ impl GreyCells {
         ensures coloured { OfTarget (eden_start seat.old.space) word.0 (IsColoured seat.new) }
     {
         seat.store_slot(a, word.0);
-        shade_target(&mut self.list, seat, word);
+        shade_target(self, seat, word);
     }
 
     /// Publishes a cell that was just made: it is black first.
@@ -92,7 +98,8 @@ impl GreyCells {
         seat.new_black(a);
     }
 
-    /// Makes a born cell black, and shades the targets of its tagged slots, unless it was black.
+    /// Makes a born cell black, and shades the targets of its tagged slots, unless it was black. No list is
+    /// searched for it.
     pub fn blacken(&mut self, seat: &mut MainSeat, at: u32)
         requires mark { seat.old.phase ≡ Mark }
         requires paid { IsPaid seat.old self.old }
@@ -104,10 +111,7 @@ impl GreyCells {
             StepsTo seat.old seat.new seat.old.table cycle }
         ensures black { IsBlackened seat.new at }
     {
-        // A born cell is of a page.
-        seat.sound();
-        self.list.remove(at);
-        make_black(&mut self.list, seat, at);
+        make_black(self, seat, at);
     }
 
     /// Visits the cells that wait, and those that are found by it, until none waits: each is made black.
@@ -118,9 +122,9 @@ impl GreyCells {
         requires layouts { layouts_in seat.old.space seat.old.table ≡ (overview seat.old).layouts }
         ensures paid { IsPaid seat.new self.new }
         ensures scans { Scans seat.old seat.new }
-        ensures none { self.new.addresses ≡ [] }
+        ensures none { IsEmpty self.new }
         ensures grey { (overview seat.new).view.grey ≡ [] }
     {
-        blacken_listed(&mut self.list, seat);
+        blacken_listed(self, seat);
     }
 }

@@ -1,5 +1,6 @@
 //! Seats that come back, with the cells that waited with them.
 ghost use Rattle.std.specs.Prelude.{◌≡◌, ◌↔◌, ◌<◌, ◌≤◌, [], ℕ, List, Contains, None};
+ghost use Rattle.page_space.specs.Extents.{eden_start};
 ghost use Rattle.shared_table.specs.declared.phase.Phase.TheVariants.{Mark};
 ghost use Rattle.shared_table.specs.Changes.{home_with, taking};
 ghost use Rattle.heap_table.specs.Overviews.{known, knowing, overview};
@@ -20,7 +21,7 @@ impl GreyCells {
         requires snap { helper.lent.view.snap ≡ None }
         requires visit { helper.lent.view.visit ≡ [] }
         requires listed { (at : ℕ) → Contains waiting.old.addresses at ↔ Contains helper.lent.view.grey at }
-        requires room { waiting.old.bound ≤ self.old.bound }
+        requires room { waiting.old.bound ≤ eden_start seat.old.space }
         ensures paid { IsPaid seat.new self.new }
         ensures taken { 1 < (overview seat.old).out →
             seat.new ≡ knowing seat.old seat.old.table (taking (overview seat.old) helper.lent.view) }

@@ -7,12 +7,10 @@ use Rattle.std.proofs.lemmas.List.Elements.{Contains-get_or}
 use Rattle.std.specs.List.{Contains, list_any}
 use Rattle.mark_laws.specs.Types.{Kind, LayoutWord, SnapSlot}
 use Rattle.tagged_word.specs.declared.layout.Kind.TheVariants as kind
-use Rattle.tagged_word.specs.Layouts.{IsLayout, IsLayoutOfKind, HasInObjectSlots}
-use Rattle.tagged_word.proofs.Members.{in_cases}
-use Rattle.tagged_word.proofs.Offsets.{in_object_is}
+use Rattle.tagged_word.specs.Layouts.{IsLayout, IsLayoutOfKind, HasInObjectSlots, in_object_most}
+use Rattle.tagged_word.proofs.Offsets.{IsPlainSlot, plain_slot_is}
 use Rattle.mark_world.specs.Naming.{is_in_page, known_size}
-use Rattle.tagged_word.specs.Cells.{cell_size, cell_words_most, has_length, in_object_offsets, marks_by_length}
-use Rattle.tagged_word.specs.Cells.{store_slot}
+use Rattle.tagged_word.specs.Cells.{cell_size, cell_words_most, has_length, marks_by_length, plain_head}
 use Rattle.tagged_word.specs.Cells.{tagged_offsets, tagged_offsets_of}
 use Rattle.tagged_word.proofs.Cells.{size_bounds, slot_within, tagged_is_scavenged}
 use Rattle.core_parts.specs.Lists.{is_in}
@@ -109,16 +107,13 @@ named_short start layout long is there = elim (asked_or_none layout.kind layout 
 
 -- the tagged slots of a plain cell lie within as many words as the longest has
 pub plain_short : (layout : LayoutWord) → IsLayout layout → layout.kind ≡ kind.Plain
-    → All (λ offset. offset < 10) (tagged_offsets layout 0)
+    → All (λ offset. offset < plain_head + in_object_most) (tagged_offsets layout 0)
 plain_short layout is plain k d l =
     let offset : ℕ = get_or (tagged_offsets layout 0) k d in
     let in_list = Contains-get_or (tagged_offsets layout 0) k d l in
     let slots : HasInObjectSlots layout = subst (λ k. IsLayoutOfKind k layout) plain is in
-    let plainly : Contains (store_slot ∷ in_object_offsets layout) offset =
-    subst (λ k. Contains (tagged_offsets_of k layout 0) offset) plain in_list in
-    elim (in_cases store_slot (in_object_offsets layout) offset plainly) [
-      | inl first ↦ omega (arith, first)
-      | inr other ↦
-          let place = in_object_is layout offset other in
-          omega (arith, place.used, place.behind, slots.used, slots.cap)
+    elim (plain_slot_is layout offset (subst (λ k. Contains (tagged_offsets_of k layout 0) offset) plain in_list)) [
+      | IsPlainSlot.store first ↦ omega (arith, first)
+      | IsPlainSlot.proto next ↦ omega (arith, next)
+      | IsPlainSlot.own place ↦ omega (arith, place.used, place.behind, slots.used, slots.cap)
     ]

@@ -16,7 +16,7 @@ ghost use Rattle.mark_core.specs.HeaderChange.{IsSureSlot};
 use crate::cells::{is_free, is_no_head, is_outside, leaves_all_alone, word_at};
 use crate::lists::has;
 use crate::naming::{is_read_out, is_shape, is_to_read, is_unread};
-use crate::safety::{is_safe, is_slot_word, laid_in};
+use crate::safety::{PLAIN_MOST, is_safe, is_slot_word, laid_in};
 use mark_world::{Event, HelperView, Laid, MainView, Snap, World, target};
 use page_space::BOARD_WORDS;
 use tagged_word::{Header, Kind, LayoutWord, Word};
@@ -55,9 +55,6 @@ fn may_store_owned(world: &World, at: u32) -> bool
     }
     leaves_all_alone(world, at)
 }
-
-/// The most words of a plain cell.
-const PLAIN_MOST: u32 = 10;
 
 /// Whether the mutator is sure of the target in a slot, if there is one.
 fn is_sure_at(world: &World, at: u32, offset: u32) -> bool

@@ -62,7 +62,7 @@ fn is_plain(kind: Kind) -> bool
 }
 
 /// The most words of a plain cell.
-const PLAIN_MOST: u32 = 10;
+pub(crate) const PLAIN_MOST: u32 = 11;
 
 /// Whether each slot that is tagged under one layout is tagged under another.
 fn includes(new: Laid, old: Laid) -> bool

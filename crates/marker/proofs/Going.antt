@@ -1,6 +1,6 @@
 -- Looks go round the board, and what a run of turns has made so far.
-use Rattle.std.proofs.Common.{◌≡◌, ◌≢◌, ℕ, ◌+◌, ◌-◌, ◌%◌, ◌<◌, Bool, List, [], ◌∷◌, ◌++◌, get_or, map, Contains}
-use Rattle.std.proofs.Common.{if◌then◌else◌}
+use Rattle.std.proofs.Common.{◌≡◌, ◌≢◌, ℕ, zero, suc, ◌+◌, ◌-◌, ◌%◌, ◌<◌, Bool, List, [], ◌∷◌, ◌++◌, get_or, map}
+use Rattle.std.proofs.Common.{Contains, if◌then◌else◌}
 use Rattle.std.proofs.Common.{append-nil, append_assoc, refl, sym, ap, subst, ◌∙◌, arith}
 use Rattle.std.specs.List.{range_with_len}
 use Rattle.std.proofs.lemmas.List.FromFn.{get_or-map-range_with_len, length-map-range_with_len, map-range_with_len_more}
@@ -79,6 +79,12 @@ not_begun log listed place low = record {
   looked = λ empty. refl;
 }
 
+-- where the last looks found nothing, no cell waits
+pub none_waits_idle : (before after : List Note) (listed : List ℕ) (made place idle : ℕ)
+    → (g : IsGoing before after listed made place idle) → looks g.new ≢ [] → listed ≡ []
+none_waits_idle before after listed made place zero g some = absurd (some g.places)
+none_waits_idle before after listed made place (suc idle) g some = g.none_waits (omega arith)
+
 module _ (before after later : List Note) (listed : List ℕ) (made place idle : ℕ)
     (g : IsGoing before after listed made place idle) where
   longer : (notes : List Note) → later ≡ after ++ notes → later ≡ before ++ (g.new ++ notes)
@@ -88,7 +94,7 @@ module _ (before after later : List Note) (listed : List ℕ) (made place idle :
   pub visits_on : (now : List ℕ) (to : ℕ) → AddsVisit after later → to < 64 → IsGoing before later now (made + 1) to 0
   visits_on now to visit low =
       let all : List Note = Loaded visit.cell ∷ visit.notes in
-      let none = no_looks [] visit.notes visit.none_more in
+      let none = no_looks visit.notes visit.none_more in
       record {
         new = g.new ++ all;
         from = to;

@@ -1,5 +1,5 @@
 -- The places that were looked at since the last visit.
-use Rattle.std.proofs.Common.{◌≡◌, ◌≢◌, inr, ℕ, Bool, true, false, List, [], ◌∷◌, ◌++◌, Contains}
+use Rattle.std.proofs.Common.{◌≡◌, ◌≢◌, ◌==◌, inr, ℕ, Bool, true, false, List, [], ◌∷◌, ◌++◌, Contains, if◌then◌else◌}
 use Rattle.std.proofs.Common.{None, refl, ap, ◌∙◌, arith}
 use Rattle.cell_list.specs.Listing.{Listing}
 use Rattle.core_parts.specs.declared.note.Note.{Note}
@@ -33,21 +33,28 @@ looked_join places (Took place found ∷ xs) ys = looked_join (places ++ place �
 -- in two lists no place is looked at twice without a visit between, where it is so in each, one after the other
 pub once_join : (places : List ℕ) (xs ys : List Note) → LooksOnce places xs → LooksOnce (looked_from places xs) ys
     → LooksOnce places (xs ++ ys)
-once_join places [] ys first then = then
-once_join places (Loaded at ∷ xs) ys first then = once_join [] xs ys first then
-once_join places (Coloured at found ∷ xs) ys first then = once_join places xs ys first then
-once_join places (Gave place found ∷ xs) ys first then = once_join places xs ys first then
-once_join places (Took place found ∷ xs) ys first then =
-    (first.0, first.1, once_join (places ++ place ∷ []) xs ys first.2 then)
+once_join places [] ys first next = next
+once_join places (Loaded at ∷ xs) ys first next = once_join [] xs ys first next
+once_join places (Coloured at found ∷ xs) ys first next = once_join places xs ys first next
+once_join places (Gave place found ∷ xs) ys first next = once_join places xs ys first next
+once_join places (Took place found ∷ xs) ys first next =
+    (first.0, first.1, once_join (places ++ place ∷ []) xs ys first.2 next)
+
+-- the same places, whether a cell was given or not
+either_way : (given : Bool) (places : List ℕ) → (if given then places else places) ≡ places
+either_way true places = refl
+either_way false places = refl
 
 -- notes with no turn look at nothing
-pub no_looks : (places : List ℕ) (notes : List Note) → turns notes ≡ 0
-    → (looks_from places notes ≡ places) × (looked_from places notes ≡ places) × LooksOnce places notes
-no_looks places [] none = (refl, refl, tt)
-no_looks places (Loaded at ∷ rest) none = absurd (omega (arith, none))
-no_looks places (Coloured at found ∷ rest) none = no_looks places rest (omega (arith, none))
-no_looks places (Gave place found ∷ rest) none = no_looks places rest (omega (arith, none))
-no_looks places (Took place found ∷ rest) none = absurd (omega (arith, none))
+pub no_looks : (notes : List Note) → turns notes ≡ 0
+    → (looks_from [] notes ≡ []) × (looked_from [] notes ≡ []) × LooksOnce [] notes
+no_looks [] none = (refl, refl, tt)
+no_looks (Loaded at ∷ rest) none = absurd (omega (arith, none))
+no_looks (Coloured at found ∷ rest) none = no_looks rest (omega (arith, none))
+no_looks (Gave place found ∷ rest) none =
+    let later = no_looks rest (omega (arith, none)) in
+    (ap (λ (places : List ℕ). looks_from places rest) (either_way (found == 0) []) ∙ later.0, later.1, later.2)
+no_looks (Took place found ∷ rest) none = absurd (omega (arith, none))
 
 -- an empty list has no member
 pub none_there : (at : ℕ) → Contains [] at → ⊥

@@ -16,11 +16,12 @@ abbrev pub turns : List Note → ℕ
 turns [] = 0
 turns (note ∷ rest) = turn note + turns rest
 
--- The places that had nothing in the looks since a cell was last visited or found, after one note more.
+-- The places that had nothing in the looks since a cell was last visited, found or given, after one note more. A cell
+-- that is given may stand on the board still.
 abbrev pub look_after : List ℕ → Note → List ℕ
 look_after places (Loaded at) = []
 look_after places (Coloured at found) = places
-look_after places (Gave place found) = places
+look_after places (Gave place found) = if found == 0 then [] else places
 look_after places (Took place found) = if found == 0 then places ++ place ∷ [] else []
 
 -- and after a list of notes

@@ -9,7 +9,7 @@ use std::thread::Threads;
 /// A heap that a script leaves, and cases of it.
 type Cases = (&'static str, &'static [Case]);
 
-/// At 2,048, 2,051 and 2,054 three objects in a chain, to which no variable refers any more, and at 2,057 one that `w`
+/// At 2,048, 2,052 and 2,056 three objects in a chain, to which no variable refers any more, and at 2,060 one that `w`
 /// is bound to.
 const CHAIN: Cases = (
     "new x 1\nnew y 1\nnew z 1\nnew w 0\nset x n y\nset y n z\nset z n 7\ndrop x\ndrop y\ndrop z",
@@ -18,36 +18,36 @@ const CHAIN: Cases = (
             what: "nothing is given",
             seen: &[],
             given: &[],
-            marked: &[2_057],
+            marked: &[2_060],
             maps: &[],
         },
         Case {
             what: "the chain is given as seen",
-            seen: &[2_048, 2_051, 2_054],
+            seen: &[2_048, 2_052, 2_056],
             given: &[],
-            marked: &[2_048, 2_051, 2_054, 2_057],
+            marked: &[2_048, 2_052, 2_056, 2_060],
             maps: &[],
         },
         Case {
             what: "the first of the chain is seen, and leads to a given one",
             seen: &[2_048],
-            given: &[2_051],
-            marked: &[2_048, 2_051, 2_054, 2_057],
+            given: &[2_052],
+            marked: &[2_048, 2_052, 2_056, 2_060],
             maps: &[],
         },
         Case {
             what: "the last one is given",
             seen: &[],
-            given: &[2_054],
-            marked: &[2_054, 2_057],
+            given: &[2_056],
+            marked: &[2_056, 2_060],
             maps: &[],
         },
     ],
 );
 
-/// In the page a map at 0, two keys at 3 and 5, the table of 4 pairs that the map outgrew at 7, and the boxes of the
-/// two values at 17 and 19. In eden a third key at 2,048, the map's table at 2,050, and the box of the third value at
-/// 2,068. The first two keys are bound to no variable.
+/// In the page a map at 0, two keys at 3 and 6, the table of 4 pairs that the map outgrew at 9, and the boxes of the
+/// two values at 19 and 21. In eden a third key at 2,048, the map's table at 2,051, and the box of the third value at
+/// 2,069. The first two keys are bound to no variable.
 const MAP: Cases = (
     "weak m\nnew g 0\nnew d 0\nwput m g 5000000000\nwput m d 5000000001\nmark\n\
         new y 0\nwput m y 5000000002\ndrop g\ndrop d",
@@ -56,34 +56,34 @@ const MAP: Cases = (
             what: "no start: one key is live",
             seen: &[],
             given: &[],
-            marked: &[0, 2_048, 2_050, 2_068],
+            marked: &[0, 2_048, 2_051, 2_069],
             maps: &[0],
         },
         Case {
             what: "all live cells are seen",
-            seen: &[0, 2_048, 2_050, 2_068],
+            seen: &[0, 2_048, 2_051, 2_069],
             given: &[],
-            marked: &[0, 2_048, 2_050, 2_068],
+            marked: &[0, 2_048, 2_051, 2_069],
             maps: &[0],
         },
         Case {
             what: "the map is seen: a given key, a young one, and a dead one",
             seen: &[0],
             given: &[3],
-            marked: &[0, 3, 17, 2_048, 2_050, 2_068],
+            marked: &[0, 3, 19, 2_048, 2_051, 2_069],
             maps: &[0],
         },
         Case {
             what: "the given key is seen too",
             seen: &[3, 0],
             given: &[],
-            marked: &[0, 3, 17, 2_048, 2_050, 2_068],
+            marked: &[0, 3, 19, 2_048, 2_051, 2_069],
             maps: &[0],
         },
     ],
 );
 
-/// An object at 2,048, a list at 2,050 with its store at 2,059, and at 2,053 the store that the list outgrew, which
+/// An object at 2,048, a list at 2,051 with its store at 2,060, and at 2,054 the store that the list outgrew, which
 /// alone refers to the object.
 const STORE: Cases = (
     "new x 0\nlist l\npush l x\npush l 1\npush l 1\npush l 1\npush l 1\nput l 0 1\ndrop x",
@@ -92,28 +92,28 @@ const STORE: Cases = (
             what: "no start: the list and its store are live",
             seen: &[],
             given: &[],
-            marked: &[2_050, 2_059],
+            marked: &[2_051, 2_060],
             maps: &[],
         },
         Case {
             what: "all live cells are seen, in another order",
-            seen: &[2_059, 2_050],
+            seen: &[2_060, 2_051],
             given: &[],
-            marked: &[2_050, 2_059],
+            marked: &[2_051, 2_060],
             maps: &[],
         },
         Case {
             what: "a store is given that no object names",
             seen: &[],
-            given: &[2_053],
-            marked: &[2_048, 2_050, 2_053, 2_059],
+            given: &[2_054],
+            marked: &[2_048, 2_051, 2_054, 2_060],
             maps: &[],
         },
         Case {
             what: "it is seen, and leads to a given object",
-            seen: &[2_053],
+            seen: &[2_054],
             given: &[2_048],
-            marked: &[2_048, 2_050, 2_053, 2_059],
+            marked: &[2_048, 2_051, 2_054, 2_060],
             maps: &[],
         },
     ],

@@ -61,20 +61,26 @@ pub(crate) const OBJECTS: [Pair; 9] = [
             (&[Word(2_240, 3)], COPY, "a root that is undefined", false),
             (&[Word(2_241, 1)], COPY, "another second root word", false),
             (&[Word(2_176, 4_294_967_330)], COPY, "another number", false),
-            (&[Word(2_176, 22)], COPY, "a box in its place", false),
             (
-                &[Word(2_176, 38), Word(2_178, 7), Survivors(3)],
+                &[Word(2_176, 22), Word(2_178, 26)],
+                COPY,
+                "a box in its place",
+                false,
+            ),
+            (
+                &[Word(2_176, 38), Word(2_179, 7), Survivors(4)],
                 COPY,
                 "a copy that is a word longer",
                 false,
             ),
             (
-                &[Word(2_176, 26), Word(2_177, 26)],
+                &[Word(2_176, 26), Word(2_177, 26), Word(2_178, 26)],
                 COPY,
-                "two free words in its place",
+                "three free words in its place",
                 false,
             ),
             (&[Word(2_177, 7)], COPY, "a hole for its store", false),
+            (&[Word(2_178, 8_705)], COPY, "a prototype", false),
             (
                 &[Word(0, 26), Word(1, 30), Word(2, 2_047)],
                 COPY,
@@ -88,7 +94,13 @@ pub(crate) const OBJECTS: [Pair; 9] = [
                 false,
             ),
             (
-                &[Word(0, 34), Word(1, 3), Word(2, 30), Word(3, 2_046)],
+                &[
+                    Word(0, 34),
+                    Word(1, 3),
+                    Word(2, 3),
+                    Word(3, 30),
+                    Word(4, 2_045),
+                ],
                 COPY,
                 "an object that is from none",
                 false,
@@ -99,7 +111,7 @@ pub(crate) const OBJECTS: [Pair; 9] = [
                 "a box that is from none",
                 false,
             ),
-            (&[Survivors(3)], COPY, "a survivor word more", false),
+            (&[Survivors(4)], COPY, "a survivor word more", false),
             (
                 &[Word(2_251, 0)],
                 COPY,
@@ -114,7 +126,7 @@ pub(crate) const OBJECTS: [Pair; 9] = [
         new: b"new x 0\nscavenge\nscavenge",
         cases: &[
             (&[], PROMOTED, "the object in the page", true),
-            (&[], &[(2_176, 2)], "the gap behind it", false),
+            (&[], &[(2_176, 3)], "the gap behind it", false),
             (
                 &[Word(2_240, 8_705)],
                 PROMOTED,
@@ -122,7 +134,7 @@ pub(crate) const OBJECTS: [Pair; 9] = [
                 false,
             ),
             (
-                &[Word(3, 2_045), Word(2_047, 26)],
+                &[Word(4, 2_044), Word(2_047, 26)],
                 PROMOTED,
                 "a gap that is a word shorter, and a free word",
                 true,
@@ -181,7 +193,7 @@ pub(crate) const OBJECTS: [Pair; 9] = [
         old: b"new x 1\nset x a 1",
         new: b"new x 1\nset x a undefined\nscavenge",
         cases: &[(
-            &[Word(2_178, 2)],
+            &[Word(2_179, 2)],
             COPY,
             "a path of another representation",
             false,

@@ -58,7 +58,7 @@ pub record BindsFirst (old mid bound new : Mutator) (x at : ℕ) (one : NewCell)
   pub put : new.seat ≡ (with_table bound (with_range bound.seat.table at one.words)).seat
   pub paths : new.paths ≡ bound.paths
   pub young : new.young ≡ bound.young
-  pub touches : Touches bound new (new_touch one.size at)
+  pub touches : Touches bound new (new_touch one.head one.size at)
   pub within : at + length one.words ≤ length mid.seat.table
   pub behind : at + length one.words ≤ root_at mid.seat.space x
   pub pages : mid.recorded.bound ≤ root_at mid.seat.space x
@@ -86,7 +86,7 @@ module _ {old mid bound new : Mutator} {x at : ℕ} {one : NewCell} (binds : Bin
       (omega (arith, below, binds.pages))
 
   -- in pages nothing was touched but by the cell
-  touches : Touches mid (filled_first mid new at one.words) (new_touch one.size at)
+  touches : Touches mid (filled_first mid new at one.words) (new_touch one.head one.size at)
   touches =
       let filled = filled_first mid new at one.words in
       let first : Touches mid bound untouched =
@@ -98,7 +98,8 @@ module _ {old mid bound new : Mutator} {x at : ℕ} {one : NewCell} (binds : Bin
       (λ a below.
       sym (ap (λ (seat : Seat). slice_get seat.table a) seat_is
       ∙ beside (with_range mid.seat.table at one.words) a (omega (arith, below, bounds)))) in
-      touch_alike (λ a below. none_after (new_touch one.size at a)) (then_touch (then_touch first binds.touches) last)
+      touch_alike (λ a below. none_after (new_touch one.head one.size at a))
+      (then_touch (then_touch first binds.touches) last)
 
   -- so it is made as if the cell had been put first
   pub makes_first : MakesObject old mid (filled_first mid new at one.words) new x at one

@@ -130,11 +130,12 @@ module _ {old new : Mutator} {graph after : Graph} {rooms : ℕ → Room} (one :
   -- `set`
   pub keeps_set : {x at : ℕ} {plain : PlainObject} {from to : ℕ} (f : ℕ) (v : Operand) (fields : List Field)
       → IsKnown as_plain graph x (Ref plain.number) plain → IsPlainAt old graph at plain
-      → after.objects ≡ slice_set graph.objects plain.number (Plain plain.cap fields)
+      → after.objects ≡ slice_set graph.objects plain.number (Plain plain.cap plain.proto fields)
       → ChangesObject (heap_of old) (heap_of new) from to at (set_capacity (capacity_at (heap_of old) at) plain f)
       → KeepsStores (heap_of old) (heap_of new) graph after (command.Set x f v) rooms
   keeps_set {x} {at} {plain} f v fields known stands objects changes =
-      gives_object (command.Set x f v) (Plain plain.cap fields) _ refl stands.object stands.reached stands.place objects
+      gives_object (command.Set x f v) (Plain plain.cap plain.proto fields) _ refl stands.object stands.reached
+      stands.place objects
       (ap (λ found. changed rooms found (λ (one : PlainObject).
       with_capacity rooms one.number (set_capacity (rooms one.number).capacity one f))) (known_is known)
       ∙ ap (λ (room : Room). with_room rooms plain.number

@@ -1,6 +1,7 @@
 -- The cell of a plain object that was just made: its words, and what it is.
 use Rattle.std.proofs.Common.{◌≡◌, ℕ, zero, suc, ◌+◌, List, [], length, replicate}
-use Rattle.std.proofs.Common.{◌≤◌, Some, slice_get, refl, sym, ◌∙◌, ap, subst, arith}
+use Rattle.std.proofs.Common.{◌≤◌, ◌<◌, Some, slice_get, refl, sym, ◌∙◌, ap, subst, arith, inl, inr}
+use Rattle.std.proofs.lemmas.Bool.{cases_eq}
 use Rattle.std.proofs.Math.Seq.{take-nil}
 use Rattle.std.proofs.lemmas.List.{append-nil, length-replicate}
 use Rattle.std.proofs.lemmas.Option.{none-some, same_Some}
@@ -9,14 +10,14 @@ use Rattle.heap_model.specs.Types.{Header, LayoutWord, Path, PathField}
 use Rattle.tagged_word.specs.declared.layout.Kind.TheVariants as kind
 use Rattle.tagged_word.specs.Headers.{IsHeader}
 use Rattle.tagged_word.specs.Layouts.{layout_bits}
-use Rattle.tagged_word.specs.Cells.{cell_size}
+use Rattle.tagged_word.specs.Cells.{cell_size, store_slot, proto_slot, plain_head}
 use Rattle.shape_tree.specs.Shapes.{IsShapeOf}
 use Rattle.heap_command.specs.Commands.{cap_most}
 use Rattle.shape_tree.specs.ShapeLayouts.{raw_mask, layout_of, layout_word}
 use Rattle.shape_tree.proofs.PathLayouts.{layout_word-path}
 use Rattle.heap_model.specs.Heaps.{Heap, words_of_cell}
 use Rattle.heap_model.specs.Slots.{undefined_word, hole_word, HoldsStore}
-use Rattle.heap_model.specs.Kinds.{HasSlots, HoldFields, IsPlainCell}
+use Rattle.heap_model.specs.Kinds.{HasWord, HasSlots, HoldFields, IsProtoWord, IsPlainCell}
 use Rattle.heap_model.specs.Showing.{ShowsPlain}
 use Rattle.mutator.specs.Making.{empty_plain}
 use Rattle.mutator.proofs.NewCells.{NewCell, cell_of, RefersNowhere}
@@ -44,10 +45,16 @@ layout_of-no_fields cap =
 -- what the cell of such an object is made of
 abbrev pub plain_cell : Header → ℕ → NewCell
 plain_cell header cap =
-    record { header = header; layout = empty_layout cap; size = 2 + cap; words = empty_plain header cap }
+    record {
+      header = header;
+      layout = empty_layout cap;
+      head = plain_head;
+      size = plain_head + cap;
+      words = empty_plain header cap;
+    }
 
 -- it has so many words
-pub length-empty_plain : (header : Header) (cap : ℕ) → length (empty_plain header cap) ≡ 2 + cap
+pub length-empty_plain : (header : Header) (cap : ℕ) → length (empty_plain header cap) ≡ plain_head + cap
 length-empty_plain header cap = omega (arith, length-replicate cap hole_word)
 
 -- an element of a list of the same ones is this one
@@ -73,6 +80,11 @@ empty_slots {heap} {cap = cap} is =
       are = sym (append-nil (replicate cap hole_word));
     })
 
+-- it has no prototype
+pub empty_is_bare : {heap : Heap} {at : ℕ} {header : Header} {cap : ℕ} → IsEmptyCell heap at header cap
+    → HasWord (words_of_cell heap (cell_of at (plain_cell header cap))) proto_slot undefined_word
+empty_is_bare is = ap (λ words. slice_get words proto_slot) is.words
+
 -- so it is sound
 pub empty_is_sound : {heap : Heap} {at : ℕ} {header : Header} {cap : ℕ} → IsEmptyCell heap at header cap
     → IsPlainCell heap (cell_of at (plain_cell header cap)) (words_of_cell heap (cell_of at (plain_cell header cap)))
@@ -86,6 +98,9 @@ empty_is_sound {heap} {at} {header} {cap} is =
       shape = is.shaped.is_shape;
       slots = replicate cap hole_word;
       has = empty_slots is;
+      proto = undefined_word;
+      proto_has = empty_is_bare is;
+      proto_is = IsProtoWord.none;
       hold = subst (λ path. HoldFields heap path (replicate cap hole_word)) (sym is.shaped.of_path) hold;
     }
 
@@ -102,8 +117,18 @@ empty_shows {cap = cap} is = record {
 }
 
 -- the size of the cell is that of its layout
-size_is : (cap : ℕ) → cap ≤ cap_most → cell_size (empty_layout cap) 0 ≡ Some (2 + cap)
+size_is : (cap : ℕ) → cap ≤ cap_most → cell_size (empty_layout cap) 0 ≡ Some (plain_head + cap)
 size_is cap few = grind (arith, nat_tests)
+
+-- the words behind its header are `undefined` up to the slots of fields
+head_word : (header : Header) (cap offset : ℕ) → store_slot ≤ offset → offset < plain_head
+    → HasWord (empty_plain header cap) offset undefined_word
+head_word header cap offset from below = elim (cases_eq offset store_slot) [
+  | inl same ↦ subst (λ n. HasWord (empty_plain header cap) n undefined_word) (sym same) refl
+  | inr apart ↦
+      let same : proto_slot ≡ offset = omega (arith, from, below, apart) in
+      subst (λ n. HasWord (empty_plain header cap) n undefined_word) same refl
+]
 
 -- it is that of an object without a store
 pub plain_fresh : (header : Header) (cap : ℕ) → IsHeader header → cap ≤ cap_most → RefersNowhere (plain_cell header cap)
@@ -114,8 +139,10 @@ plain_fresh header cap is_header few = record {
   is_layout = record { cap = few; used = omega arith; raw = omega arith };
   no_length = refl;
   sized = size_is cap few;
+  some = omega arith;
+  within = omega arith;
   offsets = refl;
-  slot = refl;
+  slots = λ offset from below. head_word header cap offset from below;
 }
 
 -- the layout word of its shape is that of its layout

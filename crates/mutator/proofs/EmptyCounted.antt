@@ -1,5 +1,6 @@
 -- The cell of a list without elements, or of a weak map without entries, that was just made: its words, and what it is.
-use Rattle.std.proofs.Common.{◌≡◌, ℕ, ◌<◌, Bool, false, List, [], ◌∷◌, Some, refl, arith}
+use Rattle.std.proofs.Common.{◌≡◌, ℕ, ◌-◌, ◌<◌, Bool, false, List, [], Some, refl, subst, arith}
+use Rattle.std.specs.List.{range_with_len}
 use Rattle.std.proofs.lemmas.Option.{none-some}
 use Rattle.heap_model.specs.Types.{Header, Kind, Object, Path}
 use Rattle.tagged_word.specs.declared.layout.Kind.TheVariants as kind
@@ -11,7 +12,7 @@ use Rattle.object_graph.specs.declared.object.Object.TheVariants.{Weak, List as 
 use Rattle.shape_tree.specs.ShapeLayouts.{layout_word}
 use Rattle.heap_model.specs.Heaps.{Heap}
 use Rattle.heap_model.specs.Slots.{undefined_word, HoldsStore}
-use Rattle.heap_model.specs.Kinds.{HasTable, IsSoundOf}
+use Rattle.heap_model.specs.Kinds.{HasWord, HasTable, IsSoundOf, count_offset}
 use Rattle.heap_model.specs.Showing.{ShowsObject}
 use Rattle.object_cells.proofs.RunCells.{bare_layout}
 use Rattle.mutator.specs.Making.{CountedCell, empty_counted, shape_of_counted}
@@ -20,7 +21,7 @@ use Rattle.mutator.proofs.NewCells.{NewCell, cell_of, RefersNowhere, CountsNone}
 -- what such a cell is made of
 abbrev pub counted_cell : Kind → Header → NewCell
 counted_cell k header =
-    record { header = header; layout = bare_layout k; size = 3; words = empty_counted header }
+    record { header = header; layout = bare_layout k; head = count_offset; size = 3; words = empty_counted header }
 
 -- Cells of the kind and the shape have three words, of which one may refer to a cell, and no length; where no store or
 -- table is there, they are sound and show this object.
@@ -28,7 +29,7 @@ pub record IsCountedKind (k : Kind) (shape : ℕ) (what : Object) : Type 0 where
   pub is_layout : IsLayout (bare_layout k)
   pub no_length : has_length k ≡ false
   pub sized : cell_size (bare_layout k) 0 ≡ Some 3
-  pub offsets : scavenge_offsets (bare_layout k) 0 ≡ store_slot ∷ []
+  pub offsets : scavenge_offsets (bare_layout k) 0 ≡ range_with_len store_slot (count_offset - store_slot)
   pub known : shape < shapes_most
   pub laid : (paths : List Path) → layout_word paths shape ≡ layout_bits (bare_layout k)
   pub sound : (heap : Heap) (at : ℕ) (header : Header)
@@ -127,6 +128,10 @@ counted_fresh header is is_header = record {
   is_layout = is.is_layout;
   no_length = is.no_length;
   sized = is.sized;
+  some = omega arith;
+  within = omega arith;
   offsets = is.offsets;
-  slot = refl;
+  slots = λ offset from below.
+      let same : store_slot ≡ offset = omega (arith, from, below) in
+      subst (λ n. HasWord (empty_counted header) n undefined_word) same refl;
 }

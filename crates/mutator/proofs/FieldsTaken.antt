@@ -57,7 +57,7 @@ own_path_there {main} {graph} {plain = plain} shows is lacks =
     let path : Path = path_of plain.cap plain.fields in
     let among : Contains graph.paths path =
     All-slice_get (HasItsPath graph.paths) graph.objects plain.number
-    (Plain plain.cap plain.fields) shows.is_graph.shaped
+    (Plain plain.cap plain.proto plain.fields) shows.is_graph.shaped
     is.object in
     let none : missing graph.paths path ≡ [] = missing-there graph.paths path shows.is_graph.paths among in
     let few = shows.shows.whole.sized.shapes.few in
@@ -113,8 +113,8 @@ taken_by {main = main} {graph = graph} {x} {at} names f (Some value) same taking
     ∙ reshape_done graph plain fields taken.shows.paths taken.shows.added)
     refl refl taking.known.bound stands.place taken.changes (room_for_none taking.shows) taken.uses (λ rooms has. refl)
     (λ rooms one fewer.
-    keeps_object one fewer (Del x f) (Plain plain.cap fields) (capacity_at (heap_of main) at) refl stands.object
-    stands.reached stands.place refl (one.has plain.number at _ stands.object stands.reached stands.place)
+    keeps_object one fewer (Del x f) (Plain plain.cap plain.proto fields) (capacity_at (heap_of main) at) refl
+    stands.object stands.reached stands.place refl (one.has plain.number at _ stands.object stands.reached stands.place)
     (λ number apart. refl) taken.changes)
 
 -- a field that was taken out, or was not there

@@ -73,23 +73,29 @@ module _ {main : Mutator} {graph : Graph} {value : Value} {found : Found}
 -- an object with the shape of a path is plain
 some_plain : (paths : List Path) (number shape : ℕ) (what : Object) → HasShapeOf paths what shape
     → first_path_shape ≤ shape
-    → IsRead as_plain (λ one. one.number) (λ one. Plain one.cap one.fields) number what
-some_plain paths number shape (Plain cap fields) shaped from =
-    record { one = record { number = number; cap = cap; fields = fields }; numbered = refl; is = refl; read = refl }
+    → IsRead as_plain (λ one. one.number) (λ one. Plain one.cap one.proto one.fields) number what
+some_plain paths number shape (Plain cap proto fields) shaped from =
+    record {
+      one = record { number = number; cap = cap; proto = proto; fields = fields };
+      numbered = refl;
+      is = refl;
+      read = refl;
+    }
 some_plain paths number shape (ListOf elements) shaped from = absurd (omega (arith, shaped, from))
 some_plain paths number shape (Weak entries) shaped from = absurd (omega (arith, shaped, from))
 
 -- one with a shape before those of paths is not
 none_plain : (paths : List Path) (number shape : ℕ) (what : Object) → HasShapeOf paths what shape
     → shape < first_path_shape → as_plain number what ≡ None
-none_plain paths number shape (Plain cap fields) shaped below = absurd (omega (arith, shaped.is_shape.from, below))
+none_plain paths number shape (Plain cap proto fields) shaped below =
+    absurd (omega (arith, shaped.is_shape.from, below))
 none_plain paths number shape (ListOf elements) shaped below = refl
 none_plain paths number shape (Weak entries) shaped below = refl
 
 -- an object with the shape of lists is a list
 some_list : (paths : List Path) (number shape : ℕ) (what : Object) → HasShapeOf paths what shape → shape ≡ list_shape
     → IsRead as_list (λ one. one.number) (λ one. ListOf one.elements) number what
-some_list paths number shape (Plain cap fields) shaped is = absurd (omega (arith, shaped.is_shape.from, is))
+some_list paths number shape (Plain cap proto fields) shaped is = absurd (omega (arith, shaped.is_shape.from, is))
 some_list paths number shape (ListOf elements) shaped is =
     record { one = record { number = number; elements = elements }; numbered = refl; is = refl; read = refl }
 some_list paths number shape (Weak entries) shaped is = absurd (omega (arith, shaped, is))
@@ -97,14 +103,14 @@ some_list paths number shape (Weak entries) shaped is = absurd (omega (arith, sh
 -- one with another shape is not
 none_list : (paths : List Path) (number shape : ℕ) (what : Object) → HasShapeOf paths what shape → shape ≢ list_shape
     → as_list number what ≡ None
-none_list paths number shape (Plain cap fields) shaped apart = refl
+none_list paths number shape (Plain cap proto fields) shaped apart = refl
 none_list paths number shape (ListOf elements) shaped apart = absurd (apart shaped)
 none_list paths number shape (Weak entries) shaped apart = refl
 
 -- an object with the shape of weak maps is a weak map
 some_weak : (paths : List Path) (number shape : ℕ) (what : Object) → HasShapeOf paths what shape → shape ≡ weak_shape
     → IsRead as_weak (λ one. one.number) (λ one. Weak one.entries) number what
-some_weak paths number shape (Plain cap fields) shaped is = absurd (omega (arith, shaped.is_shape.from, is))
+some_weak paths number shape (Plain cap proto fields) shaped is = absurd (omega (arith, shaped.is_shape.from, is))
 some_weak paths number shape (ListOf elements) shaped is = absurd (omega (arith, shaped, is))
 some_weak paths number shape (Weak entries) shaped is =
     record { one = record { number = number; entries = entries }; numbered = refl; is = refl; read = refl }
@@ -112,7 +118,7 @@ some_weak paths number shape (Weak entries) shaped is =
 -- one with another shape is not
 none_weak : (paths : List Path) (number shape : ℕ) (what : Object) → HasShapeOf paths what shape → shape ≢ weak_shape
     → as_weak number what ≡ None
-none_weak paths number shape (Plain cap fields) shaped apart = refl
+none_weak paths number shape (Plain cap proto fields) shaped apart = refl
 none_weak paths number shape (ListOf elements) shaped apart = refl
 none_weak paths number shape (Weak entries) shaped apart = absurd (apart shaped)
 
@@ -123,7 +129,7 @@ module _ {main : Mutator} {graph : Graph} {value : Value} {found : Found}
   unfolding refers_to
   finds_plain from =
       let of = some_plain main.paths object.number found.shape object.what object.shaped from in
-      let to = refers_to object as_plain (λ one. one.number) (λ one. Plain one.cap one.fields) of in
+      let to = refers_to object as_plain (λ one. one.number) (λ one. Plain one.cap one.proto one.fields) of in
       record {
         plain = to.one;
         is = to.is;

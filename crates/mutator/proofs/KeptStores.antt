@@ -80,7 +80,7 @@ pub room_stays : {old new : Mutator} {graph after : Graph} {rooms : ℕ → Room
     → IsAfter old new graph after rooms → InBoth graph after number what → IsPlace (heap_of old) number at
     → CellStands (heap_of old) (heap_of new) at → capacity_at (heap_of new) at ≡ capacity_at (heap_of old) at
     → room_at (heap_of new) at what ≡ room_at (heap_of old) at what
-room_stays number at (Plain cap fields) one both was stands keeps =
+room_stays number at (Plain cap proto fields) one both was stands keeps =
     ap (λ n. record { capacity = n; entries = 0 }) keeps
 room_stays number at (ListOf elements) one both was stands keeps =
     ap (λ n. record { capacity = n; entries = 0 }) keeps

@@ -1,7 +1,8 @@
 -- The commands that make objects, and the cells of the objects that they make.
-use Rattle.std.proofs.Common.{◌≡◌, ℕ, ◌+◌, ◌≤◌, ◌<◌, ◌^◌, [], length, refl, sym, subst, arith}
+use Rattle.std.proofs.Common.{◌≡◌, ℕ, ◌+◌, ◌≤◌, ◌<◌, ◌^◌, [], length, None, refl, sym, subst, arith}
 use Rattle.heap_model.specs.Types.{Header, Kind, Object, Cell}
 use Rattle.tagged_word.specs.Headers.{IsHeader}
+use Rattle.tagged_word.specs.Cells.{plain_head}
 use Rattle.object_graph.specs.declared.object.Object.TheVariants.{Plain}
 use Rattle.object_graph.specs.Graphs.{Graph, make}
 use Rattle.object_graph.specs.Reach.{reach}
@@ -14,7 +15,7 @@ use Rattle.heap_model.specs.Showing.{ShowsObject}
 use Rattle.nursery.specs.Young.{HasRoom}
 use Rattle.write_barrier.specs.MutatorState.{Mutator, MainShows}
 use Rattle.mutator.proofs.EmptyCells.{no_fields, plain_cell, plain_fresh, plain_laid, IsEmptyCell, empty_is_sound}
-use Rattle.mutator.proofs.EmptyCells.{empty_shows}
+use Rattle.mutator.proofs.EmptyCells.{empty_shows, empty_is_bare}
 use Rattle.mutator.proofs.EmptyCounted.{IsCountedKind, counted_cell, counted_fresh, object_of_counted}
 use Rattle.mutator.specs.Making.{CountedCell, making_of}
 use Rattle.mutator.proofs.NewCells.{cell_of, CountsNone}
@@ -26,7 +27,7 @@ use Rattle.mutator.proofs.MadeObjects.{IsMaking}
 
 -- what `new` makes
 pub plain_making : (graph : Graph) (x cap : ℕ) → FitsCommand (command.New x cap)
-    → IsMaking graph (command.New x cap) x (2 + cap) (Plain cap [])
+    → IsMaking graph (command.New x cap) x (plain_head + cap) (Plain cap None [])
 plain_making graph x cap few = record {
   fits = few;
   done = λ names. refl;
@@ -45,15 +46,21 @@ counted_making graph CountedCell.weak x =
 -- the layout word of a shape of paths is that of plain cells, so the cell of a plain object without fields is made
 pub plain_made : {main : Mutator} {graph : Graph} {header : Header} {cap : ℕ} (x : ℕ) → MainShows main graph
     → IsHeader header → cap ≤ cap_most → IsShapeOf main.paths (no_fields cap) header.shape
-    → HasRoom main.young (2 + cap) → header.object ≡ length graph.objects
-    → IsSoundNewCell main graph x (plain_cell header cap) (Plain cap [])
+    → HasRoom main.young (plain_head + cap) → header.object ≡ length graph.objects
+    → IsSoundNewCell main graph x (plain_cell header cap) (Plain cap None [])
 plain_made {main} {header = header} {cap} x shows is_header few shaped room carries =
     let sized = shows.shows.whole.sized in
     let fits = room_for (plain_cell header cap) shows (plain_fresh header cap is_header few)
     (omega (arith, shaped.is_shape.below, sized.shapes.few)) (plain_laid cap shaped) room in
     let is : IsEmptyCell (made_heap main (plain_cell header cap)) (next_at main) header cap =
     record { shaped = shaped; words = with_cell_words fits } in
-    record { fits = fits; sound = empty_is_sound is; shows = empty_shows is; counts = tt; carries = carries }
+    record {
+      fits = fits;
+      sound = empty_is_sound is;
+      shows = (empty_shows is, empty_is_bare is);
+      counts = tt;
+      carries = carries;
+    }
 
 -- and so is that of a list without elements, or of a weak map without entries
 pub counted_made : {main : Mutator} {graph : Graph} {k : Kind} {shape object : ℕ} {what : Object} (x : ℕ)

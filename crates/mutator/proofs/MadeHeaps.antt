@@ -61,7 +61,7 @@ pub record MakesObject (old mid filled new : Mutator) (x at : ℕ) (one : NewCel
   pub heap : heap_words filled.seat ≡ with_range (heap_words mid.seat) at one.words
   pub paths : filled.paths ≡ mid.paths
   pub young : filled.young ≡ mid.young
-  pub touches : Touches mid filled (new_touch one.size at)
+  pub touches : Touches mid filled (new_touch one.head one.size at)
   pub holds : HoldsAnew filled new x (held.Ref at)
 
 -- the heap with the cell

@@ -82,8 +82,7 @@ reaches_one_more {graph = graph} {command} {x} {what = what} is making number ma
 module _ {old mid filled new : Mutator} {graph : Graph} {command : Command} {x at : ℕ} {one : NewCell} {what : Object}
     (shows : MainShows old graph) (making : IsMaking graph command x one.size what)
     (makes : MakesObject old mid filled new x at one) (made : IsSoundNewCell old graph x one what)
-    (room : HasRoom old.young one.size) (some : 2 ≤ one.size)
-    (small : at < 2 ^ 32) (below : x < old.seat.space.variables) where
+    (room : HasRoom old.young one.size) (small : at < 2 ^ 32) (below : x < old.seat.space.variables) where
   -- the heap with the cell
   abbrev now : Heap
   now = made_heap old one
@@ -201,11 +200,11 @@ module _ {old mid filled new : Mutator} {graph : Graph} {command : Command} {x a
   -- the cell was made as it has to be recorded
   made_remembers : Remembers old filled [] [] (cell ∷ [])
   made_remembers = record {
-    touch = new_touch one.size at;
+    touch = new_touch one.head one.size at;
     touches = reserved_touch one.size
-        (subst (λ (main : Mutator). Touches main filled (new_touch one.size at)) makes.taken makes.touches);
-    cells = subst (λ a. TouchesCells (heap_of old) [] [] (cell ∷ []) (new_touch one.size a)) (sym makes.run)
-        (new_touches made.fits put some);
+        (subst (λ (main : Mutator). Touches main filled (new_touch one.head one.size at)) makes.taken makes.touches);
+    cells = subst (λ a. TouchesCells (heap_of old) [] [] (cell ∷ []) (new_touch one.head one.size a)) (sym makes.run)
+        (new_touches made.fits put);
   }
 
   -- so what is recorded stays right

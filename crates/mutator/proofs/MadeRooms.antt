@@ -37,7 +37,8 @@ put_has_none {now = now} {at} {one} fresh put =
     let cell : Cell = cell_of at one in
     let has = put.cells.comes cell (first_in cell []) in
     let slot : HasWord (words_of_cell now cell) store_slot undefined_word =
-    subst (λ (words : List ℕ). HasWord words store_slot undefined_word) (sym put.words) fresh.slot in
+    subst (λ (words : List ℕ). HasWord words store_slot undefined_word) (sym put.words)
+    (fresh.slots store_slot (omega arith) fresh.some) in
     capacity_of_none now at (word_stands store_slot undefined_word has slot)
 
 -- an object of the new heap stood, or it is the one that was put
@@ -60,7 +61,7 @@ put_or_stood {one = one} {at = at} put place apart =
 -- where the words of an object's cell say that no pair is filled, none is
 none_filled : {heap : Heap} {cell : Cell} {words : List ℕ} (what : Object) → HasCell heap cell words
     → CountsNone words what → entries_at heap cell.at what ≡ 0
-none_filled (Plain cap fields) has none = refl
+none_filled (Plain cap proto fields) has none = refl
 none_filled (ListOf elements) has none = refl
 none_filled (Weak entries) has none = word_of_cell count_offset 0 has none
 

@@ -61,8 +61,8 @@ object_at {main} {graph} number at shows place reached =
 -- the cell that shows an object has the object's shape
 shape_of_cell : (heap : Heap) (marks : List Bool) (cell : Cell) (words : List ℕ) (what : Object) → Whole heap
     → HasCell heap cell words → ShowsObject heap marks cell words what → HasShapeOf heap.paths what cell.header.shape
-shape_of_cell heap marks cell words (graph_object.Plain slots fields) whole has shows =
-    record { is_shape = (plain_sound whole has shows.of_kind).shape; of_path = shows.path }
+shape_of_cell heap marks cell words (graph_object.Plain slots proto fields) whole has shows =
+    record { is_shape = (plain_sound whole has shows.0.of_kind).shape; of_path = shows.0.path }
 shape_of_cell heap marks cell words (graph_object.List elements) whole has shows =
     omega (arith, other_has_fixed kind.List whole.sized has shows.of_kind (omega arith))
 shape_of_cell heap marks cell words (graph_object.Weak entries) whole has shows =
@@ -82,7 +82,7 @@ no_fixed_noun shape from = grind (arith, nat_tests)
 -- what the text of an object begins with is told by its shape
 noun_of_shape : (paths : List Path) (shape : ℕ) (what : Object) → HasShapeOf paths what shape
     → noun_by_shape shape ≡ noun what
-noun_of_shape paths shape (graph_object.Plain slots fields) shaped = no_fixed_noun shape shaped.is_shape.from
+noun_of_shape paths shape (graph_object.Plain slots proto fields) shaped = no_fixed_noun shape shaped.is_shape.from
 noun_of_shape paths shape (graph_object.List elements) shaped = ap noun_by_shape shaped
 noun_of_shape paths shape (graph_object.Weak entries) shaped = ap noun_by_shape shaped
 

@@ -1,5 +1,6 @@
 -- Words that are put in a row, where a cell is made: its header, its slot for a store, and what is behind them.
-use Rattle.std.proofs.Common.{◌≡◌, ℕ, ◌+◌, ◌≤◌, inl, inr, List, ◌∷◌, ◌∙◌, sym, ap, subst, arith}
+use Rattle.std.proofs.Common.{◌≡◌, ℕ, ◌+◌, ◌≤◌, inl, inr, List, ◌∷◌, ◌∙◌, refl, sym, ap, subst, arith}
+use Rattle.std.proofs.lemmas.Bool.{cases_eq}
 use Rattle.std.proofs.Common.{length, length-set, slice_get}
 use Rattle.std.specs.Prelude.{slice_set}
 use Rattle.page_space.specs.Extents.{marks_start}
@@ -7,12 +8,14 @@ use Rattle.tagged_word.specs.Cells.{store_slot}
 use Rattle.write_barrier.specs.Seats.{Seat, heap_words}
 use Rattle.heap_model.specs.Remembered.{Touch}
 use Rattle.write_barrier.specs.MutatorState.{Mutator, forgets, with_slot, with_table, with_word}
-use Rattle.write_barrier.specs.Recording.{Touches, touched, touched_one, touched_then}
+use Rattle.write_barrier.specs.Recording.{Touches, touched, touched_again, touched_one, touched_then}
 use Rattle.write_barrier.specs.Values.{with_range}
 use Rattle.write_barrier.proofs.PutRanges.{with_range-put, with_range_before, with_range_behind}
-use Rattle.write_barrier.proofs.Recording.{then_touch, wiped_touch, word_touch}
+use Rattle.write_barrier.proofs.Recording.{then_touch, touch_alike, wiped_touch, word_touch}
+use Rattle.write_barrier.proofs.TouchedRanges.{touched_inside, touched_outside, touched_other}
+use Rattle.object_cells.proofs.TouchedCells.{touched_cases}
 use Rattle.object_cells.proofs.TouchedWords.{then_stored}
-use Rattle.mutator.specs.Making.{new_touch}
+use Rattle.mutator.specs.Making.{head_touch}
 
 -- the seat with other words in the table
 abbrev with_words : Seat → List ℕ → Seat
@@ -63,19 +66,17 @@ module _ {main mid next : Mutator} {at first second : ℕ} (puts : PutsTwo main 
   two_young = ap (λ (now : Mutator). now.young) puts.two ∙ ap (λ (now : Mutator). now.young) puts.one
 
   -- how records are touched
-  two_touch : Touches main next (touched_then (touched_one Touch.Wiped at) (touched_one Touch.Stored (at + store_slot)))
+  pub two_touch : Touches main next (head_touch 2 at)
   two_touch =
       let mid_space : marks_start mid.seat.space ≡ marks_start main.seat.space =
       ap (λ (now : Mutator). marks_start now.seat.space) puts.one in
       let header : Touches main mid (touched_one Touch.Wiped at) =
       subst (λ (now : Mutator). Touches main now (touched_one Touch.Wiped at)) (sym puts.one)
       (word_touch main at first (omega (arith, puts.within))) in
-      then_stored (at + store_slot) second header puts.two puts.counted (omega (arith, puts.within, mid_space))
-
-  -- with what is behind them
-  pub row_touch : (new : Mutator) (size : ℕ) → Touches next new (touched Touch.Wiped (at + 2) (at + size))
-      → Touches main new (new_touch size at)
-  row_touch new size rest = then_touch two_touch rest
+      let end : at + store_slot + 1 ≡ at + 2 = omega arith in
+      subst (λ to. Touches main next (touched_then (touched_one Touch.Wiped at) (touched Touch.Stored (at + store_slot)
+      to))) end
+      (then_stored (at + store_slot) second header puts.two puts.counted (omega (arith, puts.within, mid_space)))
 
   -- where others are put in a row behind them, all are a row
   pub row_seat : (new : Mutator) (others : List ℕ) → at + 2 + length others ≤ length main.seat.table
@@ -89,6 +90,50 @@ module _ {main mid next : Mutator} {at first second : ℕ} (puts : PutsTwo main 
       (ap (λ place. with_range (slice_set headed (at + 1) second) place others) (omega arith)
       ∙ with_range-put headed others (at + 1) second (omega (arith, long, length-set main.seat.table at first))
       ∙ with_range-put main.seat.table (second ∷ others) at first (omega (arith, long)))
+
+-- what was touched twice and then once more was touched once and then twice
+touched_thrice : (first next last : Touch)
+    → touched_again (touched_again first next) last ≡ touched_again first (touched_again next last)
+touched_thrice first next Touch.Kept = refl
+touched_thrice first next Touch.Stored = refl
+touched_thrice first next Touch.Wiped = refl
+
+-- slots that were put, and then the one behind them, are slots that were put
+stored_more : (from to at : ℕ) → from ≤ to
+    → touched_then (touched Touch.Stored from to) (touched_one Touch.Stored to) at
+    ≡ touched Touch.Stored from (to + 1) at
+stored_more from to at begins = elim (cases_eq at to) [
+  | inl same ↦
+      ap (touched_again (touched Touch.Stored from to at))
+      (touched_inside Touch.Stored to (to + 1) at (omega (arith, same)) (omega (arith, same)))
+      ∙ sym (touched_inside Touch.Stored from (to + 1) at (omega (arith, same)) (omega (arith, same)))
+  | inr apart ↦
+      let longer : touched Touch.Stored from to at ≡ touched Touch.Stored from (to + 1) at =
+      elim (touched_cases Touch.Stored from to at) [
+        | inl inside ↦ inside.2 ∙ sym (touched_inside Touch.Stored from (to + 1) at inside.0 (omega (arith, inside.1)))
+        | inr outside ↦
+            outside.1
+            ∙ sym (touched_outside Touch.Stored from (to + 1) at (elim outside.0 [
+              | inl before ↦ inl before
+              | inr behind ↦ inr (omega (arith, behind, apart))
+            ]))
+      ] in
+      ap (touched_again (touched Touch.Stored from to at)) (touched_other Touch.Stored to at apart) ∙ longer
+]
+
+-- where the head of a cell was put, and then one slot behind it, a longer head was put
+pub head_grows : {main mid new : Mutator} (head at : ℕ) → store_slot ≤ head → Touches main mid (head_touch head at)
+    → Touches mid new (touched_one Touch.Stored (at + head)) → Touches main new (head_touch (head + 1) at)
+head_grows {main} {mid} {new} head at some first next =
+    let end : at + head + 1 ≡ at + (head + 1) = omega arith in
+    subst (λ to. Touches main new (touched_then (touched_one Touch.Wiped at) (touched Touch.Stored (at + store_slot)
+    to))) end
+    (touch_alike (λ a below. touched_thrice (touched_one Touch.Wiped at a)
+    (touched Touch.Stored (at + store_slot) (at + head) a) (touched_one Touch.Stored (at + head) a)
+    ∙ ap (touched_again (touched_one Touch.Wiped at a)) (stored_more (at + store_slot) (at + head) a (omega (
+      arith,
+      some,
+    )))) (then_touch first next))
 
 -- words that are forgotten and become others are wiped
 pub others_wiped : {next new : Mutator} (from to : ℕ) (table others : List ℕ) → from + length others ≡ to

@@ -77,7 +77,7 @@ pub record IsShownValue (main : Mutator) (held : Held) : Type 0 where
 
 -- The shape is that of the object's cell: a plain one has that of its path, lists and weak maps one each.
 abbrev pub HasShapeOf : List Path → Object → ℕ → Type 0
-HasShapeOf paths (kind.Plain cap fields) shape = IsShapeOf paths (path_of cap fields) shape
+HasShapeOf paths (kind.Plain cap proto fields) shape = IsShapeOf paths (path_of cap fields) shape
 HasShapeOf paths (kind.List elements) shape = shape ≡ list_shape
 HasShapeOf paths (kind.Weak entries) shape = shape ≡ weak_shape
 

@@ -1,9 +1,11 @@
 //! The command `new`: a new cell. And how the commands `list` and `weak` make theirs.
 ghost use Rattle.std.specs.Prelude.{◌≡◌, ℕ, ◌+◌, ◌<◌, ◌≤◌, List, [], length, OnOk};
 ghost use Rattle.tagged_word.specs.Headers.{IsHeader};
+ghost use Rattle.tagged_word.specs.Cells.{plain_head};
 ghost use Rattle.page_space.specs.Extents.{marks_start};
 ghost use Rattle.heap_command.specs.Commands.{IsWithin};
 ghost use Rattle.object_graph.specs.Graphs.{Graph};
+ghost use Rattle.heap_model.specs.Kinds.{count_offset};
 ghost use Rattle.write_barrier.specs.Seats.{heap_words};
 ghost use Rattle.write_barrier.specs.MutatorState.{MayStore, MainShows, with_table};
 ghost use Rattle.write_barrier.specs.Values.{with_range};
@@ -16,7 +18,7 @@ use crate::stop::Stop;
 use handle_roots::Held;
 use heap_command::Command;
 use heap_model::cells::COUNT;
-use tagged_word::cell::{PLAIN_HEAD, STORE_SLOT};
+use tagged_word::cell::{PLAIN_HEAD, PROTO_SLOT, STORE_SLOT};
 use tagged_word::{Header, Word, odd, shape};
 use write_barrier::Main;
 
@@ -68,7 +70,7 @@ impl Counted for WeakCell {
 /// Binds `x` to a new plain object with `cap` slots of its own and no field. `object` is the number
 /// of objects that were made, and becomes the new one's number.
 ///
-/// Stops with `NoRoom` where there is no room for the cell's words: two and one for each slot.
+/// Stops with `NoRoom` where there is no room for the cell's words: three and one for each slot.
 #[inline(always)]
 pub fn new_plain(main: &mut Main, x: u32, object: u32, cap: u32) -> Result<(), Stop>
     requires shown { (graph : Graph) × MainShows main.old graph × (object ≡ length graph.objects) }
@@ -85,7 +87,7 @@ pub fn new_plain(main: &mut Main, x: u32, object: u32, cap: u32) -> Result<(), S
     Ok(())
 }
 
-/// Makes the words at an address the cell of a plain object without fields.
+/// Makes the words at an address the cell of a plain object without fields and without a prototype.
 #[inline(always)]
 fn fill_plain(main: &mut Main, at: u32, header: Header, cap: u32)
     requires may_store { MayStore main.old }
@@ -97,11 +99,12 @@ fn fill_plain(main: &mut Main, at: u32, header: Header, cap: u32)
         heap_words main.new.seat ≡ with_range (heap_words main.old.seat) at words }
     ensures paths { main.new.paths ≡ main.old.paths }
     ensures young { main.new.young ≡ main.old.young }
-    ensures touches { Touches main.old main.new (new_touch (2 + cap) at) }
+    ensures touches { Touches main.old main.new (new_touch plain_head (plain_head + cap) at) }
 {
     main.addresses_fit();
     main.set_header(at, header);
     main.store(at, STORE_SLOT, Word::odd(odd::UNDEFINED));
+    main.store(at, PROTO_SLOT, Word::odd(odd::UNDEFINED));
     main.fill_holes(at + PLAIN_HEAD, cap);
 }
 
@@ -141,7 +144,7 @@ fn fill_counted(main: &mut Main, at: u32, header: Header)
         heap_words main.new.seat ≡ with_range (heap_words main.old.seat) at words }
     ensures paths { main.new.paths ≡ main.old.paths }
     ensures young { main.new.young ≡ main.old.young }
-    ensures touches { Touches main.old main.new (new_touch 3 at) }
+    ensures touches { Touches main.old main.new (new_touch count_offset 3 at) }
 {
     main.addresses_fit();
     main.set_header(at, header);

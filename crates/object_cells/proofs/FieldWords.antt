@@ -1,16 +1,15 @@
 -- The words of the fields of plain objects: what shows a field is a word of its representation, and a field that is not
 -- raw stands in a tagged slot.
 use Rattle.std.proofs.Common.{◌≡◌, ℕ, ◌+◌, ◌-◌, ◌<◌, Bool, true, false, List, Contains, Some, slice_get}
-use Rattle.std.proofs.Common.{nat_lt, ◌==◌, refl, sym, ◌∙◌, ap, subst, arith, inl, inr, get_or, length, length-take}
+use Rattle.std.proofs.Common.{nat_lt, ◌==◌, refl, sym, ◌∙◌, ap, subst, arith, get_or, length, length-take}
 use Rattle.std.specs.Prelude.{ℤ, option_map}
 use Rattle.std.proofs.lemmas.Bool.Decides.{nat_tests}
 use Rattle.std.proofs.lemmas.Option.{slice_get-map, slice_get-get_or}
 use Rattle.tagged_word.specs.declared.layout.Kind.TheVariants as kind
 use Rattle.heap_model.specs.Types.{LayoutWord, Value, Rep, Field, Path, PathField, Cell}
 use Rattle.tagged_word.specs.Layouts.{is_raw}
-use Rattle.tagged_word.specs.Cells.{scavenge_offsets, in_object_offsets, store_slot, plain_head}
-use Rattle.tagged_word.proofs.Members.{rest_in, in_cases}
-use Rattle.tagged_word.proofs.Offsets.{IsInObject, in_object_in, in_object_is}
+use Rattle.tagged_word.specs.Cells.{scavenge_offsets, in_object_offsets, plain_head}
+use Rattle.tagged_word.proofs.Offsets.{IsInObject, in_object_in, IsPlainSlot, plain_slot_is, plain_has_own}
 use Rattle.object_graph.specs.declared.value.Rep.TheVariants as rep
 use Rattle.object_graph.specs.Paths.{path_of}
 use Rattle.shape_tree.specs.Shapes.{IsPathShape, shape_path}
@@ -90,8 +89,7 @@ field_is_tagged {heap} {cell} at field sized has plain shape there not_raw below
     let test : nat_lt at cell.layout.cap ≡ true = grind (arith, nat_tests) in
     let own = in_object_tagged path at field there within (not_raw test) in
     let own_cell = subst (λ layout. Contains (in_object_offsets layout) (plain_head + at)) (sym laid) own in
-    let among = rest_in store_slot (in_object_offsets cell.layout) (plain_head + at) own_cell in
-    slots_by_kind cell kind.Plain (plain_head + at) plain among
+    slots_by_kind cell kind.Plain (plain_head + at) plain (plain_has_own cell.layout (plain_head + at) own_cell)
 
 -- the slot of this number is that of a field in the object that is not wide
 pub record IsTaggedField (path : Path) (slot : ℕ) : Type 0 where
@@ -107,10 +105,10 @@ tagged_is_field cell path slot laid tagged below =
     let within : slot < cell.layout.cap = subst (λ (layout : LayoutWord). slot < layout.cap) (sym laid) below in
     let among : Contains (scavenge_offsets (layout_of path) cell.length) offset =
     subst (λ layout. Contains (scavenge_offsets layout cell.length) offset) laid (tagged within) in
-    elim (in_cases store_slot (in_object_offsets (layout_of path)) offset among) [
-      | inl same ↦ absurd (omega (arith, same))
-      | inr in_object ↦
-          let own = in_object_is (layout_of path) offset in_object in
+    elim (plain_slot_is (layout_of path) offset among) [
+      | IsPlainSlot.store same ↦ absurd (omega (arith, same))
+      | IsPlainSlot.proto same ↦ absurd (omega (arith, same))
+      | IsPlainSlot.own own ↦
           let is : offset - plain_head ≡ slot = omega arith in
           let few : slot < length path.fields = omega (arith, own.used, length-take path.cap path.fields) in
           let field : PathField = get_or path.fields slot no_field in

@@ -32,25 +32,25 @@ value_reached graph (Ref number) is reached = reached number refl is
 
 -- the object is one of the graph
 object_is : (graph : Graph) (plain : PlainObject) → IsGraph graph
-    → slice_get graph.objects plain.number ≡ Some (Plain plain.cap plain.fields)
-    → IsObject (length graph.objects) (Plain plain.cap plain.fields)
+    → slice_get graph.objects plain.number ≡ Some (Plain plain.cap plain.proto plain.fields)
+    → IsObject (length graph.objects) (Plain plain.cap plain.proto plain.fields)
 object_is graph plain is there =
-    All-slice_get (IsObject (length graph.objects)) graph.objects plain.number (Plain plain.cap plain.fields) is.made
-    there
+    All-slice_get (IsObject (length graph.objects)) graph.objects plain.number
+    (Plain plain.cap plain.proto plain.fields) is.made there
 
 -- the values of an object that can be reached can be
 fields_reached : (graph : Graph) (plain : PlainObject) → IsGraph graph
-    → slice_get graph.objects plain.number ≡ Some (Plain plain.cap plain.fields)
+    → slice_get graph.objects plain.number ≡ Some (Plain plain.cap plain.proto plain.fields)
     → IsTrue (is_marked (reach graph) plain.number) → All (λ field. IsReachedValue graph field.value) plain.fields
 fields_reached graph plain is there marked =
     let count : ℕ = length graph.objects in
     let P : Field → Type 0 = λ field. IsReachedValue graph field.value in
     let each : (field : Field) → Contains plain.fields field → P field = λ field among.
     value_reached graph field.value
-    (All-contains (λ (f : Field). IsValue count f.value) plain.fields field (object_is graph plain is there).1.values
+    (All-contains (λ (f : Field). IsValue count f.value) plain.fields field (object_is graph plain is there).are.values
     among)
-    (λ number refers below. reach_closed graph plain.number (Plain plain.cap plain.fields) number there marked below
-    (field, among, refers)) in
+    (λ number refers below. reach_closed graph plain.number (Plain plain.cap plain.proto plain.fields) number there
+    marked below (inr (field, among, refers))) in
     All-weaker (Contains plain.fields) P each plain.fields (All-contains_itself plain.fields)
 
 -- limits that let each object have 64 fields
@@ -74,12 +74,12 @@ room_for None count lacks = elim (cases_lt count fields_most) [
 pub written_fields_are_new : WrittenFieldsAreNew
 written_fields_are_new graph plain name value is there marked lacks is_value reached =
     let object = object_is graph plain is there in
-    let few = fields_are_few graph plain.number plain.cap plain.fields is there in
+    let few = fields_are_few graph plain.number plain.cap plain.proto plain.fields is there in
     let room = room_for (field_value plain.fields name) (length plain.fields)
     (λ fresh full. lacks (record { fresh = fresh; full = full })) in
     record {
-      few = with_field_few wide_limits plain name value wide_limits_are object.0 room few;
-      are = with_field_held (length graph.objects) plain.fields name value is_value object.1;
+      few = with_field_few wide_limits plain name value wide_limits_are object.capped room few;
+      are = with_field_held (length graph.objects) plain.fields name value is_value object.are;
       reached = with_field_values (IsReachedValue graph) plain.fields name value reached
           (fields_reached graph plain is there marked);
     }
@@ -89,8 +89,9 @@ pub rest_of_fields_are_new : RestOfFieldsAreNew
 rest_of_fields_are_new graph plain name is there marked =
     let object = object_is graph plain is there in
     record {
-      few = without_field_few plain.fields name (fields_are_few graph plain.number plain.cap plain.fields is there);
-      are = without_field_held (length graph.objects) plain.fields name object.1;
+      few = without_field_few plain.fields name
+          (fields_are_few graph plain.number plain.cap plain.proto plain.fields is there);
+      are = without_field_held (length graph.objects) plain.fields name object.are;
       reached = without_field_values (IsReachedValue graph) plain.fields name
           (fields_reached graph plain is there marked);
     }

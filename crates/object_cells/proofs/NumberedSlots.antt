@@ -1,27 +1,26 @@
 -- The slots of an object by their numbers, and the addresses at which these stand.
-use Rattle.std.proofs.Common.{◌≡◌, ℕ, ◌+◌, ◌-◌, ◌≤◌, ◌<◌, List, length, drop, Contains, slice_get}
+use Rattle.std.proofs.Common.{◌≡◌, ◌≢◌, ℕ, ◌+◌, ◌-◌, ◌≤◌, ◌<◌, List, length, drop, Contains, slice_get}
 use Rattle.std.proofs.Common.{arith, IsTrue, refl, sym, ◌∙◌, ap, subst, inl, inr, length-drop}
 use Rattle.std.proofs.lemmas.Bool.{cases_lt, false≢true}
 use Rattle.std.proofs.lemmas.Option.{none-some, same_Some}
 use Rattle.tagged_word.specs.declared.layout.Kind.TheVariants as kind
-use Rattle.tagged_word.specs.Layouts.{HasInObjectSlots, IsLayoutOfKind}
-use Rattle.tagged_word.specs.Cells.{scavenge_offsets, in_object_offsets, store_head, store_slot, plain_head}
-use Rattle.tagged_word.specs.Cells.{is_object_kind}
-use Rattle.tagged_word.proofs.Members.{in_cases, in_range, range_bounds}
-use Rattle.tagged_word.proofs.Offsets.{in_object_is}
+use Rattle.tagged_word.specs.Cells.{scavenge_offsets, store_head, store_slot, proto_slot, plain_head, is_object_kind}
+use Rattle.tagged_word.proofs.Members.{in_range, range_bounds}
+use Rattle.tagged_word.proofs.Offsets.{IsPlainSlot, plain_slot_is}
 use Rattle.heap_model.specs.Types.{Cell}
 use Rattle.heap_model.specs.Heaps.{Heap, HasCell, words_of_cell}
 use Rattle.heap_model.specs.Slots.{RefersTo, HoldsStore}
 use Rattle.heap_model.specs.Kinds.{HasWord, HasSlots}
 use Rattle.heap_model.specs.Wholeness.{HasRows, HasSlotAt}
 use Rattle.heap_model.proofs.WordClasses.{undefined_refers_not}
-use Rattle.heap_model.proofs.CellsApart.{IsOfCell, has_is_cell, one_words, cells_apart}
+use Rattle.heap_model.proofs.CellsApart.{IsOfCell, one_words, cells_apart}
 use Rattle.heap_model.proofs.CellWords.{slice_get-drop, slice_get-append_left, words_by_kind, words_are_size}
 use Rattle.heap_model.proofs.CellWords.{slots_by_kind, slots_of_kind, behind_head, behind_head_few}
 use Rattle.heap_model.proofs.SlotWords.{same_target}
+use Rattle.object_cells.specs.OwnSlots.{NamesNone}
 use Rattle.object_cells.specs.SlotChanges.{IsTaggedSlot, HasTagged}
 use Rattle.object_cells.proofs.SlotNumbers.{HasAddress, IsSlotOf, HasNumbers}
-use Rattle.object_cells.proofs.SlotPlaces.{behind_cap}
+use Rattle.object_cells.proofs.SlotPlaces.{used_within, behind_cap}
 use Rattle.object_cells.proofs.SlotTargets.{object_words}
 
 -- The slot of this number of a plain object or a list stands at the address: in the object below its cap, and else in
@@ -33,9 +32,9 @@ pub data IsNumbered (heap : Heap) (cell : Cell) (words : List ℕ) (number at : 
       → RefersTo heap store other others → other.layout.kind ≡ kind.Store → number ≡ cell.layout.cap + k
       → at ≡ other.at + (store_head + k) → IsOfCell other at → IsNumbered heap cell words number at
 
--- the size of a plain object's cell is two more than its cap
+-- the size of a plain object's cell is its cap and the words of its head
 plain_size : {heap : Heap} {cell : Cell} {words : List ℕ} → HasCell heap cell words → cell.layout.kind ≡ kind.Plain
-    → cell.size ≡ 2 + cell.layout.cap
+    → cell.size ≡ plain_head + cell.layout.cap
 plain_size has plain = sym (words_are_size has) ∙ words_by_kind kind.Plain has plain
 
 -- and that of a store's cell two more than its length
@@ -107,33 +106,29 @@ slot_of_number {heap} {cell} {words} {slots} k word has plain are there tagged =
       (behind_cap k cell.layout.cap has plain are refl from ∙ there) (omega (arith, from))
 ]
 
+-- what the slot for the prototype holds names no store, table or box
+abbrev pub ProtoNamesNone : Heap → List ℕ → Type 0
+ProtoNamesNone heap words = (word : ℕ) → HasWord words proto_slot word → NamesNone heap word
+
 -- A slot of a plain object is that of its store, or a tagged one of some number.
 abbrev pub SlotKind : Heap → Cell → List ℕ → List ℕ → ℕ → ℕ → Type 0
 SlotKind heap cell words slots at word =
     IsSlotOf cell words (HasTagged cell slots) (IsNumbered heap cell words) at word
 
--- no more in-object slots are used than there are
-used_within : {heap : Heap} {cell : Cell} {words : List ℕ} → HasCell heap cell words → cell.layout.kind ≡ kind.Plain
-    → cell.layout.used ≤ cell.layout.cap
-used_within {cell = cell} has plain =
-    let is : HasInObjectSlots cell.layout =
-    subst (λ k. IsLayoutOfKind k cell.layout) plain (has_is_cell has).reads.is_layout in
-    is.used
-
--- a slot in the object's cell is one of these
+-- a slot in the object's cell that names something is one of these
 own_kind : {heap : Heap} {cell : Cell} {words slots : List ℕ} (offset word : ℕ) → HasCell heap cell words
-    → cell.layout.kind ≡ kind.Plain → HasSlots heap words slots
+    → cell.layout.kind ≡ kind.Plain → HasSlots heap words slots → ProtoNamesNone heap words
     → Contains (scavenge_offsets cell.layout cell.length) offset → HasWord words offset word
-    → SlotKind heap cell words slots (cell.at + offset) word
-own_kind {heap} {cell} {words} {slots} offset word has plain are there stands =
-    let among = slots_of_kind cell kind.Plain offset plain there in
-    elim (in_cases store_slot (in_object_offsets cell.layout) offset among) [
-      | inl same ↦ IsSlotOf.of_store (ap (λ n. cell.at + n) (sym same)) (ap (slice_get words) same ∙ stands)
-      | inr in_object ↦
-          let own = in_object_is cell.layout offset in_object in
+    → (NamesNone heap word → ⊥) → SlotKind heap cell words slots (cell.at + offset) word
+own_kind {heap} {cell} {words} {slots} offset word has plain are proto there stands names =
+    elim (plain_slot_is cell.layout offset (slots_of_kind cell kind.Plain offset plain there)) [
+      | IsPlainSlot.store same ↦
+          IsSlotOf.of_store (ap (λ n. cell.at + n) (sym same)) (ap (slice_get words) same ∙ stands)
+      | IsPlainSlot.proto same ↦ absurd (names (proto word (ap (slice_get words) same ∙ stands)))
+      | IsPlainSlot.own place ↦
           let k : ℕ = offset - plain_head in
-          let is : plain_head + k ≡ offset = omega (arith, own.behind) in
-          let below : k < cell.layout.cap = omega (arith, own.used, used_within has plain) in
+          let is : plain_head + k ≡ offset = omega (arith, place.behind) in
+          let below : k < cell.layout.cap = omega (arith, place.used, used_within has plain) in
           let of_cell : IsOfCell cell (cell.at + offset) =
           record { from = omega arith; below = omega (arith, below, is, plain_size has plain) } in
           let tagged : IsTaggedSlot cell k =
@@ -210,12 +205,13 @@ beside_kind {heap} {cell} store offset word has plain are slot refers there stan
     (sym (behind_cap number cap has plain are refl from) ∙ ap (slice_get are.beside) back ∙ found.there, tagged)
     found.numbered
 
--- each slot of a plain object is one of these
+-- each slot of a plain object that names something is one of these
 pub slot_kind : {heap : Heap} {cell : Cell} {words slots : List ℕ} {at word : ℕ} → HasCell heap cell words
-    → cell.layout.kind ≡ kind.Plain → HasSlots heap words slots → HasSlotAt heap cell words at word
-    → SlotKind heap cell words slots at word
-slot_kind has plain are (HasSlotAt.own offset word there stands) = own_kind offset word has plain are there stands
-slot_kind has plain are (HasSlotAt.beside store other others offset word slot refers there stands) =
+    → cell.layout.kind ≡ kind.Plain → HasSlots heap words slots → ProtoNamesNone heap words
+    → HasSlotAt heap cell words at word → (NamesNone heap word → ⊥) → SlotKind heap cell words slots at word
+slot_kind has plain are proto (HasSlotAt.own offset word there stands) names =
+    own_kind offset word has plain are proto there stands names
+slot_kind has plain are proto (HasSlotAt.beside store other others offset word slot refers there stands) names =
     beside_kind store offset word has plain are slot refers there stands
 
 -- one number has one address
@@ -256,30 +252,43 @@ one_number number other at rows has object (IsNumbered.beside store k cell other
     let same : cell ≡ cell' = cells_apart at rows refers.has refers'.has of_cell of_cell' in
     omega (arith, ap (λ (c : Cell). c.at) same, counts, counts', is, is')
 
--- no slot with a number is that of the store
-pub number_is_not_store : {heap : Heap} {cell : Cell} {words : List ℕ} (number at : ℕ) → HasRows heap
+-- no slot with a number is a word of the cell's head
+number_is_not_head : {heap : Heap} {cell : Cell} {words : List ℕ} (number at offset : ℕ) → HasRows heap
     → HasCell heap cell words → IsTrue (is_object_kind cell.layout.kind) → IsNumbered heap cell words number at
-    → at ≡ cell.at + store_slot → ⊥
-number_is_not_store number at rows has object (IsNumbered.own below is of_cell) same = omega (arith, is, same)
-number_is_not_store {cell = cell} number at rows has object
-    (IsNumbered.beside store k other others slot refers of_kind counts is of_cell) same =
-    let of_own : IsOfCell cell at =
-    record { from = omega (arith, same); below = omega (arith, same, object_size has object) } in
+    → offset < plain_head → offset < cell.size → at ≡ cell.at + offset → ⊥
+number_is_not_head number at offset rows has object (IsNumbered.own below is of_cell) head within same =
+    omega (arith, is, same, head)
+number_is_not_head {cell = cell} number at offset rows has object
+    (IsNumbered.beside store k other others slot refers of_kind counts is of_cell) head within same =
+    let of_own : IsOfCell cell at = record { from = omega (arith, same); below = omega (arith, same, within) } in
     object_is_no_store (cells_apart at rows has refers.has of_own of_cell) object of_kind
 
--- so the slots of an object have numbers, where each of the old ones has an address, and each of the new ones is that
--- of its store or has a number
+-- the address is none of the head of the plain object's cell
+abbrev pub NotInHead : Cell → ℕ → Type 0
+NotInHead cell at = (offset : ℕ) → offset < plain_head → cell.at + offset ≢ at
+
+-- no slot with a number of a plain object is one
+pub number_not_in_head : {heap : Heap} {cell : Cell} {words : List ℕ} (number at : ℕ) → HasRows heap
+    → HasCell heap cell words → cell.layout.kind ≡ kind.Plain → IsNumbered heap cell words number at
+    → NotInHead cell at
+number_not_in_head number at rows has plain numbered offset head same =
+    number_is_not_head number at offset rows has (ap is_object_kind plain) numbered head
+    (omega (arith, head, plain_size has plain)) (sym same)
+
+-- so the slots of an object have numbers, where each of the old ones has an address, and each of the new ones that
+-- names something is that of its store or has a number
 pub has_numbers : {old new : Heap} {cell came : Cell} {was is : ℕ → ℕ → Type 0} → HasRows old
     → HasCell old cell (words_of_cell old cell) → IsTrue (is_object_kind cell.layout.kind)
     → ((k word : ℕ) → was k word → SlotOfNumber old cell (words_of_cell old cell) k word)
-    → ((at word : ℕ) → HasSlotAt new came (words_of_cell new came) at word
+    → ((at word : ℕ) → HasSlotAt new came (words_of_cell new came) at word → (NamesNone new word → ⊥)
     → IsSlotOf came (words_of_cell new came) is (IsNumbered new came (words_of_cell new came)) at word)
     → HasNumbers old new cell came was (IsNumbered old cell (words_of_cell old cell)) is
     (IsNumbered new came (words_of_cell new came))
 has_numbers rows has object were are = record {
   were = were;
   one_number = λ k other at numbered numbered_too. one_number k other at rows has object numbered numbered_too;
-  not_store = λ k at numbered same. number_is_not_store k at rows has object numbered same;
-  are = λ at word named words slot refers owned. are at word slot;
+  not_store = λ k at numbered same. number_is_not_head k at store_slot rows has object numbered (omega arith)
+      (omega (arith, object_size has object)) same;
+  are = λ at word named words slot refers owned. are at word slot (λ none. none named words refers owned);
   one_address = one_address;
 }

@@ -48,7 +48,7 @@ pub record WritesObject (old new : Heap) (cell came : Cell) (others made : List 
   pub sized : HasSizes new
   pub stood : HasCell old cell (words_of_cell old cell)
   pub object : IsTrue (is_object_kind cell.layout.kind)
-  pub still_object : IsTrue (is_object_kind came.layout.kind)
+  pub same_kind : came.layout.kind ≡ cell.layout.kind
   pub place : came.at ≡ cell.at
   pub size : came.size ≡ cell.size
   pub number : came.header.object ≡ cell.header.object

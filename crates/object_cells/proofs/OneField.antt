@@ -23,8 +23,8 @@ use Rattle.object_cells.proofs.FieldsFound.{field_at}
 use Rattle.object_cells.proofs.PlainFields.{SlotsHeld, plain_sound, slots_held}
 use Rattle.object_cells.proofs.FieldWords.{path_field, field_is_tagged, tagged_is_field}
 use Rattle.object_cells.proofs.NumberedSlots.{IsNumbered}
-use Rattle.object_cells.proofs.SlotsNow.{PutsOwn, StoresStand, reshaped_stands, stores_stand, store_now, beside_now}
-use Rattle.object_cells.proofs.SlotsNow.{slot_now}
+use Rattle.object_cells.proofs.SlotsNow.{PutsOwn, StoresStand, reshaped_stands, stores_stand, store_now, proto_now}
+use Rattle.object_cells.proofs.SlotsNow.{beside_now, slot_now}
 use Rattle.object_cells.proofs.StoreCells.{store_at}
 
 -- The slots of the object in the new heap: as many, and its store is the same.
@@ -168,6 +168,7 @@ module _ {old new : Heap} {cell : Cell} {shape at word slot : ℕ} {others made 
     were = sets.shown.has;
     now = sets.after.now;
     are = sets.after.are;
+    proto = proto_now sets.puts;
     path = sets.path;
     enough = omega (arith, held.room, sets.after.long, length-set before slot field);
     refills = record {

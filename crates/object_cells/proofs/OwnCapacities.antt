@@ -7,7 +7,7 @@ use Rattle.heap_model.specs.Types.{Kind, Cell}
 use Rattle.tagged_word.specs.declared.layout.Kind.TheVariants as kind
 use Rattle.tagged_word.specs.declared.word.Class.TheVariants.{Ref}
 use Rattle.tagged_word.specs.Words.{IsClass}
-use Rattle.tagged_word.specs.Cells.{store_slot, has_length, is_object_kind}
+use Rattle.tagged_word.specs.Cells.{store_slot, has_length}
 use Rattle.tagged_word.proofs.Members.{first_in, rest_in, in_cases}
 use Rattle.page_space.specs.Extents.{Space, layouts_start}
 use Rattle.cell_layout.specs.Cells.{IsRow}
@@ -17,7 +17,6 @@ use Rattle.heap_model.specs.Slots.{reference_word, IsPlace}
 use Rattle.heap_model.specs.Wholeness.{NamesFrom, IsOwnedKind}
 use Rattle.heap_model.specs.Needs.{capacity_at}
 use Rattle.heap_model.proofs.CellOutcomes.{cells_move, object_is_no_filler, owned_is_no_filler, stays_standing}
-use Rattle.heap_model.proofs.CellsApart.{IsOfCell}
 use Rattle.heap_model.specs.Kinds.{HasWord}
 use Rattle.heap_model.proofs.OneOwner.{names_store, one_owner}
 use Rattle.heap_model.proofs.SlotWords.{IsStoreKind, store_is_owned}
@@ -26,10 +25,10 @@ use Rattle.object_cells.specs.OwnWords.{IsOwnWord}
 use Rattle.object_cells.specs.Capacities.{ChangesObject, IsOldOrOwn, WritesBeside, CapacitiesStay, CapacitiesGrow}
 use Rattle.object_cells.proofs.KeptCapacities.{capacity_of_store, slot_keeps, place_keeps, stands_there}
 use Rattle.object_cells.proofs.OwnerWrites.{plain_owns}
-use Rattle.object_cells.proofs.OwnSteps.{OwnWriting, own_writing, stood, went_object, came_object, own_places_stay}
-use Rattle.object_cells.proofs.OwnCells.{word_stays}
+use Rattle.object_cells.proofs.OwnSteps.{OwnWriting, own_writing, stood, still_object, went_object, came_object}
+use Rattle.object_cells.proofs.OwnSteps.{own_places_stay}
 use Rattle.object_cells.proofs.WrittenPlaces.{IsStoreOrBox}
-use Rattle.object_cells.proofs.SlotsNow.{PutsOwn, store_is_no_object, store_now, beside_stands, plain_cell_size}
+use Rattle.object_cells.proofs.SlotsNow.{PutsOwn, store_is_no_object, store_now, head_stays, beside_stands}
 
 -- a cell that is owned and has a length is a store or a table
 pub owned_is_store : (k : Kind) → IsOwnedKind k → IsTrue (has_length k) → IsStoreKind k
@@ -164,7 +163,7 @@ module _ {owner owned : Kind} {old new : Heap} {cell came : Cell} {others made :
         subst IsStoreKind (sym is) (owned_is_store owned writing.owns.belongs writing.owns.long) in
         IsOldOrOwn.named came (came.at + store_slot) own.step.place
         (names_store (reference_word other.at) (own.step.cells.comes came (first_in came (others ++ made)))
-        own.step.still_object (writing.stores other among is) (record { refers = refl; has = has }) store)
+        (still_object own.step) (writing.stores other among is) (record { refers = refl; has = has }) store)
     | inr boxed ↦ IsOldOrOwn.boxed boxed
   ]
 
@@ -219,8 +218,6 @@ pub one_keeps : {old new : Heap} {cell : Cell} {shape at word from to store : �
     → ((other : Cell) → Contains (others ++ made) other → other.layout.kind ≡ kind.Store
     → store ≡ reference_word other.at) → ChangesObject old new from to cell.at (capacity_at old cell.at)
 one_keeps {new = new} {cell} {shape} puts row belong kinds slot refers =
-    let within : store_slot < cell.size = omega (arith, plain_cell_size puts.has puts.plain) in
-    let of_cell : IsOfCell cell (cell.at + store_slot) = record { from = omega arith; below = omega (arith, within) } in
     object_keeps
     (record {
       owns = plain_owns;
@@ -231,6 +228,5 @@ one_keeps {new = new} {cell} {shape} puts row belong kinds slot refers =
       stores = λ other among is. subst (HasWord (words_of_cell new (reshaped new.paths cell shape)) store_slot)
           (refers other among is) (store_now puts slot);
     }) row
-    (word_stays (cell.at + store_slot) puts.whole puts.one puts.has
-    (object_is_no_filler cell.layout.kind (ap is_object_kind puts.plain)) of_cell (λ same. omega (arith, same))
-    puts.not_store)
+    (head_stays store_slot puts.whole puts.has puts.plain puts.one (omega arith) (omega arith)
+    (puts.not_head store_slot (omega arith)))

@@ -16,7 +16,7 @@ use Rattle.heap_model.proofs.CellWords.{words_by_kind, words_are_size}
 use Rattle.heap_model.proofs.OneOwner.{names_store}
 use Rattle.object_cells.specs.OwnSlots.{IsNoBoxOf}
 use Rattle.object_cells.specs.SlotChanges.{IsTaggedSlot}
-use Rattle.object_cells.proofs.NumberedSlots.{IsNumbered, SlotOfNumber, slot_of_number, one_number}
+use Rattle.object_cells.proofs.NumberedSlots.{IsNumbered, SlotOfNumber, slot_of_number, one_number, NotInHead}
 use Rattle.object_cells.proofs.OwnCells.{IsPutOwned, IsOwnWord, beside_not_own}
 
 -- a plain object's cell is an object's
@@ -200,11 +200,13 @@ own_not_in_box {box = box} a whole has object of_own has_box of_kind same =
     record { from = omega arith; below = omega (arith, box_size has_box of_kind) } in
     beside_not_own (box.at + 1) a whole has object of_own has_box (inr of_kind) of_box (sym same)
 
--- nor the slot for a plain object's store
-pub store_not_in_box : {heap : Heap} {cell box : Cell} {words others : List ℕ} → Whole heap → HasCell heap cell words
+-- so none of the head of a plain object's cell does
+pub head_not_in_box : {heap : Heap} {cell box : Cell} {words others : List ℕ} → Whole heap → HasCell heap cell words
     → cell.layout.kind ≡ kind.Plain → HasCell heap box others → box.layout.kind ≡ kind.Boxed
-    → cell.at + store_slot ≢ box.at + 1
-store_not_in_box {cell = cell} whole has plain has_box of_kind =
-    let of_own : IsOfCell cell (cell.at + store_slot) =
-    record { from = omega arith; below = omega (arith, words_by_kind kind.Plain has plain, words_are_size has) } in
-    own_not_in_box (cell.at + store_slot) whole has (plain_is_object plain) of_own has_box of_kind
+    → NotInHead cell (box.at + 1)
+head_not_in_box {cell = cell} whole has plain has_box of_kind offset head =
+    let of_own : IsOfCell cell (cell.at + offset) = record {
+      from = omega arith;
+      below = omega (arith, head, words_by_kind kind.Plain has plain, words_are_size has);
+    } in
+    own_not_in_box (cell.at + offset) whole has (plain_is_object plain) of_own has_box of_kind

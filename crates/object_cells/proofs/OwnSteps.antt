@@ -8,9 +8,10 @@ use Rattle.tagged_word.specs.declared.layout.Kind.TheVariants as kind
 use Rattle.tagged_word.proofs.Members.{first_in, rest_in, in_cases}
 use Rattle.heap_model.specs.Heaps.{Heap, HasCell, words_of_cell}
 use Rattle.tagged_word.specs.Cells.{is_object_kind}
+use Rattle.heap_model.specs.Kinds.{IsProtoWord}
 use Rattle.heap_model.specs.Wholeness.{Whole, NamesFrom, IsOwnedKind}
 use Rattle.heap_model.specs.Changes.{CellsChange, IsOwnOf, IsStill, IsStillBox}
-use Rattle.heap_model.proofs.CellOutcomes.{cells_move, ObjectsStay, places_stay, box_not_gone}
+use Rattle.heap_model.proofs.CellOutcomes.{cells_move, ObjectsStay, places_stay, proto_stays, box_not_gone}
 use Rattle.heap_model.proofs.WordsStay.{PlacesStay, BoxStays}
 use Rattle.object_cells.specs.CellWrites.{Owns, WritesOwnCells}
 use Rattle.object_cells.specs.OwnSlots.{IsNoBoxOf}
@@ -24,12 +25,12 @@ owned_is_no_object kind.Table owned = refl
 owned_is_no_object kind.Boxed owned = refl
 owned_is_no_object _ owned = absurd owned
 
--- The object's cell became the other, those beside it these, and others were made.
+-- The object's cell became the other, of the same kind, those beside it these, and others were made.
 pub record OwnStep (old new : Heap) (cell came : Cell) (others beside made : List Cell) : Type 0 where
   pub whole : Whole old
   pub cells : CellsChange old new (cell ∷ others) (came ∷ beside) made
   pub object : IsTrue (is_object_kind cell.layout.kind)
-  pub still_object : IsTrue (is_object_kind came.layout.kind)
+  pub same_kind : came.layout.kind ≡ cell.layout.kind
   pub place : came.at ≡ cell.at
   pub number : came.header.object ≡ cell.header.object
   pub went_none : (other : Cell) → Contains others other → is_object_kind other.layout.kind ≡ false
@@ -44,6 +45,10 @@ module _ {old new : Heap} {cell came : Cell} {others beside made : List Cell}
   -- and what it became stands
   pub stands : HasCell new came (words_of_cell new came)
   stands = step.cells.comes came (first_in came (beside ++ made))
+
+  -- it is an object's
+  pub still_object : IsTrue (is_object_kind came.layout.kind)
+  still_object = ap is_object_kind step.same_kind ∙ step.object
 
   -- of the cells that went, only the object's own is an object's
   pub went_object : (one : Cell) → Contains (cell ∷ others) one → IsTrue (is_object_kind one.layout.kind) → cell ≡ one
@@ -60,13 +65,17 @@ module _ {old new : Heap} {cell came : Cell} {others beside made : List Cell}
         other = came;
         among = first_in came beside;
         place = step.place ∙ ap (λ (c : Cell). c.at) same;
-        object = step.still_object;
+        of_kind = step.same_kind ∙ ap (λ (c : Cell). c.layout.kind) same;
         number = step.number ∙ ap (λ (c : Cell). c.header.object) same;
       }
 
   -- and the places of objects stay
   pub own_places_stay : PlacesStay old new
   own_places_stay = places_stay (cells_move step.cells) objects_stay
+
+  -- what the slot of a prototype may hold it may hold then
+  pub own_proto_stays : (word : ℕ) → IsProtoWord old word → IsProtoWord new word
+  own_proto_stays word is = proto_stays word (cells_move step.cells) objects_stay is
 
   -- the object's cell is no box
   own_is_no_box : (one : Cell) → cell ≡ one → one.layout.kind ≡ kind.Boxed → ⊥
@@ -120,7 +129,7 @@ module _ {old new : Heap} {cell came : Cell} {others beside made : List Cell}
         other = cell;
         among = first_in cell others;
         place = sym writing.step.place ∙ ap (λ (c : Cell). c.at) same;
-        object = writing.step.object;
+        of_kind = sym writing.step.same_kind ∙ ap (λ (c : Cell). c.layout.kind) same;
         number = sym writing.step.number ∙ ap (λ (c : Cell). c.header.object) same;
       }
 
@@ -146,7 +155,7 @@ module _ {owner owned : Kind} {old new : Heap} {cell came : Cell} {others made :
         whole = whole;
         cells = (written_own_keeps_cells owns whole writes).1;
         object = all.object;
-        still_object = all.still_object;
+        same_kind = all.same_kind;
         place = all.place;
         number = all.number;
         went_none = λ other among. owned_is_no_object other.layout.kind (all.beside other among).owned;

@@ -1,6 +1,6 @@
 -- Where words of an object's own cells have changed, its cell, or what a plain object's becomes with the header of
 -- another shape, stands in its words. So cells stand in rows.
-use Rattle.std.proofs.Common.{◌≡◌, ℕ, ◌+◌, ◌<◌, ◌≤◌, ◌∷◌, List, IsTrue}
+use Rattle.std.proofs.Common.{◌≡◌, ℕ, ◌+◌, ◌<◌, ◌≤◌, ◌∷◌, List}
 use Rattle.std.proofs.lemmas.Bool.{false≢true}
 use Rattle.std.proofs.Common.{Option, Some, slice_get}
 use Rattle.std.proofs.Common.{refl, sym, ◌∙◌, ap, subst, arith}
@@ -64,9 +64,9 @@ becomes_shape {new = new} (Becomes.itself same header) was =
     subst (λ (c : Cell). IsPathShape new.paths c.header.shape) (sym same) (was same)
 becomes_shape (Becomes.other_shape is) was = is.is_shape
 
--- a cell of the same object, of the same size
+-- a cell of the same object, of the same kind and size
 record IsOfSame (new : Heap) (cell came : Cell) : Type 0 where
-  still_object : IsTrue (is_object_kind came.layout.kind)
+  same_kind : came.layout.kind ≡ cell.layout.kind
   place : came.at ≡ cell.at
   size : came.size ≡ cell.size
   number : came.header.object ≡ cell.header.object
@@ -106,7 +106,7 @@ module _ {owner owned : Kind} {old new : Heap} {cell came : Cell} {others made :
   -- what the object's cell becomes is one
   is_of_same : Becomes old new cell came → IsOfSame new cell came
   is_of_same (Becomes.itself same header) = subst (IsOfSame new cell) (sym same) (record {
-    still_object = ap is_object_kind writes.of_kind ∙ owns.object;
+    same_kind = refl;
     place = refl;
     size = refl;
     number = refl;
@@ -114,7 +114,7 @@ module _ {owner owned : Kind} {old new : Heap} {cell came : Cell} {others made :
         (λ long. false≢true (sym (ap has_length writes.of_kind ∙ owns.short) ∙ long));
   })
   is_of_same (Becomes.other_shape is) = subst (IsOfSame new cell) (sym is.is) (record {
-    still_object = refl;
+    same_kind = sym is.plain;
     place = refl;
     size = refl;
     number = refl;
@@ -134,7 +134,7 @@ module _ {owner owned : Kind} {old new : Heap} {cell came : Cell} {others made :
         sized = writes.sized;
         stood = writes.stood;
         object = ap is_object_kind writes.of_kind ∙ owns.object;
-        still_object = is.still_object;
+        same_kind = is.same_kind;
         place = is.place;
         size = is.size;
         number = is.number;

@@ -6,9 +6,9 @@ use Rattle.std.proofs.lemmas.Bool.{true≢false}
 use Rattle.std.proofs.lemmas.Option.{slice_get-get_or, same_Some, slice_get_within}
 use Rattle.tagged_word.specs.declared.layout.Kind.TheVariants as kind
 use Rattle.tagged_word.specs.Layouts.{is_raw}
-use Rattle.tagged_word.specs.Cells.{in_object_offsets, plain_head, store_slot}
-use Rattle.tagged_word.proofs.Members.{first_in, rest_in, in_cases}
-use Rattle.tagged_word.proofs.Offsets.{IsInObject, in_object_in, in_object_is}
+use Rattle.tagged_word.specs.Cells.{plain_head, store_slot, proto_slot}
+use Rattle.tagged_word.proofs.Offsets.{IsInObject, in_object_in, IsPlainSlot, plain_slot_is, plain_has_store}
+use Rattle.tagged_word.proofs.Offsets.{plain_has_proto, plain_has_own}
 use Rattle.heap_model.specs.Types.{LayoutWord, Path, PathField, Rep, Cell}
 use Rattle.object_graph.specs.declared.value.Rep.TheVariants as rep
 use Rattle.shape_tree.specs.ShapeLayouts.{layout_of, raw_bit}
@@ -34,16 +34,34 @@ own_slot {cell} of_kind own =
       tagged = subst (λ k. is_raw cell.layout k ≡ false) number own.tagged;
     } in
     slot_by_kind kind.Plain offset of_kind own.stands
-    (rest_in store_slot (in_object_offsets cell.layout) offset (in_object_in cell.layout offset place))
+    (plain_has_own cell.layout offset (in_object_in cell.layout offset place))
 
--- and each slot of a plain object is that of its store or such a one
+-- the address is that of a word of the head of a plain object which is a slot: that of its store, or of its prototype
+pub data IsHeadSlot (cell : Cell) (at : ℕ) : Type 0 where
+  store : cell.at + store_slot ≡ at → IsHeadSlot cell at
+  proto : cell.at + proto_slot ≡ at → IsHeadSlot cell at
+
+-- it is no in-object slot
+head_is_not_own : (cell : Cell) (number : ℕ) → IsHeadSlot cell (cell.at + (plain_head + number)) → ⊥
+head_is_not_own cell number (IsHeadSlot.store same) = omega (arith, same)
+head_is_not_own cell number (IsHeadSlot.proto same) = omega (arith, same)
+
+-- such a one is a slot of each plain object's cell at the address
+head_slot : {cell came : Cell} {at : ℕ} → came.layout.kind ≡ kind.Plain → cell.at ≡ came.at → IsHeadSlot cell at
+    → IsSlotOf came at
+head_slot {came = came} of_kind place (IsHeadSlot.store same) =
+    slot_by_kind kind.Plain store_slot of_kind (omega (arith, same, place)) (plain_has_store came.layout)
+head_slot {came = came} of_kind place (IsHeadSlot.proto same) =
+    slot_by_kind kind.Plain proto_slot of_kind (omega (arith, same, place)) (plain_has_proto came.layout)
+
+-- and each slot of a plain object is one of its head or such a one
 pub plain_slot_cases : {cell : Cell} {at : ℕ} → cell.layout.kind ≡ kind.Plain → IsSlotOf cell at
-    → (cell.at + store_slot ≡ at) ⊎ IsOwnSlot cell at
+    → IsHeadSlot cell at ⊎ IsOwnSlot cell at
 plain_slot_cases {cell} of_kind slot =
-    elim (in_cases store_slot (in_object_offsets cell.layout) slot.offset (offset_by_kind kind.Plain of_kind slot)) [
-      | inl same ↦ inl (omega (arith, same, slot.stands))
-      | inr own ↦
-          let place = in_object_is cell.layout slot.offset own in
+    elim (plain_slot_is cell.layout slot.offset (offset_by_kind kind.Plain of_kind slot)) [
+      | IsPlainSlot.store same ↦ inl (IsHeadSlot.store (omega (arith, same, slot.stands)))
+      | IsPlainSlot.proto same ↦ inl (IsHeadSlot.proto (omega (arith, same, slot.stands)))
+      | IsPlainSlot.own place ↦
           inr (record {
             number = slot.offset - plain_head;
             stands = omega (arith, place.behind, slot.stands);
@@ -89,12 +107,12 @@ no_bit rep.Tagged is = refl
 no_field : PathField
 no_field = record { name = 0; rep = rep.Small }
 
--- and each slot of such a cell is that of its store or such a one
+-- and each slot of such a cell is one of its head or such a one
 pub own_field_cases : {cell : Cell} {at : ℕ} (path : Path) → cell.layout ≡ layout_of path → IsSlotOf cell at
-    → (cell.at + store_slot ≡ at) ⊎ IsOwnField cell path at
+    → IsHeadSlot cell at ⊎ IsOwnField cell path at
 own_field_cases {cell} path laid slot =
     elim (plain_slot_cases (plain_by_path cell path laid) slot) [
-      | inl same ↦ inl same
+      | inl head ↦ inl head
       | inr own ↦
           let k : ℕ = own.number in
           let used : k < (layout_of path).used = subst (λ (layout : LayoutWord). k < layout.used) laid own.used in
@@ -129,7 +147,7 @@ pub slot_has_field : (cell : Cell) (path : Path) (number : ℕ) → cell.layout 
     × (raw_bit field.rep ≡ 0))
 slot_has_field cell path number laid slot =
     elim (own_field_cases path laid slot) [
-      | inl same ↦ absurd (omega (arith, same))
+      | inl head ↦ absurd (head_is_not_own cell number head)
       | inr own ↦
           let one : own.number ≡ number = omega (arith, own.stands) in (
             own.field,
@@ -186,10 +204,7 @@ pub slot_alike : {cell came : Cell} {at : ℕ} (path next : Path) → cell.layou
     → IsSlotOf cell at → IsSlotOf came at
 slot_alike {cell} {came} {at} path next laid laid_next place cap alike slot =
     elim (own_field_cases path laid slot) [
-      | inl same ↦
-          let of_plain = plain_by_path came next laid_next in
-          let offsets = in_object_offsets came.layout in
-          slot_by_kind kind.Plain store_slot of_plain (omega (arith, same, place)) (first_in store_slot offsets)
+      | inl head ↦ head_slot (plain_by_path came next laid_next) place head
       | inr own ↦
           let one = alike_field own.field (alike own.number own.below own.stands) own.there own.tagged in
           own_field_slot next laid_next (record {

@@ -109,22 +109,22 @@ pub record PlainShown (heap : Heap) (at : ℕ) (plain : PlainObject) : Type 0 wh
 pub plain_shown : {main : Mutator} {graph : Graph} {at : ℕ} {plain : PlainObject} → MainShows main graph
     → IsPlainAt main graph at plain → PlainShown (heap_of main) at plain
 plain_shown {at = at} {plain} shows is =
-    let shown = shows.shows.reached plain.number (Plain plain.cap plain.fields) is.object is.reached in
+    let shown = shows.shows.reached plain.number (Plain plain.cap plain.proto plain.fields) is.object is.reached in
     record {
       cell = shown.cell;
       words = shown.words;
       has = shown.has;
       stands = sym (shown.once at is.place);
       carries = shown.carries;
-      shows = shown.shows;
+      shows = shown.shows.0;
     }
 
 -- no name of its fields stands twice
 pub names_distinct : {main : Mutator} {graph : Graph} {at : ℕ} {plain : PlainObject} → MainShows main graph
     → IsPlainAt main graph at plain → IsDistinct ◌==◌ (map (λ (field : Field). field.name) plain.fields)
 names_distinct {graph = graph} {plain = plain} shows is =
-    (All-slice_get (IsObject (length graph.objects)) graph.objects plain.number (Plain plain.cap plain.fields)
-    shows.is_graph.made is.object).1.distinct
+    (All-slice_get (IsObject (length graph.objects)) graph.objects plain.number
+    (Plain plain.cap plain.proto plain.fields) shows.is_graph.made is.object).are.distinct
 
 -- the heap is whole
 pub shown_whole : {main : Mutator} {graph : Graph} → MainShows main graph → IsQuietWhole main

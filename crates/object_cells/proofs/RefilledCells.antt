@@ -25,7 +25,7 @@ use Rattle.object_cells.proofs.PlainFields.{plain_sound}
 use Rattle.object_cells.proofs.OwnerWrites.{plain_owns, becomes_cap, becomes_shape}
 use Rattle.object_cells.proofs.OwnSteps.{stands}
 use Rattle.object_cells.proofs.BesideSound.{store_is_sound, beside_sound, came_sound}
-use Rattle.object_cells.proofs.RefilledFields.{fields_step, field_shown}
+use Rattle.object_cells.proofs.RefilledFields.{fields_step, proto_stands, proto_is, field_shown}
 
 -- a number that is so much more than another is so far behind it
 behind_by : (cap k : ℕ) → cap + k - cap ≡ k
@@ -71,6 +71,9 @@ module _ {old new : Heap} {cell : Cell} {shape : ℕ} {others made : List Cell} 
     shape = is_shape;
     slots = slots.now;
     has = slots.are;
+    proto = (plain_sound whole writes.stood writes.of_kind).proto;
+    proto_has = proto_stands whole shown writes slots;
+    proto_is = proto_is whole shown writes slots;
     hold = subst (λ path. HoldFields new path slots.now) (sym slots.path) slots_hold;
   }
 

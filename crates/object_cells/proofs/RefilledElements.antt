@@ -34,7 +34,7 @@ module _ {old new : Heap} {cell : Cell} {others made : List Cell} {before after 
   renames =
       refills_rename list_owns whole writes slots.refills (has_numbers whole.rows writes.stood step.object
       (λ k word there. element_of_number k word writes.stood writes.of_kind slots.were there)
-      (λ at word slot. element_slot (stands step) writes.of_kind slots.are slot))
+      (λ at word slot names. element_slot (stands step) writes.of_kind slots.are slot))
 
   -- the elements of a list have one list of slots
   one_elements : slots.slots ≡ shown.slots

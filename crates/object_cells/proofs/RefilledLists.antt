@@ -1,12 +1,13 @@
 -- Where words of a list's own cells were written and its slots show other elements, the heap shows the graph in which
 -- the list has these.
 use Rattle.std.proofs.Common.{List, ◌∷◌, sym, ◌∙◌, ap}
+use Rattle.std.specs.Prelude.{option_and_then}
 use Rattle.std.proofs.lemmas.List.Elements.{All-contains}
 use Rattle.tagged_word.proofs.Members.{first_in}
 use Rattle.heap_model.specs.Types.{Value, Cell}
 use Rattle.object_graph.specs.declared.value.Value.TheVariants.{Ref}
 use Rattle.object_graph.specs.declared.object.Object.TheVariants.{List as ListOf}
-use Rattle.object_graph.specs.Graphs.{Graph}
+use Rattle.object_graph.specs.Graphs.{Graph, as_list}
 use Rattle.graph_laws.proofs.MadeGraphs.{relists}
 use Rattle.heap_model.specs.Heaps.{Heap}
 use Rattle.write_barrier.specs.MutatorState.{heap_of}
@@ -49,6 +50,7 @@ written_elements_show old new graph list cell others made elements shows there c
       shows = λ marks reached. list_shows whole shown writes slots;
     } in
     replaced_shows list.number (ListOf elements) graph.paths shows
-    (relists graph list elements shows.is_graph are.are)
+    (relists graph (Ref list.number) list elements shows.is_graph
+    (ap (λ found. option_and_then (as_list list.number) found) there) are.are)
     (same ∙ shows.shows.paths)
     (links_reached graph elements are) rest replaces

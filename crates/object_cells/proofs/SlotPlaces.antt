@@ -2,9 +2,10 @@
 use Rattle.std.proofs.Common.{◌≡◌, ℕ, ◌+◌, ◌-◌, ◌≤◌, ◌<◌, List, length, drop, Some, None}
 use Rattle.std.proofs.Common.{slice_get}
 use Rattle.std.proofs.Common.{get_or, refl, sym}
-use Rattle.std.proofs.Common.{◌∙◌, ap, arith, length-drop, length-append}
+use Rattle.std.proofs.Common.{◌∙◌, ap, subst, arith, length-drop, length-append}
 use Rattle.std.proofs.lemmas.Option.{slice_get_within, slice_get-get_or, none-some}
 use Rattle.tagged_word.specs.declared.layout.Kind.TheVariants as kind
+use Rattle.tagged_word.specs.Layouts.{HasInObjectSlots, IsLayoutOfKind}
 use Rattle.tagged_word.specs.Cells.{plain_head, store_head}
 use Rattle.tagged_word.specs.Readings.{reference_in}
 use Rattle.tagged_word.proofs.Readings.{reference_from, reference_to}
@@ -15,34 +16,43 @@ use Rattle.heap_model.specs.Heaps.{Heap, HasCell}
 use Rattle.heap_model.specs.Slots.{HoldsStore}
 use Rattle.heap_model.specs.Kinds.{HasWord, HasSlots}
 use Rattle.heap_model.specs.Wholeness.{HasSizes}
+use Rattle.heap_model.proofs.CellsApart.{has_is_cell}
 use Rattle.heap_model.proofs.CellWords.{slice_get-drop, slice_get-append_left, slice_get-append_right, words_by_kind}
 use Rattle.heap_model.proofs.CellWords.{words_are_size}
 use Rattle.heap_model.proofs.WordClasses.{same_reference}
 use Rattle.object_cells.proofs.CellsRead.{word_stands, cell_before_marks}
 use Rattle.object_cells.proofs.WordsTold.{cell_fits}
 
--- a plain object has as many words as its cap, and two
+-- a plain object has as many words as its cap, and those of its head
 plain_words : {heap : Heap} {cell : Cell} {words : List ℕ} → HasCell heap cell words → cell.layout.kind ≡ kind.Plain
-    → length words ≡ 2 + cell.layout.cap
+    → length words ≡ plain_head + cell.layout.cap
 plain_words has plain = words_by_kind kind.Plain has plain
+
+-- no more in-object slots are used than there are
+pub used_within : {heap : Heap} {cell : Cell} {words : List ℕ} → HasCell heap cell words → cell.layout.kind ≡ kind.Plain
+    → cell.layout.used ≤ cell.layout.cap
+used_within {cell = cell} has plain =
+    let is : HasInObjectSlots cell.layout =
+    subst (λ k. IsLayoutOfKind k cell.layout) plain (has_is_cell has).reads.is_layout in
+    is.used
 
 -- a slot below the cap stands in the object
 pub own_slot : {heap : Heap} {cell : Cell} {words slots : List ℕ} (slot : ℕ) → HasCell heap cell words
     → cell.layout.kind ≡ kind.Plain → HasSlots heap words slots → slot < cell.layout.cap
-    → slice_get heap.words (cell.at + (2 + slot)) ≡ slice_get slots slot
+    → slice_get heap.words (cell.at + (plain_head + slot)) ≡ slice_get slots slot
 own_slot {heap} {cell} {words} {slots} slot has plain are below =
     let own : List ℕ = drop plain_head words in
-    let word : ℕ = get_or words (2 + slot) 0 in
-    let there : HasWord words (2 + slot) word =
-    slice_get-get_or words (2 + slot) 0 (omega (arith, plain_words has plain)) in
+    let word : ℕ = get_or words (plain_head + slot) 0 in
+    let there : HasWord words (plain_head + slot) word =
+    slice_get-get_or words (plain_head + slot) 0 (omega (arith, plain_words has plain)) in
     let within : slot < length own = omega (arith, plain_words has plain, length-drop plain_head words) in
-    word_stands (2 + slot) word has there
+    word_stands (plain_head + slot) word has there
     ∙ sym (ap (λ all. slice_get all slot) are.are ∙ slice_get-append_left own are.beside slot within
-    ∙ slice_get-drop plain_head words slot (2 + slot) refl ∙ there)
+    ∙ slice_get-drop plain_head words slot (plain_head + slot) refl ∙ there)
 
 -- and before the marks
 pub own_slot_within : {heap : Heap} {cell : Cell} {words : List ℕ} (slot : ℕ) → HasSizes heap → HasCell heap cell words
-    → cell.layout.kind ≡ kind.Plain → slot < cell.layout.cap → cell.at + (2 + slot) < marks_start heap.space
+    → cell.layout.kind ≡ kind.Plain → slot < cell.layout.cap → cell.at + (plain_head + slot) < marks_start heap.space
 own_slot_within slot sized has plain below =
     omega (arith, plain_words has plain, words_are_size has, cell_before_marks sized has)
 

@@ -5,7 +5,7 @@ use Rattle.std.proofs.lemmas.Bool.{cases_lt}
 use Rattle.std.proofs.lemmas.Option.{same_Some}
 use Rattle.std.proofs.lemmas.List.Elements.{Contains-append_left}
 use Rattle.tagged_word.specs.declared.layout.Kind.TheVariants as kind
-use Rattle.tagged_word.specs.Cells.{plain_head, store_head, store_slot, is_object_kind}
+use Rattle.tagged_word.specs.Cells.{plain_head, store_head, store_slot, proto_slot, is_object_kind}
 use Rattle.tagged_word.proofs.Members.{first_in, rest_in, in_cases}
 use Rattle.heap_model.specs.Types.{Cell}
 use Rattle.heap_model.specs.Heaps.{Heap, HasCell, words_of_cell}
@@ -25,11 +25,11 @@ use Rattle.object_cells.proofs.OwnerWrites.{becomes_cap}
 use Rattle.object_cells.proofs.CellsRead.{word_stands}
 use Rattle.object_cells.proofs.SlotPlaces.{own_slot, behind_cap}
 use Rattle.object_cells.proofs.StoreCells.{store_at}
-use Rattle.object_cells.proofs.NumberedSlots.{IsNumbered, slot_of_number, is_store_of}
-use Rattle.object_cells.proofs.OneWord.{WritesOne}
+use Rattle.object_cells.proofs.NumberedSlots.{IsNumbered, NotInHead, slot_of_number, is_store_of}
+use Rattle.object_cells.proofs.OneWord.{WritesOne, WritesTwo}
 use Rattle.object_cells.proofs.OwnCells.{word_stays, beside_not_header}
 
--- One word of a plain object's own cells was put in a whole heap, and not that of the slot for its store.
+-- One word of a plain object's own cells was put in a whole heap, and none of the head of its cell.
 pub record PutsOwn (old new : Heap) (cell : Cell) (shape at word : ℕ) (others made : List Cell) : Type 0 where
   pub whole : Whole old
   pub has : HasCell old cell (words_of_cell old cell)
@@ -37,7 +37,7 @@ pub record PutsOwn (old new : Heap) (cell : Cell) (shape at word : ℕ) (others 
   pub one : WritesOne old new cell shape at word made
   pub writes : WritesFields old new cell shape others made
   pub cells : CellsChange old new (cell ∷ others) (reshaped new.paths cell shape ∷ others) made
-  pub not_store : cell.at + store_slot ≢ at
+  pub not_head : NotInHead cell at
 
 -- the object's cell stands in the new heap
 pub reshaped_stands : {old new : Heap} {cell : Cell} {shape at word : ℕ} {others made : List Cell}
@@ -89,21 +89,41 @@ word_at_offset k has below =
 -- the size of a plain object's cell
 pub plain_cell_size : {heap : Heap} {cell : Cell} {words : List ℕ} → HasCell heap cell words
     → cell.layout.kind ≡ kind.Plain
-    → cell.size ≡ 2 + cell.layout.cap
+    → cell.size ≡ plain_head + cell.layout.cap
 plain_cell_size has plain = sym (words_are_size has) ∙ words_by_kind kind.Plain has plain
+
+-- a word of the head behind the header stays where a word was put elsewhere
+pub head_stays : {old new : Heap} {cell : Cell} {header at word : ℕ} {made : List Cell} {words : List ℕ} (offset : ℕ)
+    → Whole old → HasCell old cell words → cell.layout.kind ≡ kind.Plain
+    → WritesTwo old new cell.at header at word made → 0 < offset → offset < plain_head → cell.at + offset ≢ at
+    → slice_get new.words (cell.at + offset) ≡ slice_get old.words (cell.at + offset)
+head_stays {cell = cell} offset whole has plain one behind head not_put =
+    let of_cell : IsOfCell cell (cell.at + offset) =
+    record { from = omega arith; below = omega (arith, head, plain_cell_size has plain) } in
+    word_stays (cell.at + offset) whole one has (object_is_no_filler cell.layout.kind (ap is_object_kind plain)) of_cell
+    (λ same. omega (arith, same, behind)) not_put
 
 -- the slot for the store holds what it held
 pub store_now : {old new : Heap} {cell : Cell} {shape at word store : ℕ} {others made : List Cell}
     → PutsOwn old new cell shape at word others made → HasWord (words_of_cell old cell) store_slot store
     → HasWord (words_of_cell new (reshaped new.paths cell shape)) store_slot store
 store_now {cell = cell} {store = store} puts slot =
-    let within : store_slot < cell.size = omega (arith, plain_cell_size puts.has puts.plain) in
-    let of_cell : IsOfCell cell (cell.at + store_slot) = record { from = omega arith; below = omega (arith, within) } in
-    word_at_offset store_slot (reshaped_stands puts) within
-    ∙ word_stays (cell.at + store_slot) puts.whole puts.one puts.has
-    (object_is_no_filler cell.layout.kind (ap is_object_kind puts.plain)) of_cell (λ same. omega (arith, same))
-    puts.not_store
+    word_at_offset store_slot (reshaped_stands puts) (omega (arith, plain_cell_size puts.has puts.plain))
+    ∙ head_stays store_slot puts.whole puts.has puts.plain puts.one (omega arith) (omega arith)
+    (puts.not_head store_slot (omega arith))
     ∙ word_stands store_slot store puts.has slot
+
+-- and so does that for the prototype
+pub proto_now : {old new : Heap} {cell : Cell} {shape at word : ℕ} {others made : List Cell}
+    → PutsOwn old new cell shape at word others made
+    → slice_get (words_of_cell new (reshaped new.paths cell shape)) proto_slot
+    ≡ slice_get (words_of_cell old cell) proto_slot
+proto_now {cell = cell} puts =
+    let within : proto_slot < cell.size = omega (arith, plain_cell_size puts.has puts.plain) in
+    word_at_offset proto_slot (reshaped_stands puts) within
+    ∙ head_stays proto_slot puts.whole puts.has puts.plain puts.one (omega arith) (omega arith)
+    (puts.not_head proto_slot (omega arith))
+    ∙ sym (word_at_offset proto_slot puts.has within)
 
 -- The slots that stand beside the object in the new heap: as many, at the same address.
 pub record BesideNow (new : Heap) (store place many : ℕ) : Type 0 where

@@ -1,12 +1,12 @@
 -- Which addresses of a cell are slots that a scavenge visits, by its kind.
-use Rattle.std.proofs.Common.{◌≡◌, ℕ, ◌+◌, ◌-◌, ◌*◌, ◌≤◌, ◌<◌, inl, inr, [], Contains, IsTrue, refl, sym, subst, arith}
+use Rattle.std.proofs.Common.{◌≡◌, ℕ, ◌+◌, ◌-◌, ◌*◌, ◌≤◌, ◌<◌, [], Contains, IsTrue, refl, sym, subst, arith}
 use Rattle.std.specs.List.{range_with_len}
 use Rattle.std.proofs.lemmas.Bool.{false≢true}
 use Rattle.tagged_word.specs.declared.layout.Kind.TheVariants as kind
-use Rattle.tagged_word.specs.Cells.{scavenge_offsets_of, in_object_offsets, is_object_kind, is_free_kind, has_length}
+use Rattle.tagged_word.specs.Cells.{scavenge_offsets_of, is_object_kind, is_free_kind, has_length}
 use Rattle.tagged_word.specs.Cells.{store_head, store_slot, length_offset}
-use Rattle.tagged_word.proofs.Members.{in_cases, one_in, in_range, range_bounds}
-use Rattle.tagged_word.proofs.Offsets.{in_object_is}
+use Rattle.tagged_word.proofs.Members.{one_in, in_range, range_bounds}
+use Rattle.tagged_word.proofs.Offsets.{IsPlainSlot, plain_slot_is}
 use Rattle.heap_model.specs.Types.{Kind, LayoutWord, Cell}
 use Rattle.heap_model.specs.Kinds.{count_offset}
 use Rattle.heap_model.specs.Remembered.{IsSlotOf}
@@ -32,9 +32,10 @@ none_in offset (k, within, is) = omega (arith, within)
 behind_header_of : (k : Kind) (layout : LayoutWord) (long offset : ℕ)
     → Contains (scavenge_offsets_of k layout long) offset → 1 ≤ offset
 behind_header_of kind.Plain layout long offset there =
-    elim (in_cases store_slot (in_object_offsets layout) offset there) [
-      | inl same ↦ omega (arith, same)
-      | inr own ↦ let behind = (in_object_is layout offset own).behind in omega (arith, behind)
+    elim (plain_slot_is layout offset there) [
+      | IsPlainSlot.store same ↦ omega (arith, same)
+      | IsPlainSlot.proto same ↦ omega (arith, same)
+      | IsPlainSlot.own own ↦ omega (arith, own.behind)
     ]
 behind_header_of kind.List layout long offset there = let same = one_in store_slot offset there in omega (arith, same)
 behind_header_of kind.Weak layout long offset there = let same = one_in store_slot offset there in omega (arith, same)

@@ -15,7 +15,7 @@ use Rattle.write_barrier.specs.MutatorState.{Mutator, heap_of, MainShows}
 -- The plain object of the graph has its place at the address, and can be reached.
 pub record IsPlainAt (main : Mutator) (graph : Graph) (at : ℕ) (plain : PlainObject) : Type 0 where
   pub place : IsPlace (heap_of main) plain.number at
-  pub object : slice_get graph.objects plain.number ≡ Some (Plain plain.cap plain.fields)
+  pub object : slice_get graph.objects plain.number ≡ Some (Plain plain.cap plain.proto plain.fields)
   pub reached : IsTrue (is_marked (reach graph) plain.number)
 
 -- The heap shows a graph whose plain object of some number stands at the address.

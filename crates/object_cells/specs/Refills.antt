@@ -11,7 +11,7 @@ use Rattle.object_graph.specs.Limits.{paths_most}
 use Rattle.heap_model.specs.Heaps.{Heap, words_of_cell}
 use Rattle.tagged_word.specs.Cells.{is_object_kind}
 use Rattle.heap_model.specs.Wholeness.{HasSizes, HasRows}
-use Rattle.heap_model.specs.Showing.{ShowsPlain}
+use Rattle.heap_model.specs.Showing.{ShowsPlain, ShowsProto}
 use Rattle.heap_model.specs.Changes.{CellsChange, IsOwnChange}
 use Rattle.heap_model.specs.Remembered.{AreRemembered}
 use Rattle.write_barrier.specs.MutatorState.{Mutator, heap_of, MainShows}
@@ -25,7 +25,8 @@ pub record AreNewFields (graph : Graph) (fields : List Field) : Type 0 where
   pub are : AreFields (length graph.objects) fields
   pub reached : All (λ field. IsReachedValue graph field.value) fields
 
--- Of objects only this one's cell went; one came that shows these fields of it; and no object was made.
+-- Of objects only this one's cell went; one came that shows these fields of it, and its prototype; and no object was
+-- made.
 pub record RefillsCells (old new : Heap) (plain : PlainObject) (fields : List Field)
     (gone came made : List Cell) : Type 0 where
   pub cells : CellsChange old new gone came made
@@ -37,6 +38,7 @@ pub record RefillsCells (old new : Heap) (plain : PlainObject) (fields : List Fi
   pub among : Contains came cell
   pub carries : cell.header.object ≡ plain.number
   pub shows : ShowsPlain new cell (words_of_cell new cell) plain.cap fields
+  pub leads : ShowsProto new (words_of_cell new cell) plain.proto
 
 -- The mutator rests again: the cells that were made stand in words that were taken for them, its words are those of a
 -- heap, and what is recorded is right.
@@ -53,7 +55,8 @@ pub record RestsAgain (old new : Mutator) (made : List Cell) : Type 0 where
 abbrev pub RefillsShow : Type 0
 RefillsShow =
     (old new : Mutator) (graph : Graph) (plain : PlainObject) (fields : List Field) (gone came made : List Cell)
-    → MainShows old graph → slice_get graph.objects plain.number ≡ Some (Plain plain.cap plain.fields)
+    → MainShows old graph → slice_get graph.objects plain.number ≡ Some (Plain plain.cap plain.proto plain.fields)
+    → IsTrue (is_marked (reach graph) plain.number)
     → AreNewFields graph fields
     → with_path (Some paths_most) graph.paths (path_of plain.cap fields) ≡ Some new.paths
     → RestsAgain old new made → RefillsCells (heap_of old) (heap_of new) plain fields gone came made
@@ -63,7 +66,7 @@ RefillsShow =
 abbrev pub WrittenFieldsAreNew : Type 0
 WrittenFieldsAreNew =
     (graph : Graph) (plain : PlainObject) (name : ℕ) (value : Value) → IsGraph graph
-    → slice_get graph.objects plain.number ≡ Some (Plain plain.cap plain.fields)
+    → slice_get graph.objects plain.number ≡ Some (Plain plain.cap plain.proto plain.fields)
     → IsTrue (is_marked (reach graph) plain.number) → (LacksFields plain name → ⊥)
     → IsValue (length graph.objects) value → IsReachedValue graph value
     → AreNewFields graph (with_field plain.fields name value)
@@ -72,5 +75,5 @@ WrittenFieldsAreNew =
 abbrev pub RestOfFieldsAreNew : Type 0
 RestOfFieldsAreNew =
     (graph : Graph) (plain : PlainObject) (name : ℕ) → IsGraph graph
-    → slice_get graph.objects plain.number ≡ Some (Plain plain.cap plain.fields)
+    → slice_get graph.objects plain.number ≡ Some (Plain plain.cap plain.proto plain.fields)
     → IsTrue (is_marked (reach graph) plain.number) → AreNewFields graph (without_field plain.fields name)

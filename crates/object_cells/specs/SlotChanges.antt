@@ -1,19 +1,20 @@
 -- A change of the fields of one plain object, slot by slot.
 use Rattle.std.specs.Prelude.{◌≡◌, ℕ, ◌+◌, ◌<◌, ◌≤◌, List, ◌∷◌}
-use Rattle.std.specs.Prelude.{length, Contains, Some, slice_get, nat_lt}
+use Rattle.std.specs.Prelude.{length, Contains, Some, slice_get, nat_lt, IsTrue}
 use Rattle.tagged_word.specs.declared.layout.Kind.TheVariants as kind
-use Rattle.tagged_word.specs.Cells.{plain_head, scavenge_offsets}
+use Rattle.tagged_word.specs.Cells.{proto_slot, plain_head, scavenge_offsets}
 use Rattle.object_graph.specs.declared.object.Object.TheVariants.{Plain}
 use Rattle.heap_model.specs.Types.{Field, Cell}
 use Rattle.object_graph.specs.Paths.{path_of, with_path}
 use Rattle.object_graph.specs.Graphs.{Graph, PlainObject}
+use Rattle.object_graph.specs.Reach.{is_marked, reach}
 use Rattle.object_graph.specs.Limits.{paths_most}
 use Rattle.shape_tree.specs.Shapes.{shape_path}
 use Rattle.heap_model.specs.Heaps.{Heap, words_of_cell}
 use Rattle.heap_model.specs.Slots.{hole_word}
 use Rattle.heap_model.specs.Kinds.{HasWord, HasSlots}
 use Rattle.heap_model.specs.Wholeness.{Whole}
-use Rattle.heap_model.specs.Showing.{ShowsField, ShowsPlain}
+use Rattle.heap_model.specs.Showing.{ShowsField, ShowsPlain, ShowsProto}
 use Rattle.write_barrier.specs.MutatorState.{Mutator, heap_of, MainShows}
 use Rattle.write_barrier.specs.Recording.{Remembers}
 use Rattle.object_cells.specs.Uses.{TakesRun}
@@ -48,8 +49,8 @@ pub data ShowsSlot (new : Heap) (cell : Cell) (slots : List ℕ) (others : List 
   fresh : ShowsField new (nat_lt slot cell.layout.cap) word field.rep field.value
       → ShowsSlot new cell slots others before origin slot word field
 
--- The fields of a plain object become others, slot by slot. `others` are cells that belong to the object and were
--- written, and `made` those that were made: stores, of which the object has the one, and boxes.
+-- The fields of a plain object become others, slot by slot, and its prototype stays. `others` are cells that belong to
+-- the object and were written, and `made` those that were made: stores, of which the object has the one, and boxes.
 pub record RefillsSlots (old new : Heap) (cell : Cell) (shape : ℕ) (others made : List Cell) (before after : List Field)
     : Type 0 where
   -- the slots before and after
@@ -57,6 +58,9 @@ pub record RefillsSlots (old new : Heap) (cell : Cell) (shape : ℕ) (others mad
   pub were : HasSlots old (words_of_cell old cell) slots
   pub now : List ℕ
   pub are : HasSlots new (words_of_cell new (reshaped new.paths cell shape)) now
+  -- the prototype stays
+  pub proto : slice_get (words_of_cell new (reshaped new.paths cell shape)) proto_slot
+      ≡ slice_get (words_of_cell old cell) proto_slot
   -- the shape is that of the fields, for which there are slots
   pub path : shape_path new.paths shape ≡ path_of cell.layout.cap after
   pub enough : length after ≤ length now
@@ -73,6 +77,7 @@ SlotsRefill =
     (old new : Heap) (plain : PlainObject) (cell : Cell) (shape : ℕ) (others made : List Cell) (fields : List Field)
     → Whole old → cell.header.object ≡ plain.number → cell.layout.cap ≡ plain.cap
     → ShowsPlain old cell (words_of_cell old cell) plain.cap plain.fields
+    → ShowsProto old (words_of_cell old cell) plain.proto
     → WritesFields old new cell shape others made
     → RefillsSlots old new cell shape others made plain.fields fields
     → RefillsCells old new plain fields (cell ∷ others) (reshaped new.paths cell shape ∷ others) made
@@ -82,7 +87,8 @@ abbrev pub WrittenFieldsShow : Type 0
 WrittenFieldsShow =
     (old new : Mutator) (graph : Graph) (plain : PlainObject) (cell : Cell) (shape : ℕ) (others made : List Cell)
     (fields : List Field) → MainShows old graph
-    → slice_get graph.objects plain.number ≡ Some (Plain plain.cap plain.fields)
+    → slice_get graph.objects plain.number ≡ Some (Plain plain.cap plain.proto plain.fields)
+    → IsTrue (is_marked (reach graph) plain.number)
     → cell.header.object ≡ plain.number → cell.layout.cap ≡ plain.cap
     → ShowsPlain (heap_of old) cell (words_of_cell (heap_of old) cell) plain.cap plain.fields
     → AreNewFields graph fields

@@ -9,4 +9,5 @@ pub mod EqualPaths
 pub mod Prefixes
 pub mod AddedPaths
 pub mod FirstPaths
+pub mod FirstGraph
 pub mod WeakMost

@@ -58,10 +58,11 @@ object_in (Int v) = None
 object_in Undefined = None
 object_in (Ref number) = Some number
 
--- a plain object with its number
+-- a plain object with its number, and with that of its prototype if it has one
 pub record PlainObject : Type 0 where
   pub number : ℕ
   pub cap : ℕ
+  pub proto : Option ℕ
   pub fields : List Field
 
 -- a list with its number
@@ -76,19 +77,20 @@ pub record WeakObject : Type 0 where
 
 -- the object of this number, if it is a plain one
 abbrev pub as_plain : ℕ → Object → Option PlainObject
-as_plain number (kind.Plain cap fields) = Some (record { number = number; cap = cap; fields = fields })
+as_plain number (kind.Plain cap proto fields) =
+    Some (record { number = number; cap = cap; proto = proto; fields = fields })
 as_plain number (kind.List elements) = None
 as_plain number (kind.Weak entries) = None
 
 -- the object of this number, if it is a list
 abbrev pub as_list : ℕ → Object → Option ListObject
-as_list number (kind.Plain cap fields) = None
+as_list number (kind.Plain cap proto fields) = None
 as_list number (kind.List elements) = Some (record { number = number; elements = elements })
 as_list number (kind.Weak entries) = None
 
 -- the object of this number, if it is a weak map
 abbrev pub as_weak : ℕ → Object → Option WeakObject
-as_weak number (kind.Plain cap fields) = None
+as_weak number (kind.Plain cap proto fields) = None
 as_weak number (kind.List elements) = None
 as_weak number (kind.Weak entries) = Some (record { number = number; entries = entries })
 

@@ -1,5 +1,5 @@
 -- What holds of every graph that a script makes.
-use Rattle.std.specs.Prelude.{◌≡◌, ℕ, ◌<◌, ◌≤◌, List, ◌++◌, map, length, All, Contains, Some, ◌==◌}
+use Rattle.std.specs.Prelude.{◌≡◌, ℕ, ◌<◌, ◌≤◌, List, ◌++◌, map, length, All, Contains, Option, Some, None, ◌==◌}
 use Rattle.std.specs.Prelude.{FitsSigned}
 use Rattle.std.specs.Int.{w64}
 use Rattle.std.specs.List.{IsDistinct}
@@ -16,6 +16,7 @@ use Rattle.object_graph.specs.declared.path.Path.{Path}
 use Rattle.object_graph.specs.Paths.{empty_paths, path_of, same_path, prefixes}
 use Rattle.object_graph.specs.Graphs.{Graph}
 use Rattle.object_graph.specs.Meaning.{list_most}
+use Rattle.object_graph.specs.Prototypes.{AreProtos}
 
 -- the most fields of an object
 abbrev pub fields_most : ℕ
@@ -47,10 +48,21 @@ pub record AreElements (count : ℕ) (elements : List Value) : Type 0 where
   pub values : All (IsValue count) elements
   pub few : length elements ≤ list_most
 
+-- the prototype, if there is one, is one of so many objects
+abbrev pub IsProto : ℕ → Option ℕ → Type 0
+IsProto count None = Unit {0}
+IsProto count (Some number) = number < count
+
+-- the cap of a plain object is at most 8, and its prototype and the values of its fields are over so many objects
+pub record IsPlain (count cap : ℕ) (proto : Option ℕ) (fields : List Field) : Type 0 where
+  pub capped : cap ≤ cap_most
+  pub leads : IsProto count proto
+  pub are : AreFields count fields
+
 -- The object holds values over so many objects. Of a plain object the cap is at most 8 and no field name stands twice;
 -- a list has at most 1,000 elements; in a weak map no key stands twice.
 abbrev pub IsObject : ℕ → Object → Type 0
-IsObject count (kind.Plain cap fields) = (cap ≤ cap_most) × AreFields count fields
+IsObject count (kind.Plain cap proto fields) = IsPlain count cap proto fields
 IsObject count (kind.List elements) = AreElements count elements
 IsObject count (kind.Weak entries) = AreEntries count entries
 
@@ -77,14 +89,15 @@ pub record ArePaths (paths : List Path) : Type 0 where
 
 -- the path of a plain object is among these
 abbrev pub HasItsPath : List Path → Object → Type 0
-HasItsPath paths (kind.Plain cap fields) = Contains paths (path_of cap fields)
+HasItsPath paths (kind.Plain cap proto fields) = Contains paths (path_of cap fields)
 HasItsPath paths (kind.List elements) = Unit {0}
 HasItsPath paths (kind.Weak entries) = Unit {0}
 
 -- Variables and objects hold integers of 64 bits and references to objects of the graph alone, the paths are in order,
--- and the path of each plain object is among them.
+-- the path of each plain object is among them, and prototypes are plain objects in no ring.
 pub record IsGraph (graph : Graph) : Type 0 where
   pub bound : AreBound (length graph.objects) graph.bindings
   pub made : All (IsObject (length graph.objects)) graph.objects
   pub paths : ArePaths graph.paths
   pub shaped : All (HasItsPath graph.paths) graph.objects
+  pub protos : AreProtos graph.objects

@@ -2,6 +2,7 @@ pub mod Values
 pub mod Objects
 pub mod Paths
 pub mod Graphs
+pub mod Prototypes
 pub mod Texts
 pub mod Reach
 pub mod Meaning

@@ -77,7 +77,7 @@ no_entry_for marks entries key =
 -- the graph with these fields in the object in place of its own, and these paths
 abbrev pub refill : Graph → PlainObject → List Field → List Path → Graph
 refill graph plain fields paths =
-    record graph { objects = slice_set graph.objects plain.number (Plain plain.cap fields); paths = paths }
+    record graph { objects = slice_set graph.objects plain.number (Plain plain.cap plain.proto fields); paths = paths }
 
 -- gives the object these fields, and adds the path and its prefixes
 abbrev pub reshape : Limits → Graph → PlainObject → List Field → Outcome
@@ -108,7 +108,7 @@ same_value _ _ = false
 -- The meaning of a command. `names` are the field names by number. Variables that the command reads are
 -- read from left to right, and the first that is unbound is the fault; then come the other faults, in order.
 abbrev pub meaning : Limits → List (List ℕ) → Graph → Command → Outcome
-meaning limits names graph (command.New x cap) = done (make graph x (Plain cap [])) []
+meaning limits names graph (command.New x cap) = done (make graph x (Plain cap None [])) []
 meaning limits names graph (command.List x) = done (make graph x (ListOf [])) []
 meaning limits names graph (command.Weak x) = done (make graph x (Weak [])) []
 meaning limits names graph (command.LetValue x v) =

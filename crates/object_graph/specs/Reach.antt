@@ -1,6 +1,6 @@
 -- Which objects can be reached from the variables, and the census.
 use Rattle.std.specs.Prelude.{ℕ, zero, suc, Bool, true, false, ◌&&◌, ◌||◌, List, map, length, zip, slice_get, unwrap_or}
-use Rattle.std.specs.Prelude.{◌==◌, count_by, sum_by}
+use Rattle.std.specs.Prelude.{◌==◌, count_by, sum_by, Option, Some, None}
 use Rattle.std.specs.List.{list_any, range_with_len}
 use Rattle.std.specs.FinMap.{values}
 use Rattle.object_graph.specs.declared.value.Value.{Value}
@@ -19,9 +19,16 @@ refers_to number (Int v) = false
 refers_to number Undefined = false
 refers_to number (Ref other) = other == number
 
--- An object links to another: by a field, by an element, or by the value of an entry whose key is marked.
+-- the prototype, if there is one, is the object of this number
+abbrev pub is_number : ℕ → Option ℕ → Bool
+is_number number None = false
+is_number number (Some other) = other == number
+
+-- An object links to another: by its prototype, by a field, by an element, or by the value of an entry whose key is
+-- marked.
 abbrev pub links : List Bool → Object → ℕ → Bool
-links marks (kind.Plain cap fields) number = list_any (λ field. refers_to number field.value) fields
+links marks (kind.Plain cap proto fields) number =
+    is_number number proto || list_any (λ field. refers_to number field.value) fields
 links marks (kind.List elements) number = list_any (refers_to number) elements
 links marks (kind.Weak entries) number =
     list_any (λ entry. is_marked marks entry.key && refers_to number entry.value) entries
@@ -52,7 +59,7 @@ reach graph = rounds graph (length graph.objects)
 
 -- the entries of an object whose keys are marked
 abbrev pub marked_entries : List Bool → Object → ℕ
-marked_entries marks (kind.Plain cap fields) = 0
+marked_entries marks (kind.Plain cap proto fields) = 0
 marked_entries marks (kind.List elements) = 0
 marked_entries marks (kind.Weak entries) = count_by (λ entry. is_marked marks entry.key) entries
 

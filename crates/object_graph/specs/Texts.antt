@@ -16,7 +16,7 @@ line text = text ++ 10 ∷ []
 
 -- what the text of a value calls an object of this kind
 abbrev pub noun : Object → List ℕ
-noun (kind.Plain cap fields) = codes "object "
+noun (kind.Plain cap proto fields) = codes "object "
 noun (kind.List elements) = codes "list "
 noun (kind.Weak entries) = codes "weak "
 

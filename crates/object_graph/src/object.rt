@@ -114,10 +114,18 @@ impl Entries {
 /// An object, by its kind.
 #[derive(Debug, Drop)]
 pub enum Object {
-    /// It has so many slots of its own, and these fields.
-    Plain { cap: u32, fields: Fields },
+    /// It has so many slots of its own, a prototype or none, by its number, and these fields.
+    Plain {
+        cap: u32,
+        proto: Option<u32>,
+        fields: Fields,
+    },
     /// A list of these elements.
-    List { elements: Elements },
+    List {
+        elements: Elements,
+    },
     /// A weak map of these entries.
-    Weak { entries: Entries },
+    Weak {
+        entries: Entries,
+    },
 }

@@ -13,8 +13,8 @@ use std::test::Fail;
 /// fill the only page with them. A soak collects fully at its end.
 const COUNTS: &str = "\
 run |  | 0 0 0 | 0 0
-run | new x 2; set x a 5; get y x a; print y | 4 0 0 | 4 0
-run | new x 1; set x a 5; set y b 6 | 2 3 0 | 3 0
+run | new x 2; set x a 5; get y x a; print y | 4 0 0 | 5 0
+run | new x 1; set x a 5; set y b 6 | 2 3 0 | 4 0
 run | repeat 0; print 1; end; print 2 | 2 0 0 | 0 0
 run | repeat 2; print 1; end; print 2 | 6 0 0 | 0 0
 run | let i 0; repeat 2; repeat 3; add i 1; end; print i; end | 20 0 0 | 0 0
@@ -24,59 +24,59 @@ run | gc | 1 0 0 | 0 0
 run | mark | 1 0 0 | 0 0
 run | mark x | 
 run | new x 0; mark | 2 0 0 | 0 0
-run | new x 0; mark; new y 0; mark | 4 0 0 | 2 0
-run | new x 0; finish | 2 0 0 | 2 0
+run | new x 0; mark; new y 0; mark | 4 0 0 | 3 0
+run | new x 0; finish | 2 0 0 | 3 0
 run | new x 0; mark; finish | 3 0 0 | 0 0
 run | new x 0; mark; scavenge; finish | 4 0 0 | 0 0
-run | mark; finish; new x 0; finish | 4 0 0 | 2 0
-run | mark; gc; new x 0; finish | 4 0 0 | 2 0
+run | mark; finish; new x 0; finish | 4 0 0 | 3 0
+run | mark; gc; new x 0; finish | 4 0 0 | 3 0
 run | repeat 2; new x 0; finish; mark; end | 9 0 0 | 0 0
 run x | print 5 | 
 soak 0 1 |  | 137 0 0 | 0 0
 run | scavenge | 1 0 0 | 0 0
-run | repeat 6000; new x 8; end | 12001 0 0 | 2730 10
-run | let p undefined; repeat 6000; new x 8; set x n p; let p x; end | 24002 0 0 | 2600 0
-run --pages 1 | let p undefined; repeat 6000; new x 8; set x n p; let p x; end | 4094 3 10 | 0 8190
-run --young 64 | repeat 100; new x 2; end | 201 0 0 | 36 4
-run --young 64 | let p undefined; repeat 100; new x 2; set x n p; let p x; end | 402 0 0 | 60 0
-run --pages 1 --young 64 | let p undefined; repeat 600; new x 2; set x n p; let p x; end | 2114 3 4 | 0 64
+run | repeat 6000; new x 7; end | 12001 0 0 | 2730 10
+run | let p undefined; repeat 6000; new x 7; set x n p; let p x; end | 24002 0 0 | 2600 0
+run --pages 1 | let p undefined; repeat 6000; new x 7; set x n p; let p x; end | 4094 3 10 | 0 8190
+run --young 64 | repeat 100; new x 1; end | 201 0 0 | 36 4
+run --young 64 | let p undefined; repeat 100; new x 1; set x n p; let p x; end | 402 0 0 | 60 0
+run --pages 1 --young 64 | let p undefined; repeat 600; new x 1; set x n p; let p x; end | 2114 3 4 | 0 64
 run --young 64 | new x 1; set x a x; repeat 100; set x a 1; set x a 5000000000; end | 303 0 0 | 16 0
-run --young 64 | new x 1; set x a x; repeat 100; set x a 5000000000; end | 203 0 0 | 5 0
+run --young 64 | new x 1; set x a x; repeat 100; set x a 5000000000; end | 203 0 0 | 6 0
 run --young 64 | list l; repeat 100; push l 1; end | 202 0 0 | 0 0
-run --pages 1 --young 64 | let o 0; repeat 512; new t 2; set t n o; let o t; end; scavenge; scavenge; \
+run --pages 1 --young 64 | let o 0; repeat 512; new t 1; set t n o; let o t; end; scavenge; scavenge; \
 list l; repeat 100; push l 1; end | 2118 11 66 | 0 37
 run --young 64 | list l; repeat 100; push l 5000000000; end | 202 0 0 | 4 2
-run --pages 1 --young 64 | let o 0; repeat 512; new t 2; set t n o; let o t; end; scavenge; scavenge; \
+run --pages 1 --young 64 | let o 0; repeat 512; new t 1; set t n o; let o t; end; scavenge; scavenge; \
 list l; repeat 100; push l 5000000000; end | 2086 11 36 | 0 53
 run --young 64 | list l; push l 1; repeat 100; put l 0 5000000000; put l 0 1; end | 303 0 0 | 28 0
-run --young 64 | list l; repeat 5; new x 8; push l x; end; new z 2; push l 5000000000 | 19 0 0 | 2 4
-run --pages 1 --young 64 | let o 0; repeat 512; new t 2; set t n o; let o t; end; scavenge; scavenge; \
-list l; repeat 5; new x 8; push l x; end; new z 2; push l 5000000000 | 2067 12 10 | 0 59
+run --young 64 | list l; repeat 5; new x 7; push l x; end; new z 1; push l 5000000000 | 19 0 0 | 2 4
+run --pages 1 --young 64 | let o 0; repeat 512; new t 1; set t n o; let o t; end; scavenge; scavenge; \
+list l; repeat 5; new x 7; push l x; end; new z 1; push l 5000000000 | 2067 12 10 | 0 59
 run --young 1519 | list l; repeat 1001; push l 7; end | 2002 3 0 | 1002 517
 run --young 1518 | list l; repeat 1001; push l 7; end | 2002 3 0 | 0 517
-run --pages 1 --young 1518 | let o 0; repeat 512; new t 2; set t n o; let o t; end; scavenge; scavenge; \
+run --pages 1 --young 1518 | let o 0; repeat 512; new t 1; set t n o; let o t; end; scavenge; scavenge; \
 list l; repeat 1001; push l 7; end | 3078 11 1002 | 0 517
 run --young 64 | list l; push l 1; repeat 100; push l 2; trunc l 1; end | 303 0 0 | 6 3
 run --young 64 | list l; repeat 4; push l 1; end; repeat 100; shift l 1; push l 1; end | 311 0 0 | 56 5
-run --young 64 | weak m; repeat 100; new k 0; wput m k 1; end | 302 0 0 | 6 32
-run --pages 1 --young 64 | let o 0; repeat 512; new t 2; set t n o; let o t; end; scavenge; scavenge; \
-weak m; repeat 100; new k 0; wput m k 1; end | 2354 0 0 | 6 23
-run --pages 1 --young 64 | let o 0; repeat 512; new t 2; set t n o; let o t; end; scavenge; scavenge; \
-weak m; repeat 100; new k 1; set k n o; let o k; wput m k 1; end | 2077 14 34 | 0 36
+run --young 64 | weak m; repeat 100; new k 0; wput m k 1; end | 302 0 0 | 12 30
+run --pages 1 --young 64 | let o 0; repeat 512; new t 1; set t n o; let o t; end; scavenge; scavenge; \
+weak m; repeat 100; new k 0; wput m k 1; end | 2354 0 0 | 9 24
+run --pages 1 --young 64 | let o 0; repeat 512; new t 1; set t n o; let o t; end; scavenge; scavenge; \
+weak m; repeat 100; new k 1; set k n o; let o k; wput m k 1; end | 2077 14 34 | 0 41
 run --young 64 | weak m; new k 0; wput m k 1; repeat 100; wput m k 5000000000; wput m k 1; end | 304 0 0 | 40 0
-run --young 64 | list l; weak m; repeat 3; new x 8; wput m x l; drop x; scavenge; end | 18 0 0 | 0 28
-run --young 64 | new x 0; scavenge; new y 0; scavenge; drop x; scavenge; new z 0 | 7 0 0 | 2 0
-run --pages 1 --young 64 | let o 0; repeat 512; new t 2; set t n o; let o t; end; scavenge; scavenge; \
-new x 0; scavenge; new y 0; scavenge; drop x; scavenge; new z 0 | 2059 0 0 | 2 2
-run --pages 1 --young 64 | new x 0; scavenge | 2 0 0 | 0 2
+run --young 64 | list l; weak m; repeat 3; new x 7; wput m x l; drop x; scavenge; end | 18 0 0 | 0 28
+run --young 64 | new x 0; scavenge; new y 0; scavenge; drop x; scavenge; new z 0 | 7 0 0 | 3 0
+run --pages 1 --young 64 | let o 0; repeat 512; new t 1; set t n o; let o t; end; scavenge; scavenge; \
+new x 0; scavenge; new y 0; scavenge; drop x; scavenge; new z 0 | 2059 0 0 | 3 3
+run --pages 1 --young 64 | new x 0; scavenge | 2 0 0 | 0 3
 run --pages 1 --young 64 | new x 0; scavenge; scavenge | 3 0 0 | 0 0
-run --pages 1 --young 64 | new x 0; scavenge; scavenge; new y 0; set x a y; drop y; scavenge | 7 0 0 | 0 8
-run --pages 1 --young 64 | new a 8; new b 8; new c 8; new d 8; new e 8; new f 8; new g 2; new x 8 | 8 0 0 | 0 64
-run --pages 1 --young 64 | new a 8; new b 8; new c 8; new d 8; new e 8; new f 8; new g 2; new x 8; new y 0 | \
-9 0 0 | 2 0
-run --pages 1 --young 64 | list l; new u 1; let o 0; repeat 494; new t 2; set t n o; let o t; end; scavenge; scavenge; \
+run --pages 1 --young 64 | new x 0; scavenge; scavenge; new y 0; set x a y; drop y; scavenge | 7 0 0 | 0 9
+run --pages 1 --young 64 | new a 7; new b 7; new c 7; new d 7; new e 7; new f 7; new g 1; new x 7 | 8 0 0 | 0 64
+run --pages 1 --young 64 | new a 7; new b 7; new c 7; new d 7; new e 7; new f 7; new g 1; new x 7; new y 0 | \
+9 0 0 | 3 0
+run --pages 1 --young 64 | list l; new u 0; let o 0; repeat 494; new t 1; set t n o; let o t; end; scavenge; scavenge; \
 repeat 65; push l 7; end | 2111 12 130 | 0 0
-run --pages 1 --young 64 | list l; new u 2; let o 0; repeat 494; new t 2; set t n o; let o t; end; scavenge; scavenge; \
+run --pages 1 --young 64 | list l; new u 1; let o 0; repeat 494; new t 1; set t n o; let o t; end; scavenge; scavenge; \
 repeat 65; push l 7; end | 2047 12 66 | 0 0";
 
 #[test]

@@ -71,7 +71,7 @@ fn each_write_that_fails_leaves_the_front_of_the_output(rt: HostRuntime) -> Resu
     check_front(&rt, "print 5; print 6", (2, 2), (2, "2 0 0"))?;
     check_front(
         &rt,
-        "let p undefined; repeat 20000; new x 8; set x n p; let p x; end",
+        "let p undefined; repeat 20000; new x 7; set x n p; let p x; end",
         (4096, 1),
         (0, "55502 3 10"),
     )?;

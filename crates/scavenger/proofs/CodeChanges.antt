@@ -17,6 +17,7 @@ pub changes_nothing : (main : Mutator) → ChangesWords main main
 changes_nothing main = record {
   seat = rest_stays_itself main.seat;
   paths = refl;
+  cycle = refl;
   young = refl;
   bound = refl;
   count = refl;
@@ -28,6 +29,7 @@ pub changes_again : {first old new : Mutator} → ChangesWords first old → Cha
 changes_again {first} {old} {new} before then = record {
   seat = rest_stays_again first.seat old.seat new.seat before.seat then.seat;
   paths = then.paths ∙ before.paths;
+  cycle = then.cycle ∙ before.cycle;
   young = then.young ∙ before.young;
   bound = then.bound ∙ before.bound;
   count = then.count ∙ before.count;
@@ -41,6 +43,7 @@ pub put_changes : {old new : Mutator} (a word : ℕ) → new ≡ with_word old a
 put_changes {old} {new} a word is heap below = record {
   seat = subst (λ (main : Mutator). RestStays old.seat main.seat) (sym is) (stays_beside-put old.seat a word);
   paths = ap (λ (main : Mutator). main.paths) is;
+  cycle = ap (λ (main : Mutator). main.cycle) is;
   young = ap (λ (main : Mutator). main.young) is;
   bound = ap (λ (main : Mutator). main.recorded.bound) is ∙ wiped_bound old.recorded a (a + 1);
   count = ap length heap ∙ length-set (heap_words old.seat) a word;
@@ -61,6 +64,7 @@ copy_changes {old} {new} from to count is heap heap_counted within room =
       seat = subst (λ (main : Mutator). RestStays old.seat main.seat) (sym is)
           (stays_beside old.seat (copied old.seat.table from to count) long);
       paths = ap (λ (main : Mutator). main.paths) is;
+      cycle = ap (λ (main : Mutator). main.cycle) is;
       young = ap (λ (main : Mutator). main.young) is;
       bound = ap (λ (main : Mutator). main.recorded.bound) is ∙ wiped_bound old.recorded to (to + count);
       count = ap length heap ∙ long;

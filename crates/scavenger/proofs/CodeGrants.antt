@@ -55,7 +55,7 @@ module _ {old mid new : Mutator} {graph : Graph} {n : ℕ} {run : Run} {free : C
     (is_free : IsFreeAt old.seat.space (heap_words old.seat) free run.at) (taken : CutsFreeCell old mid n run free)
     (young : new.young ≡ with_granted mid.young run)
     (heap : heap_words new.seat ≡ with_fillers (heap_words mid.seat) run.at run.words)
-    (beside : RestStays mid.seat new.seat) (paths : new.paths ≡ mid.paths)
+    (beside : RestStays mid.seat new.seat) (paths : new.paths ≡ mid.paths) (cycle : new.cycle ≡ mid.cycle)
     (touches : Touches mid new (touched Touch.Wiped run.at (run.at + run.words))) where
   -- the run of which words are granted
   abbrev one : Run
@@ -150,6 +150,7 @@ module _ {old mid new : Mutator} {graph : Graph} {n : ℕ} {run : Run} {free : C
     young = young_is;
     beside = rest_stays;
     paths = paths ∙ taken.changes.paths;
+    cycle = cycle ∙ taken.changes.cycle;
     bound = touches.bound ∙ taken.changes.bound;
     recorded = λ at. (recorded_was at, recorded_stays at);
     words = words_are;

@@ -18,7 +18,7 @@ use Rattle.scav_copy.specs.Renamings.{RefersToAddress}
 use Rattle.scav_copy.specs.Copies.{with_home}
 use Rattle.scav_copy.proofs.Ascending.{new_in, old_in}
 use Rattle.scavenger.specs.declared.progress.Progress.{Progress}
-use Rattle.scavenger.specs.Starts.{Start, start_of}
+use Rattle.scavenger.specs.Starts.{Start, SegmentCopies, start_with}
 use Rattle.scavenger.specs.Filling.{ChangesWords, Front, CopiesFillRooms, IsToDo, OthersAreDone}
 use Rattle.scavenger.specs.Following.{Copies, IsFreeAt, IsFromSpace, moved_words}
 use Rattle.scavenger.specs.Walking.{AreKept, CopiesCell, HasMoved, IsWellPlaced, IsToPromote, Places}
@@ -37,16 +37,17 @@ use Rattle.scavenger.proofs.PlacedCopies.{placed_on, placed_refused, placed_in_p
 use Rattle.scavenger.proofs.CodeChanges.{changes_again}
 
 -- A cell was copied: what became of words, free runs, what is recorded and where copies are.
-pub record Copied (start old new : Mutator) (all : Bool) (fixed : Fixed) (homes : List Home) (before after : Progress)
-    (cell : Cell) (to : ℕ) : Type 0 where
+pub record Copied (start : Mutator) (handed : List SegmentCopies) (old new : Mutator) (all : Bool) (fixed : Fixed)
+    (homes : List Home) (before after : Progress) (cell : Cell) (to : ℕ) : Type 0 where
   pub copies : Copies start.seat.space (heap_words old.seat) old.free before.fill cell (heap_words new.seat) new.free
       after.fill to
   pub from : ℕ
   pub end : ℕ
   pub spares : Spares fixed homes (heap_words old.seat) (heap_words new.seat) cell.at from end
-  pub kept : AreKept (start_of start) fixed (heap_words new.seat) (with_home homes (home_at cell to))
+  pub kept : AreKept (start_with start handed) fixed (heap_words new.seat) (with_home homes (home_at cell to))
       new.recorded.slots
-  pub placed : IsWellPlaced (start_of start) fixed new.free (with_home homes (home_at cell to)) all after.refused
+  pub placed : IsWellPlaced (start_with start handed) fixed new.free
+      (with_home homes (home_at cell to)) all after.refused
   pub changes : ChangesWords old new
   pub same : after.copied ≡ before.copied
 
@@ -57,6 +58,7 @@ to_do_alike : {start : Start} {fixed : Fixed} {homes : List Home} {todo more : L
 to_do_alike among (IsToDo.root from) = IsToDo.root from
 to_do_alike among (IsToDo.recorded from below there) = IsToDo.recorded from below there
 to_do_alike among (IsToDo.at_hand from below) = IsToDo.at_hand from below
+to_do_alike among (IsToDo.left there) = IsToDo.left there
 to_do_alike among (IsToDo.listed home there is inside) = IsToDo.listed home there (among home.to is) inside
 
 -- what stands first on a list may stand last
@@ -71,9 +73,10 @@ last_as_first todo to at there = elim (in_cases to todo at there) [
 pub two_halves : (left : ℕ) → left ≤ 1 → other_half left + left ≡ 1
 two_halves left two = omega arith
 
-module _ {start old : Mutator} {all : Bool} {before : Progress} {todo : List ℕ} {front : Front}
-    (state : Scavenging start old all before todo front) {cell : Cell}
-    (is_new : IsNew (start_of start) state.fixed (heap_words old.seat) state.homes before.fill cell) where
+module _ {start old : Mutator} {handed : List SegmentCopies} {all : Bool} {before : Progress} {todo : List ℕ}
+    {front : Front}
+    (state : Scavenging start handed old all before todo front) {cell : Cell}
+    (is_new : IsNew (start_with start handed) state.fixed (heap_words old.seat) state.homes before.fill cell) where
   -- the bound of what is recorded is where eden begins
   bound_is : old.recorded.bound ≡ eden_start start.seat.space
   bound_is = state.changes.bound ∙ state.bounded
@@ -88,10 +91,11 @@ module _ {start old : Mutator} {all : Bool} {before : Progress} {todo : List ℕ
 
   -- the copy in the segment
   copied_behind : (new : Mutator) (after : Progress) → CopiesCell old new cell before.fill
-      → IsWellPlaced (start_of start) state.fixed old.free (with_home state.homes (home_at cell before.fill)) all
+      → IsWellPlaced (start_with start handed) state.fixed old.free
+      (with_home state.homes (home_at cell before.fill)) all
       after.refused
       → after.fill ≡ before.fill + cell.size → after.copied ≡ before.copied
-      → Copied start old new all state.fixed state.homes before after cell before.fill
+      → Copied start handed old new all state.fixed state.homes before after cell before.fill
   copied_behind new after copies placed behind same =
       let words : List ℕ = heap_words old.seat in
       let spares : Spares state.fixed state.homes words (heap_words new.seat) cell.at before.fill
@@ -112,7 +116,7 @@ module _ {start old : Mutator} {all : Bool} {before : Progress} {todo : List ℕ
         kept = kept_copy state.begun state.filled.copying spares
             (records_behind (eden_start start.seat.space) before.fill bound_is segment_young is_young copies)
             before.fill (fresh_behind state.begun state.filled is_new (heap_words new.seat)) state.kept;
-        placed = subst (λ (rows : List (List Run)). IsWellPlaced (start_of start) state.fixed rows
+        placed = subst (λ (rows : List (List Run)). IsWellPlaced (start_with start handed) state.fixed rows
             (with_home state.homes (home_at cell before.fill)) all after.refused) (sym copies.free) placed;
         changes = copies.changes;
         same = same;
@@ -123,10 +127,10 @@ module _ {start old : Mutator} {all : Bool} {before : Progress} {todo : List ℕ
       → IsToPromote start.seat.space all cell.at → TakesFront old.free mid.free cell.size run
       → IsFreeAt start.seat.space (heap_words old.seat) free run.at → CutsFreeCell old mid cell.size run free
       → CopiesCell mid new cell run.at
-      → Copied start old new all state.fixed state.homes before before cell run.at
+      → Copied start handed old new all state.fixed state.homes before before cell run.at
   copied_in_run {mid} new run free promote takes is_free taken copies =
       let words : List ℕ = heap_words old.seat in
-      let room : TakesRoom (start_of start) state.fixed state.homes cell.size free.size run =
+      let room : TakesRoom (start_with start handed) state.fixed state.homes cell.size free.size run =
       takes_room state.begun state.filled takes is_free in
       let now : List ℕ = moved_words (rest_words words cell free run.at) cell run.at in
       let is : heap_words new.seat ≡ now =
@@ -149,8 +153,9 @@ module _ {start old : Mutator} {all : Bool} {before : Progress} {todo : List ℕ
             run.at
             (λ offset visited of_page refers.
             fresh_in_run state.begun state.filled is_new free room offset visited of_page
-            (subst (λ (one : List ℕ). RefersToRoom (start_of start) one (run.at + offset)) is refers)) state.kept;
-        placed = subst (λ (rows : List (List Run)). IsWellPlaced (start_of start) state.fixed rows
+            (subst (λ (one : List ℕ). RefersToRoom (start_with start handed) one
+            (run.at + offset)) is refers)) state.kept;
+        placed = subst (λ (rows : List (List Run)). IsWellPlaced (start_with start handed) state.fixed rows
             (with_home state.homes (home_at cell run.at)) all before.refused) (sym copies.free)
             (placed_in_page state.placed cell.at run.at mid.free cell.size run takes below promote);
         changes = changes_again taken.changes copies.changes;
@@ -160,7 +165,7 @@ module _ {start old : Mutator} {all : Bool} {before : Progress} {todo : List ℕ
   -- the same of any copy
   pub copied_by : {mid : Mutator} (new : Mutator) (after : Progress) (to : ℕ)
       → Places old mid all cell.at cell.size before after to → CopiesCell mid new cell to
-      → Copied start old new all state.fixed state.homes before after cell to
+      → Copied start handed old new all state.fixed state.homes before after cell to
   copied_by new _ _ (Places.stays same not_to) copies =
       let not_at_start : IsToPromote start.seat.space all cell.at → ⊥ = λ promote.
       not_to (subst (λ (space : Space). IsToPromote space all cell.at) (sym state.changes.seat.space) promote) in
@@ -176,7 +181,8 @@ module _ {start old : Mutator} {all : Bool} {before : Progress} {todo : List ℕ
       let some = (cells_have_words start.seat.space (heap_words old.seat) cell is_new.is_cell).0 in
       copied_behind new (stays_young (record before { refused = cell.size }) cell.size)
       (subst (λ (main : Mutator). CopiesCell main new cell before.fill) same copies)
-      (subst (IsWellPlaced (start_of start) state.fixed old.free (with_home state.homes (home_at cell before.fill)) all)
+      (subst (IsWellPlaced (start_with start handed) state.fixed old.free
+      (with_home state.homes (home_at cell before.fill)) all)
       (sym size)
       (placed_refused state.placed cell.at before.fill segment_young (omega (arith, some, size))
       (omega (arith, less, size)) (subst (FitsNowhere old.free) size none))) refl refl
@@ -186,7 +192,7 @@ module _ {start old : Mutator} {all : Bool} {before : Progress} {todo : List ℕ
       (subst (λ (space : Space). IsFreeAt space (heap_words old.seat) free run.at) space_is is_free) taken copies
 
   module _ {new : Mutator} {after : Progress} {to : ℕ}
-      (copied : Copied start old new all state.fixed state.homes before after cell to) (slot place : ℕ)
+      (copied : Copied start handed old new all state.fixed state.homes before after cell to) (slot place : ℕ)
       (stood : StoodAt state.fixed state.homes slot place)
       (refers : RefersToAddress (heap_words old.seat) slot cell.at)
       (is_left : IsFromSpace start.seat.space start.young.half cell.at)
@@ -200,16 +206,16 @@ module _ {start old : Mutator} {all : Bool} {before : Progress} {todo : List ℕ
     grown = record after { copied = after.copied + cell.size }
 
     -- the scavenge goes on with the copy on the list
-    next_scavenging : Scavenging start new all grown (todo ++ to ∷ []) front
+    next_scavenging : Scavenging start handed new all grown (todo ++ to ∷ []) front
     next_scavenging =
-        let goes_on = copying_goes_on (start_of start) start.young.half state.fixed (heap_words old.seat)
+        let goes_on = copying_goes_on (start_with start handed) start.young.half state.fixed (heap_words old.seat)
         (heap_words new.seat) old.free new.free state.homes todo front cell before.fill after.fill to slot place
         state.begun (two_halves start.young.half state.two) state.filled stood refers is_left head is_new.is_cell
         copied.copies in
         let some = (cells_have_words start.seat.space (heap_words old.seat) cell is_new.is_cell).0 in
         let more = one_home_more (size_of state.fixed) state.homes (home_at cell to) in
         let Done : List Home → List ℕ → Type 0 = λ homes list.
-        OthersAreDone (start_of start) state.fixed (heap_words new.seat) homes list front in
+        OthersAreDone (start_with start handed) state.fixed (heap_words new.seat) homes list front in
         let done : Done all_homes (to ∷ todo) =
         subst (λ (homes : List Home). Done homes (to ∷ todo)) goes_on.are (goes_on.others state.others) in
         record {
@@ -219,7 +225,8 @@ module _ {start old : Mutator} {all : Bool} {before : Progress} {todo : List ℕ
           bounded = state.bounded;
           quiet = copied.changes.seat.phase ∙ state.quiet;
           begun = state.begun;
-          filled = subst (λ (homes : List Home). CopiesFillRooms (start_of start) state.fixed (heap_words new.seat)
+          filled = subst (λ (homes : List Home). CopiesFillRooms (start_with start handed) state.fixed
+              (heap_words new.seat)
               new.free
               homes after.fill) goes_on.are goes_on.filled;
           copied = omega (arith, copied.same, state.copied, more, is_new.size);
@@ -238,7 +245,7 @@ module _ {start old : Mutator} {all : Bool} {before : Progress} {todo : List ℕ
         }
 
     -- and the cell has its home there
-    pub moved_by : HasMoved start old new all before grown todo (todo ++ to ∷ []) front cell.at to state
+    pub moved_by : HasMoved start handed old new all before grown todo (todo ++ to ∷ []) front cell.at to state
     unfolding next_scavenging
     moved_by =
         let some = (cells_have_words start.seat.space (heap_words old.seat) cell is_new.is_cell).0 in

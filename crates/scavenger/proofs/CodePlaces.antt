@@ -80,11 +80,11 @@ wiped_range {old} {new} from to at touches below =
 -- The front of a run was taken, and then the rest made a free cell.
 pub run_taken : {old mid new : Mutator} {size : ℕ} {run : Run} (free : Cell) → mid ≡ record old { free = mid.free }
     → TakesFront old.free mid.free size run → size ≤ free.size → RestStays mid.seat new.seat
-    → new.paths ≡ mid.paths → new.young ≡ mid.young
+    → new.paths ≡ mid.paths → new.cycle ≡ mid.cycle → new.young ≡ mid.young
     → heap_words new.seat ≡ with_free_cell (heap_words mid.seat) (run.at + size) (free.size - size)
     → Touches mid new (touched Touch.Wiped (run.at + size) (run.at + size + (free.size - size)))
     → CutsFreeCell old new size run free
-run_taken {old} {mid} {new} {size} {run} free is takes enough rest paths young heap touches =
+run_taken {old} {mid} {new} {size} {run} free is takes enough rest paths cycle young heap touches =
     let from : ℕ = run.at + size in
     let to : ℕ = from + (free.size - size) in
     let ends : to ≡ run.at + free.size = omega (arith, enough) in
@@ -96,6 +96,7 @@ run_taken {old} {mid} {new} {size} {run} free is takes enough rest paths young h
       changes = record {
         seat = subst (λ (seat : Seat). RestStays seat new.seat) same rest;
         paths = paths ∙ ap (λ (main : Mutator). main.paths) is;
+        cycle = cycle ∙ ap (λ (main : Mutator). main.cycle) is;
         young = young ∙ ap (λ (main : Mutator). main.young) is;
         count = ap length words ∙ length-free_cell (heap_words old.seat) from (free.size - size);
         bound = touches.bound ∙ ap (λ (one : Recorded). one.bound) was;

@@ -10,17 +10,19 @@ use Rattle.tagged_word.specs.Readings.{reference_in}
 use Rattle.tagged_word.proofs.Readings.{reference_to}
 use Rattle.page_space.specs.Extents.{eden_start, marks_start}
 use Rattle.remembered_set.specs.Recorded.{Recorded}
+use Rattle.heap_table.specs.Phases.{Quiet}
 use Rattle.write_barrier.specs.Seats.{RestStays, heap_words}
 use Rattle.write_barrier.proofs.HeapWords.{stays_beside-put}
 use Rattle.heap_model.specs.Types.{Run}
 use Rattle.write_barrier.specs.MutatorState.{Mutator, judged, with_slot}
 use Rattle.write_barrier.proofs.JudgedSlots.{judges_one, judged_behind, told_young}
+use Rattle.write_barrier.proofs.SlotCycles.{cycle_idle}
 use Rattle.scav_copy.specs.declared.places.Home.{Home}
 use Rattle.scav_copy.specs.Places.{Fixed, StoodAt}
 use Rattle.scav_copy.specs.Renamings.{RefersToAddress}
 use Rattle.scav_copy.proofs.Spots.{home_fits}
 use Rattle.scavenger.specs.declared.progress.Progress.{Progress}
-use Rattle.scavenger.specs.Starts.{start_of}
+use Rattle.scavenger.specs.Starts.{SegmentCopies, start_with}
 use Rattle.scavenger.specs.Filling.{ChangesWords, Front, CopiesFillRooms}
 use Rattle.scavenger.specs.Following.{IsFromSpace, HasRenamed}
 use Rattle.scavenger.specs.Walking.{AreKept, HasCopiedMore, HasFollowed, HasMoved, IsWellPlaced, Scavenging}
@@ -60,13 +62,15 @@ judged_bound recorded slot word = elim (cases_lt slot recorded.bound) [
   | inr above ↦ ap (λ (all : Recorded). all.bound) (judged_behind recorded slot word above)
 ]
 
--- a slot's word that is put before the marks is a change of heap words
-store_changes : {old new : Mutator} (slot word : ℕ) → new ≡ with_slot old slot word
+-- a slot's word that is put before the marks is a change of heap words, while no cycle is open
+store_changes : {old new : Mutator} (slot word : ℕ) → old.seat.phase ≡ Quiet → new ≡ with_slot old slot word
     → heap_words new.seat ≡ slice_set (heap_words old.seat) slot word → slot < marks_start old.seat.space
     → ChangesWords old new
-store_changes {old} {new} slot word is heap below = record {
+store_changes {old} {new} slot word quiet is heap below = record {
   seat = subst (λ (main : Mutator). RestStays old.seat main.seat) (sym is) (stays_beside-put old.seat slot word);
   paths = ap (λ (main : Mutator). main.paths) is;
+  cycle = ap (λ (main : Mutator). main.cycle) is
+      ∙ cycle_idle old slot _ (λ mark. let clash = sym quiet ∙ mark in cc);
   young = ap (λ (main : Mutator). main.young) is;
   bound = ap (λ (main : Mutator). main.recorded.bound) is ∙ judged_bound old.recorded slot word;
   count = ap length heap ∙ length-set (heap_words old.seat) slot word;
@@ -74,9 +78,10 @@ store_changes {old} {new} slot word is heap below = record {
 }
 
 -- nothing has changed, and the scavenge stands where it did
-abbrev pub goes_nowhere : {start old : Mutator} {all : Bool} {before : Progress} {todo : List ℕ} {front : Front}
-    (state : Scavenging start old all before todo front)
-    → HasCopiedMore start old old all before before todo todo front state
+abbrev pub goes_nowhere : {start old : Mutator} {handed : List SegmentCopies} {all : Bool} {before : Progress}
+    {todo : List ℕ} {front : Front}
+    (state : Scavenging start handed old all before todo front)
+    → HasCopiedMore start handed old old all before before todo todo front state
 goes_nowhere state = record {
   next = state;
   same = refl;
@@ -85,9 +90,10 @@ goes_nowhere state = record {
 }
 
 -- A slot that was live is live where the scavenge went on.
-still_live : {start old new : Mutator} {all : Bool} {before after : Progress} {todo more : List ℕ} {front : Front}
-    {state : Scavenging start old all before todo front} (slot place : ℕ)
-    → (on : HasCopiedMore start old new all before after todo more front state)
+pub still_live : {start old new : Mutator} {handed : List SegmentCopies} {all : Bool} {before after : Progress}
+    {todo more : List ℕ} {front : Front}
+    {state : Scavenging start handed old all before todo front} (slot place : ℕ)
+    → (on : HasCopiedMore start handed old new all before after todo more front state)
     → StoodAt state.fixed state.homes slot place
     → StoodAt on.next.fixed on.next.homes slot place
 still_live {state = state} slot place on stood =
@@ -98,8 +104,9 @@ still_live {state = state} slot place on stood =
     ] in
     subst Live (sym on.same) (live_by stood)
 
-module _ {start mid new : Mutator} {all : Bool} {progress : Progress} {todo : List ℕ} {front : Front}
-    (state : Scavenging start mid all progress todo front) (slot place word : ℕ)
+module _ {start mid new : Mutator} {handed : List SegmentCopies} {all : Bool} {progress : Progress} {todo : List ℕ}
+    {front : Front}
+    (state : Scavenging start handed mid all progress todo front) (slot place word : ℕ)
     (home : Home) (there : Contains state.homes home) (stood : StoodAt state.fixed state.homes slot place)
     (refers : RefersToAddress (heap_words mid.seat) slot home.from)
     (is_left : IsFromSpace start.seat.space start.young.half home.from) (stored : new ≡ with_slot mid slot word)
@@ -110,12 +117,15 @@ module _ {start mid new : Mutator} {all : Bool} {progress : Progress} {todo : Li
   stored_words = heap ∙ ap (λ (one : ℕ). slice_set (heap_words mid.seat) slot one) says
 
   -- the slot is renamed
-  renamed : HasRenamed (start_of start) state.fixed (heap_words mid.seat) (heap_words new.seat) mid.free state.homes
+  renamed : HasRenamed (start_with start handed) state.fixed (heap_words mid.seat)
+      (heap_words new.seat) mid.free state.homes
       todo front progress.fill slot
   renamed =
-      subst (λ (now : List ℕ). HasRenamed (start_of start) state.fixed (heap_words mid.seat) now mid.free state.homes
+      subst (λ (now : List ℕ). HasRenamed (start_with start handed) state.fixed
+      (heap_words mid.seat) now mid.free state.homes
       todo front progress.fill slot) (sym stored_words)
-      (renaming_goes_on (start_of start) start.young.half state.fixed (heap_words mid.seat) mid.free state.homes
+      (renaming_goes_on (start_with start handed) start.young.half state.fixed
+      (heap_words mid.seat) mid.free state.homes
       todo front home progress.fill slot place state.begun (two_halves start.young.half state.two) state.filled stood
       refers is_left there)
 
@@ -132,10 +142,10 @@ module _ {start mid new : Mutator} {all : Bool} {progress : Progress} {todo : Li
       (judged_is mid.recorded slot word home.to to))
 
   -- the scavenge goes on
-  next_stored : Scavenging start new all progress todo front
+  next_stored : Scavenging start handed new all progress todo front
   next_stored =
       let free : new.free ≡ mid.free = ap (λ (main : Mutator). main.free) stored in
-      let changes : ChangesWords mid new = store_changes slot word stored heap below in
+      let changes : ChangesWords mid new = store_changes slot word state.quiet stored heap below in
       record {
         fixed = state.fixed;
         homes = state.homes;
@@ -143,13 +153,16 @@ module _ {start mid new : Mutator} {all : Bool} {progress : Progress} {todo : Li
         bounded = state.bounded;
         quiet = changes.seat.phase ∙ state.quiet;
         begun = state.begun;
-        filled = subst (λ (rows : List (List Run)). CopiesFillRooms (start_of start) state.fixed (heap_words new.seat)
+        filled = subst (λ (rows : List (List Run)). CopiesFillRooms (start_with start handed) state.fixed
+            (heap_words new.seat)
             rows
             state.homes progress.fill) (sym free) renamed.filled;
         copied = state.copied;
-        placed = subst (λ (rows : List (List Run)). IsWellPlaced (start_of start) state.fixed rows state.homes all
+        placed = subst (λ (rows : List (List Run)). IsWellPlaced
+            (start_with start handed) state.fixed rows state.homes all
             progress.refused) (sym free) state.placed;
-        kept = subst (λ (now : List ℕ). AreKept (start_of start) state.fixed now state.homes new.recorded.slots)
+        kept = subst
+            (λ (now : List ℕ). AreKept (start_with start handed) state.fixed now state.homes new.recorded.slots)
             (sym stored_words)
             (kept_slot state.begun state.filled.copying slot place home stood there judges state.kept);
         listed = state.listed;
@@ -165,7 +178,7 @@ module _ {start mid new : Mutator} {all : Bool} {progress : Progress} {todo : Li
   stored_done from cell live points is = (renamed.others state.others slot from cell live points is).0 refl
 
   -- so it was followed
-  pub stored_follows : HasFollowed start mid new all progress progress todo todo front slot state
+  pub stored_follows : HasFollowed start handed mid new all progress progress todo todo front slot state
   unfolding next_stored
   stored_follows = record {
     on = record {
@@ -178,14 +191,15 @@ module _ {start mid new : Mutator} {all : Bool} {progress : Progress} {todo : Li
   }
 
 -- a slot whose cell had a home, or got one, was followed once it refers to that
-pub moved_follows : {start old mid new : Mutator} {all : Bool} {before after : Progress} {todo more : List ℕ}
-    {front : Front} {state : Scavenging start old all before todo front} (at to word slot place : ℕ)
-    → HasMoved start old mid all before after todo more front at to state
+pub moved_follows : {start old mid new : Mutator} {handed : List SegmentCopies} {all : Bool}
+    {before after : Progress} {todo more : List ℕ}
+    {front : Front} {state : Scavenging start handed old all before todo front} (at to word slot place : ℕ)
+    → HasMoved start handed old mid all before after todo more front at to state
     → StoodAt state.fixed state.homes slot place → RefersToAddress (heap_words old.seat) slot at
     → IsFromSpace start.seat.space start.young.half at → new ≡ with_slot mid slot word
     → heap_words new.seat ≡ slice_set (heap_words mid.seat) slot word → word ≡ bits_of (Ref to)
     → slot < marks_start mid.seat.space
-    → HasFollowed start old new all before after todo more front slot state
+    → HasFollowed start handed old new all before after todo more front slot state
 moved_follows {start} {old} {mid} {new} {state = state} at to word slot place moved stood refers is_left stored heap
     says below =
     let on = moved.on in

@@ -19,9 +19,10 @@ use Rattle.heap_moves.proofs.RoomsStay.{moves_keep_rooms}
 use Rattle.write_barrier.specs.MutatorState.{Mutator, heap_of, MainShows}
 use Rattle.scav_copy.specs.declared.places.Home.{Home}
 use Rattle.scav_copy.specs.Places.{Fixed, size_of}
-use Rattle.scavenger.specs.Starts.{IsRootAt, start_of}
+use Rattle.scavenger.specs.Starts.{SegmentCopies, IsRootAt, start_of}
 use Rattle.scavenger.specs.Walking.{IsToPromote}
-use Rattle.scavenger.specs.Laws.{IsEnded, EndsAreScavenges}
+use Rattle.scavenger.specs.Laws.{IsEnded, EndsWith, EndsAreScavenges, KeepsGraphs}
+use Rattle.scavenger.specs.Handing.{HasEnded}
 use Rattle.scavenger.specs.Scavenged.{Scavenges, place_after}
 use Rattle.scavenger.proofs.PagesRuns.{word_of_run}
 use Rattle.scavenger.proofs.FilledSegments.{workers_are, segment_fills}
@@ -31,10 +32,11 @@ use Rattle.scavenger.proofs.EndHeap.{runs_are_free}
 use Rattle.scavenger.proofs.EndMoved.{is_collectable}
 use Rattle.scavenger.proofs.EndRecords.{end_is_remembered}
 use Rattle.scavenger.proofs.EndedHeap.{ending_is, left_young, left_is, left_is_moved, left_alone, left_stayed}
-use Rattle.scavenger.proofs.EndedHeap.{left_segments, left_few, left_in_one}
+use Rattle.scavenger.proofs.EndedHeap.{left_segments, left_few, left_handed, left_in_one}
 
-module _ {old new : Mutator} {all : Bool} {fixed : Fixed} {homes : List Home} {words : List ℕ} {fill refused : ℕ}
-    (young : IsYoung old.young) (is : IsEnded old new all fixed homes words fill refused) where
+module _ {old new : Mutator} {handed : List SegmentCopies} {all : Bool} {fixed : Fixed} {homes : List Home}
+    {words : List ℕ} {fill refused : ℕ}
+    (young : IsYoung old.young) (is : IsEnded old handed new all fixed homes words fill refused) where
   -- a word outside is as before, where it was in no free run
   outside : (at : ℕ) → (at < eden_start old.seat.space) ⊎ (roots_start old.seat.space ≤ at)
       → (IsRootAt old.seat.space at → ⊥) → (Contains old.recorded.slots at → ⊥) → (IsFreeWord old.free at → ⊥)
@@ -71,12 +73,19 @@ module _ {old new : Mutator} {all : Bool} {fixed : Fixed} {homes : List Home} {w
       record {
         fixed = fixed;
         homes = homes;
-        begins = is.begun.begins;
+        begins = record {
+          before = is.begun.begins.before;
+          layouts = is.begun.begins.layouts;
+          cells = is.begun.begins.cells;
+          slots = is.begun.begins.slots;
+          rooms = is.begun.begins.rooms;
+        };
         renaming = renaming ending;
         housed = (ended ending).2;
         outside = outside;
         seat = is.seat;
         paths = is.paths;
+        cycle = is.cycle;
         segments = left_segments young is;
         workers = workers_are is.begun is.filled;
         stayed = left_stayed young is;
@@ -135,13 +144,31 @@ module _ {old new : Mutator} {all : Bool} {fixed : Fixed} {homes : List Home} {w
         remembered = left_is_remembered;
       }
 
--- an end is a scavenge, shows the graph, and keeps the rooms
+-- an end is a scavenge with the copies that were handed over, shows the graph, and keeps the rooms
 pub ends_are_scavenges : EndsAreScavenges
-ends_are_scavenges old new graph all fixed homes words fill refused shows young free is =
-    let to = place_after (start_of old) homes in (
-      scavenged young is free,
-      still_shows young is graph shows,
-      λ rooms. moves_keep_rooms (heap_of old) (heap_of new) to graph rooms (shows_for (Stays to) shows.shows)
-          (left_is_moved young is),
-      left_in_one young is,
-    )
+unfolding scavenged
+ends_are_scavenges old handed new graph all fixed homes words fill refused shows young free is =
+    let to = place_after (start_of old) homes in
+    record {
+      scavenges = scavenged young is free;
+      homes = left_handed young is;
+      shows = still_shows young is graph shows;
+      rooms = λ rooms. moves_keep_rooms (heap_of old) (heap_of new) to graph rooms (shows_for (Stays to) shows.shows)
+          (left_is_moved young is);
+      alone = left_in_one young is;
+    }
+
+-- so it is where that end is known in words of its own
+pub ended_is : {old new : Mutator} {handed : List SegmentCopies} {all : Bool} (graph : Graph) → MainShows old graph
+    → IsYoung old.young → AreFree new.free → HasEnded old handed new all → EndsWith old handed new graph all
+ended_is {old} {new} {handed} {all} graph shows young free end =
+    ends_are_scavenges old handed new graph all end.fixed end.homes end.words end.fill end.refused shows young free
+    end.ended
+
+-- and all graphs stay
+pub ended_keeps : {old new : Mutator} {handed : List SegmentCopies} {all : Bool} → IsYoung old.young
+    → AreFree new.free → HasEnded old handed new all → KeepsGraphs old new
+ended_keeps young free end = record {
+  shows = λ graph shown. (ended_is graph shown young free end).shows;
+  rooms = λ graph rooms shown. (ended_is graph shown young free end).rooms rooms;
+}

@@ -94,7 +94,8 @@ first_to_do begun slot place (StoodAt.in_cell home offset there visited stands s
 
 -- a scavenge begins with no copy and nothing on its list
 pub first_step : (main : Mutator) (all : Bool) → main.seat.phase ≡ Quiet → MayBegin main
-    → Scavenging main main all (first_progress main) [] (at_root (roots_start main.seat.space))
+    → Scavenging main (nothing_handed main.seat.space) main all (first_progress main) []
+    (at_root (roots_start main.seat.space))
 first_step main all quiet may = record {
   fixed = may.fixed;
   homes = [];

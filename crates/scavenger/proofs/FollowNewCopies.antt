@@ -49,6 +49,7 @@ pub to_do_more : {start : Start} {fixed : Fixed} {homes : List Home} {todo : Lis
 to_do_more slot new (IsToDo.root from) = IsToDo.root from
 to_do_more slot new (IsToDo.recorded from below there) = IsToDo.recorded from below there
 to_do_more slot new (IsToDo.at_hand from below) = IsToDo.at_hand from below
+to_do_more slot new (IsToDo.left there) = IsToDo.left there
 to_do_more {homes = homes} {todo} slot new (IsToDo.listed home there listed inside) =
     IsToDo.listed home (old_in homes new home there) (rest_in new.to todo home.to listed) inside
 

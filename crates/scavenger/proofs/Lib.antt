@@ -38,6 +38,7 @@ pub mod Started
 pub mod FirstPages
 pub mod FirstSegments
 pub mod FirstStep
+pub mod HandedStep
 pub mod CodeChanges
 pub mod CodePlaces
 pub mod KeptSpots
@@ -51,6 +52,7 @@ pub mod CodeSegments
 pub mod LoopTargets
 pub mod LoopMoves
 pub mod LoopGoing
+pub mod LoopLeft
 pub mod LoopRoots
 pub mod LoopRecorded
 pub mod LoopCopies
@@ -72,6 +74,7 @@ pub mod EndStands
 pub mod EndMoved
 pub mod EndedHeap
 pub mod Ended
+pub mod SameSizes
 pub mod LoopEnds
 pub mod LoopStages
 pub mod Tight

@@ -25,7 +25,7 @@ use Rattle.scav_copy.specs.Places.{Fixed, size_of, cell_before}
 use Rattle.scav_copy.proofs.Reading.{copies_read}
 use Rattle.scav_copy.proofs.Spots.{from_is, home_itself}
 use Rattle.scavenger.specs.declared.progress.Progress.{Progress}
-use Rattle.scavenger.specs.Starts.{Start, segment_from}
+use Rattle.scavenger.specs.Starts.{Start, SegmentCopies, segment_from}
 use Rattle.scavenger.specs.Filling.{Front, IsToDo}
 use Rattle.scavenger.specs.Walking.{Scavenging, IsCopyAt, IsCopyOf, IsScanned, at_copy}
 use Rattle.scavenger.proofs.FilledSegments.{young_within}
@@ -65,8 +65,10 @@ is_some : (found : Option Reading) → IsSome found → (reading : Reading) × (
 is_some None some = cc
 is_some (Some reading) some = (reading, refl)
 
-module _ {start now : Mutator} {all : Bool} {progress : Progress} {todo : List ℕ} {front : Front}
-    (state : Scavenging start now all progress todo front) (home : Home) (among : Contains state.homes home) where
+module _ {start now : Mutator} {handed : List SegmentCopies} {all : Bool} {progress : Progress} {todo : List ℕ}
+    {front : Front}
+    (state : Scavenging start handed now all progress todo front) (home : Home)
+    (among : Contains state.homes home) where
   -- in a page it is one of the page's row
   stands_in_page : home.to < eden_start start.seat.space
       → (cell : Cell) × IsCell start.seat.space (heap_words now.seat) cell × (cell.at ≡ home.to)
@@ -150,6 +152,7 @@ taken_to_do : {start : Start} {fixed : Fixed} {homes : List Home} (end eden : �
 taken_to_do end eden todo rest cell slot is sizes (IsToDo.root from) = IsToDo.root from
 taken_to_do end eden todo rest cell slot is sizes (IsToDo.recorded from below there) = IsToDo.recorded from below there
 taken_to_do end eden todo rest cell slot is sizes (IsToDo.at_hand from below) = absurd (omega (arith, below))
+taken_to_do end eden todo rest cell slot is sizes (IsToDo.left there) = IsToDo.left there
 taken_to_do end eden todo rest cell slot is sizes (IsToDo.listed home there listed inside) =
     let all = subst (λ (list : List ℕ). Contains list home.to) is listed in
     elim (Contains-append_cases rest (cell.at ∷ []) home.to all) [
@@ -163,8 +166,9 @@ taken_to_do end eden todo rest cell slot is sizes (IsToDo.listed home there list
 -- this cell is the copy that stands at the address, in each state of a scavenge
 abbrev pub CopiesAt : Mutator → ℕ → Cell → Type 0
 CopiesAt now at cell =
-    (start : Mutator) (all : Bool) (progress : Progress) (todo : List ℕ) (front : Front)
-    (state : Scavenging start now all progress todo front) (home : Home) → Contains state.homes home → home.to ≡ at
+    (start : Mutator) (handed : List SegmentCopies) (all : Bool) (progress : Progress) (todo : List ℕ) (front : Front)
+    (state : Scavenging start handed now all progress todo front) (home : Home) → Contains state.homes home
+    → home.to ≡ at
     → IsCopyOf state.fixed home cell
 
 -- the last address of a list is one of it
@@ -173,13 +177,15 @@ last_is_there rest at is =
     subst (λ (list : List ℕ). Contains list at) (sym is) (Contains-append_right rest (at ∷ []) at (first_in at []))
 
 -- a copy stands there
-pub taken_is_there : {start now : Mutator} {all : Bool} {progress : Progress} {todo : List ℕ} {front : Front}
-    (rest : List ℕ) (at : ℕ) → Scavenging start now all progress todo front → todo ≡ rest ++ at ∷ []
+pub taken_is_there : {start now : Mutator} {handed : List SegmentCopies} {all : Bool} {progress : Progress}
+    {todo : List ℕ} {front : Front}
+    (rest : List ℕ) (at : ℕ) → Scavenging start handed now all progress todo front → todo ≡ rest ++ at ∷ []
     → IsCopyAt now at
-taken_is_there {start} {now} {all} {progress} {todo} {front} rest at state is =
+taken_is_there {start} {now} {handed} {all} {progress} {todo} {front} rest at state is =
     let listed = state.listed at (last_is_there rest at is) in
     record {
       start = start;
+      handed = handed;
       all = all;
       progress = progress;
       todo = todo;
@@ -191,12 +197,13 @@ taken_is_there {start} {now} {all} {progress} {todo} {front} rest at state is =
     }
 
 -- the copy that is taken from the list is scanned
-pub takes_copy : {start now : Mutator} {all : Bool} {progress : Progress} {todo : List ℕ} {end eden : ℕ}
+pub takes_copy : {start now : Mutator} {handed : List SegmentCopies} {all : Bool} {progress : Progress}
+    {todo : List ℕ} {end eden : ℕ}
     (rest : List ℕ) (at : ℕ) (cell : Cell)
-    → (state : Scavenging start now all progress todo (at_copy end eden 0 0)) → todo ≡ rest ++ at ∷ []
+    → (state : Scavenging start handed now all progress todo (at_copy end eden 0 0)) → todo ≡ rest ++ at ∷ []
     → ((home : Home) → Contains state.homes home → home.to ≡ at → IsCopyOf state.fixed home cell)
-    → IsScanned start now all progress rest cell (at_copy end eden cell.at (cell.at + cell.size))
-takes_copy {start} {now} {all} {progress} {todo} {end} {eden} rest at cell state is copies =
+    → IsScanned start handed now all progress rest cell (at_copy end eden cell.at (cell.at + cell.size))
+takes_copy {start} {now} {handed} {all} {progress} {todo} {end} {eden} rest at cell state is copies =
     let listed = state.listed at (last_is_there rest at is) in
     let home : Home = listed.0 in
     let copy = copies home listed.1 listed.2 in

@@ -13,7 +13,7 @@ use Rattle.scav_copy.specs.Renamings.{RefersToAddress}
 use Rattle.scav_copy.proofs.Spots.{copy_in_room, slot_in_cell, within_by}
 use Rattle.scavenger.specs.declared.spaces.Spaces.{Spaces}
 use Rattle.scavenger.specs.declared.progress.Progress.{Progress}
-use Rattle.scavenger.specs.Starts.{IsRootAt, start_of}
+use Rattle.scavenger.specs.Starts.{SegmentCopies, IsRootAt, start_with}
 use Rattle.scavenger.specs.Filling.{Front, IsToDo, ChangesWords}
 use Rattle.scavenger.specs.Walking.{AreSpaces, room_end, Scavenging, MayFollow, HasGrown, HasFollowed}
 use Rattle.scavenger.proofs.Sums.{few_filled, few_homes, homes_are, sum_of_homes}
@@ -50,6 +50,7 @@ changes_since {first} {old} {new} before now = record {
     lent = now.seat.lent ∙ sym before.seat.lent;
   };
   paths = now.paths ∙ sym before.paths;
+  cycle = now.cycle ∙ sym before.cycle;
   young = now.young ∙ sym before.young;
   count = now.count ∙ sym before.count;
   bound = now.bound ∙ sym before.bound;
@@ -69,14 +70,16 @@ grows_again first then = record {
 }
 
 -- The scavenge is the same with another front.
-pub record HasFront {start now : Mutator} {all : Bool} {progress : Progress} {todo : List ℕ} {front : Front}
-    (state : Scavenging start now all progress todo front) (next : Front) : Type 0 where
-  pub after : Scavenging start now all progress todo next
+pub record HasFront {start now : Mutator} {handed : List SegmentCopies} {all : Bool} {progress : Progress}
+    {todo : List ℕ} {front : Front}
+    (state : Scavenging start handed now all progress todo front) (next : Front) : Type 0 where
+  pub after : Scavenging start handed now all progress todo next
   pub fixed : after.fixed ≡ state.fixed
   pub homes : after.homes ≡ state.homes
 
-module _ {start now : Mutator} {all : Bool} {progress : Progress} {todo : List ℕ} {front : Front}
-    (state : Scavenging start now all progress todo front) where
+module _ {start now : Mutator} {handed : List SegmentCopies} {all : Bool} {progress : Progress} {todo : List ℕ}
+    {front : Front}
+    (state : Scavenging start handed now all progress todo front) where
   -- the copies of the segment end in the room, or where it ends
   pub fill_in_room : progress.fill ≤ room_end start.seat.space (other_half start.young.half)
   fill_in_room = omega (arith, few_filled state.begun state.filled, state.begun.whole.rows.few)
@@ -94,6 +97,7 @@ module _ {start now : Mutator} {all : Bool} {progress : Progress} {todo : List �
   pub may_follow : (slot place : ℕ) → StoodAt state.fixed state.homes slot place → MayFollow now all progress todo slot
   may_follow slot place stood = record {
     start = start;
+    handed = handed;
     front = front;
     scavenging = state;
     place = place;
@@ -129,8 +133,8 @@ module _ {start now : Mutator} {all : Bool} {progress : Progress} {todo : List �
   pub moves_front : (next : Front)
       → ((slot place cell : ℕ) → StoodAt state.fixed state.homes slot place
       → RefersToAddress (heap_words now.seat) slot cell → Contains state.fixed.cells cell
-      → IsToDo (start_of start) state.fixed state.homes todo front slot
-      → IsToDo (start_of start) state.fixed state.homes todo next slot)
+      → IsToDo (start_with start handed) state.fixed state.homes todo front slot
+      → IsToDo (start_with start handed) state.fixed state.homes todo next slot)
       → HasFront state next
   moves_front next moves = record {
     after = record {
@@ -155,12 +159,13 @@ module _ {start now : Mutator} {all : Bool} {progress : Progress} {todo : List �
   }
 
 -- behind a slot that was followed, the front may move past it
-pub passes_slot : {start old new : Mutator} {all : Bool} {before after : Progress} {todo left : List ℕ} {front : Front}
-    {slot : ℕ} {state : Scavenging start old all before todo front} (next : Front)
-    (has : HasFollowed start old new all before after todo left front slot state)
+pub passes_slot : {start old new : Mutator} {handed : List SegmentCopies} {all : Bool} {before after : Progress}
+    {todo left : List ℕ} {front : Front}
+    {slot : ℕ} {state : Scavenging start handed old all before todo front} (next : Front)
+    (has : HasFollowed start handed old new all before after todo left front slot state)
     → ((other place : ℕ) → StoodAt has.on.next.fixed has.on.next.homes other place → other ≢ slot
-    → IsToDo (start_of start) has.on.next.fixed has.on.next.homes left front other
-    → IsToDo (start_of start) has.on.next.fixed has.on.next.homes left next other)
+    → IsToDo (start_with start handed) has.on.next.fixed has.on.next.homes left front other
+    → IsToDo (start_with start handed) has.on.next.fixed has.on.next.homes left next other)
     → HasFront has.on.next next
 passes_slot {new = new} {slot = slot} next has moves =
     moves_front has.on.next next (λ other place cell stood refers is to_do.

@@ -13,7 +13,7 @@ use Rattle.write_barrier.specs.MutatorState.{Mutator}
 use Rattle.scav_copy.specs.Places.{StoodAt}
 use Rattle.scav_copy.specs.Renamings.{RefersToAddress}
 use Rattle.scavenger.specs.declared.progress.Progress.{Progress}
-use Rattle.scavenger.specs.Starts.{start_of, room_start}
+use Rattle.scavenger.specs.Starts.{SegmentCopies, start_with, room_start}
 use Rattle.scavenger.specs.Filling.{Front}
 use Rattle.scavenger.specs.Following.{IsFromSpace, IsTarget}
 use Rattle.scavenger.specs.Walking.{CopiesCell, HasFollowed, HasMoved, MayMove, Places, Scavenging}
@@ -27,9 +27,10 @@ use Rattle.scavenger.proofs.LoopTargets.{MayBeCopied, may_be_copied, few_words}
 pub record NewCell (now : Mutator) (all : Bool) (progress : Progress) (todo : List ℕ) (at : ℕ) (cell : Cell)
     : Type 0 where
   pub start : Mutator
+  pub handed : List SegmentCopies
   pub front : Front
-  pub state : Scavenging start now all progress todo front
-  pub new : IsNew (start_of start) state.fixed (heap_words now.seat) state.homes progress.fill cell
+  pub state : Scavenging start handed now all progress todo front
+  pub new : IsNew (start_with start handed) state.fixed (heap_words now.seat) state.homes progress.fill cell
   pub stands : cell.at ≡ at
 
 -- so it is where a cell may be moved, and the word there is no reference
@@ -43,6 +44,7 @@ cell_there {now} {at = at} word move read none =
       one.cell,
       record {
         start = may.start;
+        handed = may.handed;
         front = may.front;
         state = may.scavenging;
         new = one.new;
@@ -92,24 +94,27 @@ module _ {now : Mutator} {all : Bool} {progress : Progress} {todo : List ℕ} {a
       omega (arith, few, some, found.state.few)
 
 -- A cell was found where a live slot of this scavenge refers to, it goes there and is copied: it was moved.
-pub found_moves : {start now mid new : Mutator} {all : Bool} {progress after : Progress} {todo more : List ℕ}
-    {front : Front} (state : Scavenging start now all progress todo front) (slot place at word to : ℕ) (found : Cell)
+pub found_moves : {start now mid new : Mutator} {handed : List SegmentCopies} {all : Bool}
+    {progress after : Progress} {todo more : List ℕ}
+    {front : Front} (state : Scavenging start handed now all progress todo front) (slot place at word to : ℕ)
+    (found : Cell)
     → StoodAt state.fixed state.homes slot place → RefersToAddress (heap_words now.seat) slot at
     → IsFromSpace now.seat.space now.young.half at → slice_get (heap_words now.seat) at ≡ Some word
     → reference_in word ≡ None
     → ((cell : Cell) → StandsAt now.seat.space (heap_words now.seat) at cell → found ≡ cell)
     → Places now mid all at found.size progress after to → CopiesCell mid new found to → more ≡ todo ++ to ∷ []
-    → HasMoved start now new all progress (record after { copied = after.copied + found.size }) todo more front at to
-    state
-found_moves {start} {now} {mid} {new} {all} {progress} {after} {todo} {more} {front} state slot place at word to found
-    stood refers left read none known places copies list_is =
+    → HasMoved start handed now new all progress (record after { copied = after.copied + found.size })
+    todo more front at to state
+found_moves {start} {now} {mid} {new} {handed} {all} {progress} {after} {todo} {more} {front} state slot place at word
+    to found stood refers left read none known places copies list_is =
     let head = refers_nowhere (heap_words now.seat) at word read (sym none) in
     let one = new_at state slot place at stood refers left head in
     let same : found ≡ one.cell =
     known one.cell (record { is_cell = new_is_cell state one.new; stands = one.stands }) in
     let stands : found.at ≡ at = ap (λ (cell : Cell). cell.at) same ∙ one.stands in
-    let is_new : IsNew (start_of start) state.fixed (heap_words now.seat) state.homes progress.fill found =
-    subst (IsNew (start_of start) state.fixed (heap_words now.seat) state.homes progress.fill) (sym same) one.new in
+    let is_new : IsNew (start_with start handed) state.fixed (heap_words now.seat) state.homes progress.fill found =
+    subst (IsNew (start_with start handed) state.fixed (heap_words now.seat) state.homes progress.fill)
+    (sym same) one.new in
     let copied = copied_by state is_new new after to
     (subst (λ (from : ℕ). Places now mid all from found.size progress after to) (sym stands) places) copies in
     let moved = moved_by state is_new copied slot place stood
@@ -117,20 +122,22 @@ found_moves {start} {now} {mid} {new} {all} {progress} {after} {todo} {more} {fr
     (subst (IsFromSpace start.seat.space start.young.half) (sym stands) (left_at_start state at left))
     (subst (λ (from : ℕ). reference_in (get_or (heap_words now.seat) from 0) ≡ None) (sym stands) head) in
     let After : Progress = record after { copied = after.copied + found.size } in
-    subst (λ (from : ℕ). HasMoved start now new all progress After todo more front from to state) stands
-    (subst (λ (list : List ℕ). HasMoved start now new all progress After todo list front found.at to state)
+    subst (λ (from : ℕ). HasMoved start handed now new all progress After todo more front from to state) stands
+    (subst (λ (list : List ℕ). HasMoved start handed now new all progress After todo list front found.at to state)
     (sym list_is) moved)
 
 -- A cell that has a home stands where a live slot of this scavenge refers to.
-pub home_moves : {start now : Mutator} {all : Bool} {progress : Progress} {todo : List ℕ} {front : Front}
-    (state : Scavenging start now all progress todo front) (slot place at to : ℕ)
+pub home_moves : {start now : Mutator} {handed : List SegmentCopies} {all : Bool} {progress : Progress}
+    {todo : List ℕ} {front : Front}
+    (state : Scavenging start handed now all progress todo front) (slot place at to : ℕ)
     → StoodAt state.fixed state.homes slot place → RefersToAddress (heap_words now.seat) slot at
     → IsFromSpace now.seat.space now.young.half at → RefersToAddress (heap_words now.seat) at to
-    → HasMoved start now now all progress progress todo todo front at to state
-home_moves {start} {now} {all} {progress} {todo} {front} state slot place at to stood refers left points =
-    let Moved : Type 0 = HasMoved start now now all progress progress todo todo front at to state in
+    → HasMoved start handed now now all progress progress todo todo front at to state
+home_moves {start} {now} {handed} {all} {progress} {todo} {front} state slot place at to stood refers left points =
+    let Moved : Type 0 = HasMoved start handed now now all progress progress todo todo front at to state in
     let by_target : IsTarget start.seat.space state.fixed (heap_words now.seat) state.homes
-    (room_start start.seat.space (start_of start).half + start.seat.space.sizes.young) progress.fill at → Moved =
+    (room_start start.seat.space (start_with start handed).half + start.seat.space.sizes.young) progress.fill at
+    → Moved =
     λ target. elim target [
       | IsTarget.forwarded home there from forwards ↦ record {
         on = goes_nowhere state;
@@ -145,11 +152,12 @@ home_moves {start} {now} {all} {progress} {todo} {front} state slot place at to 
     by_target (has_target state slot place at stood refers left).1
 
 -- a slot that refers to nothing that is left is done
-pub done_already : {start now : Mutator} {all : Bool} {progress : Progress} {todo : List ℕ} {front : Front} (slot : ℕ)
-    (state : Scavenging start now all progress todo front)
+pub done_already : {start now : Mutator} {handed : List SegmentCopies} {all : Bool} {progress : Progress}
+    {todo : List ℕ} {front : Front} (slot : ℕ)
+    (state : Scavenging start handed now all progress todo front)
     → ((cell : ℕ) → RefersToAddress (heap_words now.seat) slot cell
     → IsFromSpace now.seat.space now.young.half cell → ⊥)
-    → HasFollowed start now now all progress progress todo todo front slot state
+    → HasFollowed start handed now now all progress progress todo todo front slot state
 done_already slot state none = record {
   on = goes_nowhere state;
   done = λ place cell live says is. none cell says (cell_left state cell is);

@@ -12,13 +12,14 @@ use Rattle.scav_copy.specs.Places.{Fixed, StoodAt}
 use Rattle.scav_copy.specs.Renamings.{RefersToAddress}
 use Rattle.scav_copy.proofs.Spots.{live_is_there}
 use Rattle.scavenger.specs.declared.progress.Progress.{Progress}
-use Rattle.scavenger.specs.Starts.{Start}
+use Rattle.scavenger.specs.Starts.{Start, SegmentCopies}
 use Rattle.scavenger.specs.Filling.{Front, IsToDo}
 use Rattle.scavenger.specs.Walking.{Scavenging, HasFollowed, at_recorded}
 use Rattle.scavenger.proofs.LoopGoing.{HasFront, moves_front, passes_slot}
 
-module _ {start now : Mutator} {all : Bool} {progress : Progress} {todo : List ℕ} {front : Front}
-    (state : Scavenging start now all progress todo front) where
+module _ {start now : Mutator} {handed : List SegmentCopies} {all : Bool} {progress : Progress} {todo : List ℕ}
+    {front : Front}
+    (state : Scavenging start handed now all progress todo front) where
   -- what is recorded is live: a slot that was recorded before, or one of a copy
   pub recorded_is_live : (slot : ℕ) → Contains now.recorded.slots slot
       → (place : ℕ) × StoodAt state.fixed state.homes slot place
@@ -60,11 +61,13 @@ recorded_move end from next other on (IsToDo.root behind) = IsToDo.root behind
 recorded_move end from next other on (IsToDo.recorded behind below there) =
     IsToDo.recorded (on there behind) below there
 recorded_move end from next other on (IsToDo.at_hand behind below) = IsToDo.at_hand behind below
+recorded_move end from next other on (IsToDo.left there) = IsToDo.left there
 recorded_move end from next other on (IsToDo.listed home there listed inside) =
     IsToDo.listed home there listed inside
 
-module _ {start now : Mutator} {all : Bool} {progress : Progress} {todo : List ℕ} {end from : ℕ}
-    (state : Scavenging start now all progress todo (at_recorded end from)) where
+module _ {start now : Mutator} {handed : List SegmentCopies} {all : Bool} {progress : Progress} {todo : List ℕ}
+    {end from : ℕ}
+    (state : Scavenging start handed now all progress todo (at_recorded end from)) where
   -- before the next slot that is recorded, none is to do
   pub reaches_recorded : (slot : ℕ) → IsNextRecorded now.recorded from slot → HasFront state (at_recorded end slot)
   reaches_recorded slot next =
@@ -74,7 +77,7 @@ module _ {start now : Mutator} {all : Bool} {progress : Progress} {todo : List �
 
   -- and where there is none, all are done
   pub recorded_done : HasNoneFrom now.recorded from
-      → Scavenging start now all progress todo (at_recorded end (eden_start start.seat.space))
+      → Scavenging start handed now all progress todo (at_recorded end (eden_start start.seat.space))
   recorded_done none =
       let eden : ℕ = eden_start start.seat.space in
       (moves_front state (at_recorded end eden) (λ other place cell stood refers is.
@@ -83,10 +86,11 @@ module _ {start now : Mutator} {all : Bool} {progress : Progress} {todo : List �
       absurd (omega (arith, before, behind))))).after
 
 -- the scavenge goes on where one more recorded slot was followed
-pub recorded_go_on : {start now new : Mutator} {all : Bool} {before after : Progress} {todo left : List ℕ}
-    {end slot : ℕ} {state : Scavenging start now all before todo (at_recorded end slot)}
-    → HasFollowed start now new all before after todo left (at_recorded end slot) slot state
-    → Scavenging start new all after left (at_recorded end (slot + 1))
+pub recorded_go_on : {start now new : Mutator} {handed : List SegmentCopies} {all : Bool} {before after : Progress}
+    {todo left : List ℕ}
+    {end slot : ℕ} {state : Scavenging start handed now all before todo (at_recorded end slot)}
+    → HasFollowed start handed now new all before after todo left (at_recorded end slot) slot state
+    → Scavenging start handed new all after left (at_recorded end (slot + 1))
 recorded_go_on {end = end} {slot} has =
     (passes_slot (at_recorded end (slot + 1)) has (λ other place stood apart.
     recorded_move end slot (slot + 1) other (λ was behind. omega (arith, behind, apart)))).after

@@ -7,14 +7,15 @@ use Rattle.write_barrier.specs.MutatorState.{Mutator}
 use Rattle.scav_copy.specs.declared.places.Home.{Home}
 use Rattle.scav_copy.specs.Places.{Fixed, StoodAt}
 use Rattle.scavenger.specs.declared.progress.Progress.{Progress}
-use Rattle.scavenger.specs.Starts.{Start}
+use Rattle.scavenger.specs.Starts.{Start, SegmentCopies}
 use Rattle.scavenger.specs.Filling.{Front, IsToDo}
 use Rattle.scavenger.specs.Walking.{Scavenging, HasFollowed, at_root}
 use Rattle.scavenger.proofs.LoopGoing.{root_or_before, passes_slot}
 
 -- the first root word of a variable is live
-pub root_is_live : {start now : Mutator} {all : Bool} {progress : Progress} {todo : List ℕ} {front : Front}
-    (state : Scavenging start now all progress todo front) (variable : ℕ) → variable < start.seat.space.variables
+pub root_is_live : {start now : Mutator} {handed : List SegmentCopies} {all : Bool} {progress : Progress}
+    {todo : List ℕ} {front : Front}
+    (state : Scavenging start handed now all progress todo front) (variable : ℕ) → variable < start.seat.space.variables
     → StoodAt state.fixed state.homes (root_at start.seat.space variable) (root_at start.seat.space variable)
 root_is_live {start} state variable known =
     let at : ℕ = root_at start.seat.space variable in
@@ -28,14 +29,17 @@ roots_move : {start : Start} {fixed : Fixed} {homes : List Home} {todo : List �
 roots_move root next other on (IsToDo.root from) = IsToDo.root (on from)
 roots_move root next other on (IsToDo.recorded from below there) = IsToDo.recorded from below there
 roots_move root next other on (IsToDo.at_hand from below) = IsToDo.at_hand from below
+roots_move root next other on (IsToDo.left there) = IsToDo.left there
 roots_move root next other on (IsToDo.listed home there listed inside) = IsToDo.listed home there listed inside
 
 -- the scavenge goes on where one more root was followed
-pub roots_go_on : {start now new : Mutator} {all : Bool} {before after : Progress} {todo left : List ℕ} {slot : ℕ}
+pub roots_go_on : {start now new : Mutator} {handed : List SegmentCopies} {all : Bool} {before after : Progress}
+    {todo left : List ℕ} {slot : ℕ}
     (variable : ℕ) → slot ≡ root_at start.seat.space variable
-    → (state : Scavenging start now all before todo (at_root (root_at start.seat.space variable)))
-    → HasFollowed start now new all before after todo left (at_root (root_at start.seat.space variable)) slot state
-    → Scavenging start new all after left (at_root (root_at start.seat.space (variable + 1)))
+    → (state : Scavenging start handed now all before todo (at_root (root_at start.seat.space variable)))
+    → HasFollowed start handed now new all before after todo left
+    (at_root (root_at start.seat.space variable)) slot state
+    → Scavenging start handed new all after left (at_root (root_at start.seat.space (variable + 1)))
 roots_go_on {start} variable is state has =
     let root : ℕ = root_at start.seat.space variable in
     let next : ℕ = root_at start.seat.space (variable + 1) in

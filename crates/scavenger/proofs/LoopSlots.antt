@@ -15,7 +15,7 @@ use Rattle.scav_copy.proofs.Reading.{copies_end}
 use Rattle.scav_copy.proofs.Spots.{copy_in_room, slot_in_cell, within_by}
 use Rattle.write_barrier.specs.Seats.{heap_words}
 use Rattle.scavenger.specs.declared.progress.Progress.{Progress}
-use Rattle.scavenger.specs.Starts.{Start}
+use Rattle.scavenger.specs.Starts.{Start, SegmentCopies}
 use Rattle.scavenger.specs.Filling.{Front, IsToDo}
 use Rattle.scavenger.specs.Walking.{Scavenging, HasFollowed, HasGrown, IsCopyOf, IsScanned, at_copy}
 use Rattle.scavenger.proofs.PagesCells.{as_long}
@@ -29,6 +29,7 @@ at_hand_moves end eden from next to other on (IsToDo.root behind) = IsToDo.root 
 at_hand_moves end eden from next to other on (IsToDo.recorded behind below there) =
     IsToDo.recorded behind below there
 at_hand_moves end eden from next to other on (IsToDo.at_hand above below) = IsToDo.at_hand (on above below) below
+at_hand_moves end eden from next to other on (IsToDo.left there) = IsToDo.left there
 at_hand_moves end eden from next to other on (IsToDo.listed home there listed inside) =
     IsToDo.listed home there listed inside
 
@@ -39,6 +40,7 @@ none_at_hand : {start : Start} {fixed : Fixed} {homes : List Home} {todo : List 
 none_at_hand end eden from to other none (IsToDo.root behind) = IsToDo.root behind
 none_at_hand end eden from to other none (IsToDo.recorded behind below there) = IsToDo.recorded behind below there
 none_at_hand end eden from to other none (IsToDo.at_hand above below) = absurd (none above below)
+none_at_hand end eden from to other none (IsToDo.left there) = IsToDo.left there
 none_at_hand end eden from to other none (IsToDo.listed home there listed inside) =
     IsToDo.listed home there listed inside
 
@@ -48,13 +50,15 @@ same_copy : {fixed other : Fixed} {home : Home} {cell : Cell} → other ≡ fixe
 same_copy {home = home} {cell} same is = subst (λ (one : Fixed). IsCopyOf one home cell) (sym same) is
 
 -- A copy is scanned further on, and the list grew little.
-pub record ScansOn (start new : Mutator) (all : Bool) (before after : Progress) (todo left : List ℕ) (cell : Cell)
+pub record ScansOn (start : Mutator) (handed : List SegmentCopies) (new : Mutator) (all : Bool)
+    (before after : Progress) (todo left : List ℕ) (cell : Cell)
     (front : Front) : Type 0 where
-  pub scanned : IsScanned start new all after left cell front
+  pub scanned : IsScanned start handed new all after left cell front
   pub grown : HasGrown before after todo left
 
-module _ {start now : Mutator} {all : Bool} {progress : Progress} {todo : List ℕ} {cell : Cell} {front : Front}
-    (scanned : IsScanned start now all progress todo cell front) where
+module _ {start now : Mutator} {handed : List SegmentCopies} {all : Bool} {progress : Progress} {todo : List ℕ}
+    {cell : Cell} {front : Front}
+    (scanned : IsScanned start handed now all progress todo cell front) where
   -- the copy ends before the marks
   pub copy_ends : cell.at + cell.size ≤ marks_start start.seat.space
   copy_ends =
@@ -118,9 +122,11 @@ module _ {start now : Mutator} {all : Bool} {progress : Progress} {todo : List �
       StoodAt.in_cell scanned.home offset scanned.among (of_copy offset there)
       (omega (arith, scanned.is.stands, is)) refl
 
-module _ {start now : Mutator} {all : Bool} {progress : Progress} {todo : List ℕ} {cell : Cell} {end eden : ℕ}
+module _ {start now : Mutator} {handed : List SegmentCopies} {all : Bool} {progress : Progress} {todo : List ℕ}
+    {cell : Cell} {end eden : ℕ}
     (from : ℕ)
-    (scanned : IsScanned start now all progress todo cell (at_copy end eden (cell.at + from) (cell.at + cell.size)))
+    (scanned : IsScanned start handed now all progress todo cell
+    (at_copy end eden (cell.at + from) (cell.at + cell.size)))
   where
     -- before the next slot none is to do
     reaches_slot : (offset slot : ℕ) → IsLeastFrom (scavenge_offsets cell.layout cell.length) from offset
@@ -137,10 +143,10 @@ module _ {start now : Mutator} {all : Bool} {progress : Progress} {todo : List �
     -- and once that was followed, those behind it are to do
     pub slots_go_on : (new : Mutator) (after : Progress) (left : List ℕ) (offset slot : ℕ)
         → IsLeastFrom (scavenge_offsets cell.layout cell.length) from offset → slot ≡ cell.at + offset
-        → ((front : Front) (state : Scavenging start now all progress todo front) (place : ℕ)
+        → ((front : Front) (state : Scavenging start handed now all progress todo front) (place : ℕ)
         → StoodAt state.fixed state.homes slot place
-        → HasFollowed start now new all progress after todo left front slot state)
-        → ScansOn start new all progress after todo left cell
+        → HasFollowed start handed now new all progress after todo left front slot state)
+        → ScansOn start handed new all progress after todo left cell
         (at_copy end eden (cell.at + (offset + 1)) (cell.at + cell.size))
     slots_go_on new after left offset slot least is followed =
         let to : ℕ = cell.at + cell.size in
@@ -169,7 +175,7 @@ module _ {start now : Mutator} {all : Bool} {progress : Progress} {todo : List �
     -- where none stands before an offset, those from there on are to do
     pub slots_pass : (next : ℕ)
         → ((other : ℕ) → Contains (scavenge_offsets cell.layout cell.length) other → from ≤ other → next ≤ other)
-        → IsScanned start now all progress todo cell (at_copy end eden (cell.at + next) (cell.at + cell.size))
+        → IsScanned start handed now all progress todo cell (at_copy end eden (cell.at + next) (cell.at + cell.size))
     slots_pass next none =
         let to : ℕ = cell.at + cell.size in
         let moved = moves_front scanned.scavenging (at_copy end eden (cell.at + next) to)
@@ -187,7 +193,7 @@ module _ {start now : Mutator} {all : Bool} {progress : Progress} {todo : List �
 
     -- where no slot is left, the copy is done
     pub slots_done : All (λ offset. offset < from) (scavenge_offsets cell.layout cell.length)
-        → Scavenging start now all progress todo (at_copy end eden 0 0)
+        → Scavenging start handed now all progress todo (at_copy end eden 0 0)
     slots_done done =
         let to : ℕ = cell.at + cell.size in
         (moves_front scanned.scavenging (at_copy end eden 0 0) (λ other place target stood refers of_cells.

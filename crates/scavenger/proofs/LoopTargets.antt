@@ -23,7 +23,7 @@ use Rattle.scav_copy.specs.Renamings.{RefersToAddress, IsReachable}
 use Rattle.scav_copy.proofs.Redirecting.{as_before}
 use Rattle.scav_copy.proofs.Spots.{live_is_there, cell_within}
 use Rattle.scavenger.specs.declared.progress.Progress.{Progress}
-use Rattle.scavenger.specs.Starts.{Start, start_of, room_start}
+use Rattle.scavenger.specs.Starts.{Start, SegmentCopies, start_with, room_start}
 use Rattle.scavenger.specs.Filling.{Front}
 use Rattle.scavenger.specs.Following.{IsFreeAt, IsFromSpace, IsTarget}
 use Rattle.scavenger.specs.Walking.{Places, Scavenging, StandFree, CutsFreeCell}
@@ -101,8 +101,9 @@ pub record MayBeCopied (main : Mutator) (cell : Cell) (to : ℕ) : Type 0 where
   pub room : to + cell.size ≤ marks_start main.seat.space
   pub apart : AreDisjoint cell.at to cell.size
 
-module _ {start now : Mutator} {all : Bool} {progress : Progress} {todo : List ℕ} {front : Front}
-    (state : Scavenging start now all progress todo front) where
+module _ {start now : Mutator} {handed : List SegmentCopies} {all : Bool} {progress : Progress} {todo : List ℕ}
+    {front : Front}
+    (state : Scavenging start handed now all progress todo front) where
   -- a live slot stands before the marks
   pub slot_before_marks : (slot place : ℕ) → StoodAt state.fixed state.homes slot place
       → length (heap_words now.seat) ≡ marks_start now.seat.space → slot < marks_start now.seat.space
@@ -134,7 +135,7 @@ module _ {start now : Mutator} {all : Bool} {progress : Progress} {todo : List �
   -- each free run is a free cell
   pub stand_free : StandFree now
   stand_free run is =
-      let stands = free_runs_stand (start_of start) state.fixed (heap_words now.seat) now.free state.homes
+      let stands = free_runs_stand (start_with start handed) state.fixed (heap_words now.seat) now.free state.homes
       progress.fill run state.begun state.filled is in (
         stands.free,
         subst (λ (space : Space). IsFreeAt space (heap_words now.seat) stands.free run.at)
@@ -148,22 +149,24 @@ module _ {start now : Mutator} {all : Bool} {progress : Progress} {todo : List �
     -- what a live slot refers to has a target, and is one of the cells
     pub has_target : Contains state.fixed.cells at
         × IsTarget start.seat.space state.fixed (heap_words now.seat) state.homes
-        (room_start start.seat.space (start_of start).half + start.seat.space.sizes.young) progress.fill at
+        (room_start start.seat.space (start_with start handed).half + start.seat.space.sizes.young) progress.fill at
     has_target =
-        slots_have_targets (start_of start) start.young.half state.fixed (heap_words now.seat) now.free state.homes
+        slots_have_targets (start_with start handed) start.young.half state.fixed
+        (heap_words now.seat) now.free state.homes
         progress.fill slot place at state.begun (two_halves start.young.half state.two) state.filled stood refers
         (left_at_start at left)
 
     -- where the word there is no reference, a cell stands there that has no home
     pub new_at : reference_in (get_or (heap_words now.seat) at 0) ≡ None
-        → NewAt (start_of start) state.fixed (heap_words now.seat) state.homes progress.fill at
+        → NewAt (start_with start handed) state.fixed (heap_words now.seat) state.homes progress.fill at
     new_at none =
         let target = has_target in
         let reached = (as_before state.fixed (heap_words now.seat) state.homes slot place at state.begun.laid
         state.filled.copying stood refers target.0).1 in
         new_target target.0 reached none target.1
 
-  module _ {cell : Cell} (new : IsNew (start_of start) state.fixed (heap_words now.seat) state.homes progress.fill cell)
+  module _ {cell : Cell} (new : IsNew (start_with start handed) state.fixed
+      (heap_words now.seat) state.homes progress.fill cell)
     where
       -- it is a cell of the words
       pub new_is_cell : IsCell now.seat.space (heap_words now.seat) cell

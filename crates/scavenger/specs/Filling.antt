@@ -122,22 +122,24 @@ pub record CopiesFillRooms (start : Start) (fixed : Fixed) (words : List ℕ) (r
   pub backs : AreBacks start.rows rows
   pub apart : (at : ℕ) → IsFreeWord rows at → IsInCopies fixed homes at → ⊥
 
--- Up to where slots are done: first root words before `root`, recorded ones before `recorded`; and of the copy at hand
--- the words from one address to another are still to do.
+-- Up to where slots are done: first root words before `root`, recorded ones before `recorded`; of the copy at hand the
+-- words from one address to another are still to do; and of the slots that helpers left, these.
 pub record Front : Type 0 where
   pub root : ℕ
   pub recorded : ℕ
   pub from : ℕ
   pub to : ℕ
+  pub left : List ℕ
 
--- The slot is to do: it is a root or a recorded slot that is not done, one of the copy at hand, or one of a copy on the
--- list.
+-- The slot is to do: it is a root or a recorded slot that is not done, one of the copy at hand, one that a helper left,
+-- or one of a copy on the list.
 pub data IsToDo (start : Start) (fixed : Fixed) (homes : List Home) (todo : List ℕ) (front : Front) (slot : ℕ)
     : Type 0 where
   root : front.root ≤ slot → IsToDo start fixed homes todo front slot
   recorded : front.recorded ≤ slot → slot < eden_start start.heap.space → Contains start.recorded slot
       → IsToDo start fixed homes todo front slot
   at_hand : front.from ≤ slot → slot < front.to → IsToDo start fixed homes todo front slot
+  left : Contains front.left slot → IsToDo start fixed homes todo front slot
   listed : (home : Home) → Contains homes home → Contains todo home.to → IsInCopy fixed home slot
       → IsToDo start fixed homes todo front slot
 
@@ -158,6 +160,7 @@ AllAreDone fixed words homes =
 pub record ChangesWords (old new : Mutator) : Type 0 where
   pub seat : RestStays old.seat new.seat
   pub paths : new.paths ≡ old.paths
+  pub cycle : new.cycle ≡ old.cycle
   pub young : new.young ≡ old.young
   pub count : length (heap_words new.seat) ≡ length (heap_words old.seat)
   pub bound : new.recorded.bound ≡ old.recorded.bound

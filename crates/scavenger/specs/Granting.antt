@@ -21,7 +21,7 @@ granted_words words run n = with_fillers (with_free_cell words (run.at + n) (run
 
 -- The first n words of a free run are granted, of which there are some: they are fillers, a cell each, and in no free
 -- run any more; what is left of the run is one free cell. Free runs had no word in common before. All other cells stand
--- as they stood, and all words from eden on stay. The same slots are recorded.
+-- as they stood, and all words from eden on stay. The same slots are recorded, and the same is known of a cycle.
 pub record Grants (old new : Mutator) (n : ℕ) : Type 0 where
   pub run : Run
   pub some : 1 ≤ n
@@ -30,6 +30,7 @@ pub record Grants (old new : Mutator) (n : ℕ) : Type 0 where
   pub young : new.young ≡ with_granted old.young run
   pub beside : RestStays old.seat new.seat
   pub paths : new.paths ≡ old.paths
+  pub cycle : new.cycle ≡ old.cycle
   pub bound : new.recorded.bound ≡ old.recorded.bound
   pub recorded : (at : ℕ) → Contains new.recorded.slots at ↔ Contains old.recorded.slots at
   pub words : heap_words new.seat ≡ granted_words (heap_words old.seat) takes.takes.run n

@@ -5,7 +5,7 @@ use Rattle.std.specs.Prelude.{Contains, length}
 use Rattle.object_graph.specs.Graphs.{Graph}
 use Rattle.page_space.specs.Extents.{eden_start}
 use Rattle.page_space.specs.RegionLaws.{IsSpace}
-use Rattle.nursery.specs.Young.{IsYoung, turned}
+use Rattle.nursery.specs.Young.{IsYoung, other_half, turned}
 use Rattle.free_runs.specs.FreeRuns.{AreFree, longest_of}
 use Rattle.free_runs.specs.Laws.{IsFreeWord}
 use Rattle.write_barrier.specs.Seats.{RestStays, heap_words}
@@ -17,10 +17,10 @@ use Rattle.heap_moves.specs.Moved.{IsMoved, moved_to}
 use Rattle.write_barrier.specs.MutatorState.{Mutator, heap_of, MainShows}
 use Rattle.scav_copy.specs.declared.places.Home.{Home}
 use Rattle.scav_copy.specs.Places.{Fixed}
-use Rattle.scavenger.specs.Starts.{IsBegun, start_of, room_start}
-use Rattle.scavenger.specs.Filling.{CopiesFillRooms, AllAreDone, IsEmptied}
+use Rattle.scavenger.specs.Starts.{SegmentCopies, IsBegun, nothing_handed, start_of, start_with, room_start}
+use Rattle.scavenger.specs.Filling.{CopiesFillRooms, AllAreDone, IsEmptied, words_of_segments}
 use Rattle.scavenger.specs.Walking.{AreKept, IsWellPlaced, IsToPromote, room_end}
-use Rattle.scavenger.specs.Scavenged.{Scavenges, StandsInOneSegment}
+use Rattle.scavenger.specs.Scavenged.{Scavenges, StandsInOneSegment, HasHanded}
 
 -- Each graph that the heap showed it shows, and its objects have the rooms that they had, so each command needs as many
 -- words as before.
@@ -35,35 +35,44 @@ ShownHeapsMayBegin =
     (main : Mutator) (graph : Graph) → IsSpace main.seat.space → MainShows main graph → IsYoung main.young
     → AreFree main.free → (fixed : Fixed) × IsBegun (start_of main) fixed
 
--- A scavenge has come to its end: all is done, the words that are left were emptied, and the nursery was turned.
-pub record IsEnded (old new : Mutator) (all : Bool) (fixed : Fixed) (homes : List Home) (words : List ℕ)
-    (fill refused : ℕ)
-    : Type 0 where
+-- A scavenge that began with copies that helpers handed over has come to its end: all is done, the words that are left
+-- were emptied, and the nursery was turned to all copies that stay young.
+pub record IsEnded (old : Mutator) (handed : List SegmentCopies) (new : Mutator) (all : Bool) (fixed : Fixed)
+    (homes : List Home) (words : List ℕ) (fill refused : ℕ) : Type 0 where
   pub limits : IsSpace old.seat.space
-  pub begun : IsBegun (start_of old) fixed
+  pub begun : IsBegun (start_with old handed) fixed
   pub bounded : old.recorded.bound ≡ eden_start old.seat.space
-  pub filled : CopiesFillRooms (start_of old) fixed words new.free homes fill
+  pub filled : CopiesFillRooms (start_with old handed) fixed words new.free homes fill
   pub done : AllAreDone fixed words homes
-  pub placed : IsWellPlaced (start_of old) fixed new.free homes all refused
-  pub kept : AreKept (start_of old) fixed words homes new.recorded.slots
-  pub emptied : IsEmptied old.seat.space old.young.half fill (room_end old.seat.space (start_of old).half) words
+  pub placed : IsWellPlaced (start_with old handed) fixed new.free homes all refused
+  pub kept : AreKept (start_with old handed) fixed words homes new.recorded.slots
+  pub emptied : IsEmptied old.seat.space old.young.half fill (room_end old.seat.space (other_half old.young.half)) words
       (heap_words new.seat)
   pub seat : RestStays old.seat new.seat
   pub paths : new.paths ≡ old.paths
+  pub cycle : new.cycle ≡ old.cycle
   pub bound : new.recorded.bound ≡ old.recorded.bound
   pub rows : length new.free ≡ length old.free
-  pub young : new.young ≡ turned old.young (fill - room_start old.seat.space (start_of old).half)
+  pub young : new.young ≡ turned old.young
+      (words_of_segments fixed handed + (fill - room_start old.seat.space (other_half old.young.half)))
 
--- Then it is a scavenge, and the heap that is left shows the graph, with the same rooms. No young cell stands in a
--- helper's segment.
+-- What a scavenge comes to that began with such copies: the heap that is left shows the graph, with the same rooms. The
+-- copies are among the homes. Where there were none, no young cell stands in a helper's segment.
+pub record EndsWith (old : Mutator) (handed : List SegmentCopies) (new : Mutator) (graph : Graph) (all : Bool)
+    : Type 0 where
+  pub scavenges : Scavenges old new all
+  pub homes : HasHanded scavenges handed
+  pub shows : MainShows new graph
+  pub rooms : (rooms : ℕ → Room) → HasRooms (heap_of old) graph rooms ↔ HasRooms (heap_of new) graph rooms
+  pub alone : handed ≡ nothing_handed old.seat.space → StandsInOneSegment old new
+
+-- So it does at its end.
 abbrev pub EndsAreScavenges : Type 0
 EndsAreScavenges =
-    (old new : Mutator) (graph : Graph) (all : Bool) (fixed : Fixed) (homes : List Home) (words : List ℕ)
-    (fill refused : ℕ) → MainShows old graph → IsYoung old.young → AreFree new.free
-    → IsEnded old new all fixed homes words fill refused
-    → Scavenges old new all × MainShows new graph
-    × ((rooms : ℕ → Room) → HasRooms (heap_of old) graph rooms ↔ HasRooms (heap_of new) graph rooms)
-    × StandsInOneSegment old new
+    (old : Mutator) (handed : List SegmentCopies) (new : Mutator) (graph : Graph) (all : Bool) (fixed : Fixed)
+    (homes : List Home) (words : List ℕ) (fill refused : ℕ) → MainShows old graph → IsYoung old.young
+    → AreFree new.free → IsEnded old handed new all fixed homes words fill refused
+    → EndsWith old handed new graph all
 
 -- A scavenge of a heap that shows a graph leaves a tight heap.
 abbrev pub ScavengesAreTight : Type 0

@@ -7,3 +7,4 @@ pub mod Scavenged
 pub mod Laws
 pub mod Granting
 pub mod Walking
+pub mod Handing

@@ -17,7 +17,7 @@ use Rattle.scav_copy.specs.Renamings.{Renaming}
 use Rattle.scav_copy.specs.Copies.{AreHoused}
 use Rattle.scavenger.specs.Starts.{Start, Begins, SegmentCopies, IsRootAt, start_of, copying_workers, room_start}
 use Rattle.scavenger.specs.Backs.{AreBacks}
-use Rattle.scavenger.specs.Filling.{FillsSegment, IsInPromoted, words_of_segments}
+use Rattle.scavenger.specs.Filling.{FillsSegment, IsInPromoted, homes_in, words_of_segments}
 use Rattle.scavenger.specs.Walking.{IsToPromote}
 
 -- the home of the cell at an address, if it has one
@@ -56,7 +56,7 @@ pub record StaysIn (segments : List SegmentCopies) (home : Home) : Type 0 where
 -- home in a page, unless it is longer than each free run that is left; no other has. Each word that was in a free run
 -- is in one, or in such a copy: copies take the fronts of free runs, and what is left are the backs of them. The runs
 -- that are left neither overlap nor touch; as many pages have a row of them. Else nothing changed in pages, in second
--- root words and in layout words.
+-- root words and in layout words, nor in what is known of a cycle of marking.
 pub record Scavenges (old new : Mutator) (all : Bool) : Type 0 where
   pub fixed : Fixed
   pub homes : List Home
@@ -68,6 +68,7 @@ pub record Scavenges (old new : Mutator) (all : Bool) : Type 0 where
       → slice_get (heap_words new.seat) at ≡ slice_get (heap_words old.seat) at
   pub seat : RestStays old.seat new.seat
   pub paths : new.paths ≡ old.paths
+  pub cycle : new.cycle ≡ old.cycle
   pub segments : List SegmentCopies
   pub workers : map (λ segment. segment.worker) segments ≡ copying_workers old.seat.space
   pub stayed : (home : Home) → StaysIn segments home ↔ (Contains homes home × (eden_start old.seat.space ≤ home.to))
@@ -94,3 +95,7 @@ StandsInOneSegment old new =
     (cell : Cell) (words : List ℕ) → HasCell (heap_of new) cell words → eden_start old.seat.space ≤ cell.at
     → let from = room_start old.seat.space (start_of old).half in
     (from ≤ cell.at) × (cell.at < from + old.seat.space.sizes.young)
+
+-- The copies that helpers handed over are home copies of the scavenge.
+abbrev pub HasHanded : {old new : Mutator} {all : Bool} → Scavenges old new all → List SegmentCopies → Type 0
+HasHanded scavenges handed = (home : Home) → Contains (homes_in handed) home → Contains scavenges.homes home

@@ -49,15 +49,19 @@ nothing_of worker = record { worker = worker; homes = [] }
 abbrev pub nothing_handed : Space → List SegmentCopies
 nothing_handed space = map nothing_of (helping_workers space)
 
--- what a scavenge of the main side alone begins with
-abbrev pub start_of : Mutator → Start
-start_of main = record {
+-- what a scavenge begins with where helpers handed over these copies
+abbrev pub start_with : Mutator → List SegmentCopies → Start
+start_with main handed = record {
   heap = heap_of main;
   half = other_half main.young.half;
   recorded = main.recorded.slots;
   rows = main.free;
-  handed = nothing_handed main.seat.space;
+  handed = handed;
 }
+
+-- what a scavenge of the main side alone begins with
+abbrev pub start_of : Mutator → Start
+start_of main = start_with main (nothing_handed main.seat.space)
 
 -- the first address of a worker's segment of this half
 abbrev pub segment_from : Space → ℕ → ℕ → ℕ

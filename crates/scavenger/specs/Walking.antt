@@ -1,9 +1,9 @@
 -- How a scavenge goes on: what is known before and behind each of its steps.
-use Rattle.std.specs.Prelude.{◌≡◌, ℕ, ◌+◌, ◌-◌, ◌<◌, ◌≤◌, ◌↔◌, ◌⊎◌, Bool, true, List, length, Contains, sum_by}
+use Rattle.std.specs.Prelude.{◌≡◌, ℕ, ◌+◌, ◌-◌, ◌<◌, ◌≤◌, ◌↔◌, ◌⊎◌, Bool, true, List, [], length, Contains, sum_by}
 use Rattle.std.specs.Prelude.{Some, slice_get}
 use Rattle.tagged_word.specs.Cells.{scavenge_offsets}
 use Rattle.page_space.specs.Sizes.{page_words}
-use Rattle.page_space.specs.Extents.{Space, eden_start, segments_start, marks_start}
+use Rattle.page_space.specs.Extents.{Space, eden_start, segments_start, roots_start, marks_start}
 use Rattle.cell_layout.specs.Cells.{IsSized}
 use Rattle.nursery.specs.Young.{other_half}
 use Rattle.free_runs.specs.FreeRuns.{FitsNowhere, TakesFront}
@@ -18,7 +18,7 @@ use Rattle.scav_copy.specs.Places.{Fixed, size_of, offsets_of, StoodAt}
 use Rattle.scav_copy.specs.Renamings.{RefersToAddress}
 use Rattle.scavenger.specs.declared.spaces.Spaces.{Spaces}
 use Rattle.scavenger.specs.declared.progress.Progress.{Progress}
-use Rattle.scavenger.specs.Starts.{Start, IsBegun, IsFreeRun, start_of, room_start}
+use Rattle.scavenger.specs.Starts.{Start, SegmentCopies, IsBegun, IsFreeRun, start_of, start_with, room_start}
 use Rattle.scavenger.specs.Filling.{CopiesFillRooms, Front, OthersAreDone, ChangesWords, IsSegmentStart}
 use Rattle.scavenger.specs.Following.{half_start, half_end, moved_words, IsFreeAt, IsFromSpace}
 
@@ -87,30 +87,31 @@ pub record MayBegin (main : Mutator) : Type 0 where
   pub two : main.young.half ≤ 1
   pub bounded : main.recorded.bound ≡ eden_start main.seat.space
 
--- A scavenge that began with one mutator has come to another. The list has home copies, no more than words were copied,
--- and each live slot that refers to a cell is to do.
-pub record Scavenging (start now : Mutator) (all : Bool) (progress : Progress) (todo : List ℕ) (front : Front)
-    : Type 0 where
+-- A scavenge that began with one mutator, and with copies that helpers handed over, has come to another. The list has
+-- home copies, no more than words were copied, and each live slot that refers to a cell is to do.
+pub record Scavenging (start : Mutator) (handed : List SegmentCopies) (now : Mutator) (all : Bool) (progress : Progress)
+    (todo : List ℕ) (front : Front) : Type 0 where
   pub fixed : Fixed
   pub homes : List Home
   pub two : start.young.half ≤ 1
   pub bounded : start.recorded.bound ≡ eden_start start.seat.space
   pub quiet : now.seat.phase ≡ Quiet
-  pub begun : IsBegun (start_of start) fixed
-  pub filled : CopiesFillRooms (start_of start) fixed (heap_words now.seat) now.free homes progress.fill
+  pub begun : IsBegun (start_with start handed) fixed
+  pub filled : CopiesFillRooms (start_with start handed) fixed (heap_words now.seat) now.free homes progress.fill
   pub copied : progress.copied ≡ sum_by (λ home. size_of fixed home.from) homes
-  pub placed : IsWellPlaced (start_of start) fixed now.free homes all progress.refused
-  pub kept : AreKept (start_of start) fixed (heap_words now.seat) homes now.recorded.slots
+  pub placed : IsWellPlaced (start_with start handed) fixed now.free homes all progress.refused
+  pub kept : AreKept (start_with start handed) fixed (heap_words now.seat) homes now.recorded.slots
   pub listed : (at : ℕ) → Contains todo at → (home : Home) × Contains homes home × (home.to ≡ at)
   pub few : length todo ≤ progress.copied
-  pub others : OthersAreDone (start_of start) fixed (heap_words now.seat) homes todo front
+  pub others : OthersAreDone (start_with start handed) fixed (heap_words now.seat) homes todo front
   pub changes : ChangesWords start now
 
 -- The slot is live in a scavenge, so it may be followed.
 pub record MayFollow (now : Mutator) (all : Bool) (progress : Progress) (todo : List ℕ) (slot : ℕ) : Type 0 where
   pub start : Mutator
+  pub handed : List SegmentCopies
   pub front : Front
-  pub scavenging : Scavenging start now all progress todo front
+  pub scavenging : Scavenging start handed now all progress todo front
   pub place : ℕ
   pub stood : StoodAt scavenging.fixed scavenging.homes slot place
 
@@ -120,18 +121,19 @@ pub record HasGrown (before after : Progress) (todo left : List ℕ) : Type 0 wh
   pub grows : length left + before.copied ≤ length todo + after.copied
 
 -- A scavenge went on: no home was lost.
-pub record HasCopiedMore (start old new : Mutator) (all : Bool) (before after : Progress) (todo left : List ℕ)
-    (front : Front)
-    (state : Scavenging start old all before todo front) : Type 0 where
-  pub next : Scavenging start new all after left front
+pub record HasCopiedMore (start : Mutator) (handed : List SegmentCopies) (old new : Mutator) (all : Bool)
+    (before after : Progress) (todo left : List ℕ) (front : Front)
+    (state : Scavenging start handed old all before todo front) : Type 0 where
+  pub next : Scavenging start handed new all after left front
   pub same : next.fixed ≡ state.fixed
   pub kept : (home : Home) → Contains state.homes home → Contains next.homes home
   pub grown : HasGrown before after todo left
 
 -- And the slot is done: it refers to no cell that is to be copied.
-pub record HasFollowed (start old new : Mutator) (all : Bool) (before after : Progress) (todo left : List ℕ)
-    (front : Front) (slot : ℕ) (state : Scavenging start old all before todo front) : Type 0 where
-  pub on : HasCopiedMore start old new all before after todo left front state
+pub record HasFollowed (start : Mutator) (handed : List SegmentCopies) (old new : Mutator) (all : Bool)
+    (before after : Progress) (todo left : List ℕ) (front : Front) (slot : ℕ)
+    (state : Scavenging start handed old all before todo front) : Type 0 where
+  pub on : HasCopiedMore start handed old new all before after todo left front state
   pub done : (place cell : ℕ) → StoodAt on.next.fixed on.next.homes slot place
       → RefersToAddress (heap_words new.seat) slot cell → Contains on.next.fixed.cells cell → ⊥
 
@@ -143,9 +145,10 @@ pub record MayMove (now : Mutator) (all : Bool) (progress : Progress) (todo : Li
   pub left : IsFromSpace now.seat.space now.young.half at
 
 -- The cell at an address has its home at another then, and each slot that was live refers to what it did.
-pub record HasMoved (start old new : Mutator) (all : Bool) (before after : Progress) (todo left : List ℕ)
-    (front : Front) (at to : ℕ) (state : Scavenging start old all before todo front) : Type 0 where
-  pub on : HasCopiedMore start old new all before after todo left front state
+pub record HasMoved (start : Mutator) (handed : List SegmentCopies) (old new : Mutator) (all : Bool)
+    (before after : Progress) (todo left : List ℕ) (front : Front) (at to : ℕ)
+    (state : Scavenging start handed old all before todo front) : Type 0 where
+  pub on : HasCopiedMore start handed old new all before after todo left front state
   pub home : Home
   pub among : Contains on.next.homes home
   pub from : home.from ≡ at
@@ -194,9 +197,9 @@ pub record IsCopyOf (fixed : Fixed) (home : Home) (cell : Cell) : Type 0 where
   pub sized : IsSized cell
 
 -- A copy is at hand: it is this cell. The front says which of its slots are to do.
-pub record IsScanned (start now : Mutator) (all : Bool) (progress : Progress) (todo : List ℕ) (cell : Cell)
-    (front : Front) : Type 0 where
-  pub scavenging : Scavenging start now all progress todo front
+pub record IsScanned (start : Mutator) (handed : List SegmentCopies) (now : Mutator) (all : Bool) (progress : Progress)
+    (todo : List ℕ) (cell : Cell) (front : Front) : Type 0 where
+  pub scavenging : Scavenging start handed now all progress todo front
   pub home : Home
   pub among : Contains scavenging.homes home
   pub is : IsCopyOf scavenging.fixed home cell
@@ -204,11 +207,12 @@ pub record IsScanned (start now : Mutator) (all : Bool) (progress : Progress) (t
 -- a copy stands at the address
 pub record IsCopyAt (now : Mutator) (at : ℕ) : Type 0 where
   pub start : Mutator
+  pub handed : List SegmentCopies
   pub all : Bool
   pub progress : Progress
   pub todo : List ℕ
   pub front : Front
-  pub scavenging : Scavenging start now all progress todo front
+  pub scavenging : Scavenging start handed now all progress todo front
   pub home : Home
   pub among : Contains scavenging.homes home
   pub stands : home.to ≡ at
@@ -219,16 +223,20 @@ StandFree main =
     (run : Run) → IsFreeRun main.free run
     → (free : Cell) × IsFreeAt main.seat.space (heap_words main.seat) free run.at × (free.size ≡ run.words)
 
+-- the front when these slots that helpers left are still to do, and no root or recorded slot was followed
+abbrev pub at_left : Space → List ℕ → Front
+at_left space left = record { root = roots_start space; recorded = 0; from = 0; to = 0; left = left }
+
 -- the front when the roots are being followed, from an address on; when the recorded slots are; when copies are; and
 -- with the slots of a copy still to do from an address on
 abbrev pub at_root : ℕ → Front
-at_root root = record { root = root; recorded = 0; from = 0; to = 0 }
+at_root root = record { root = root; recorded = 0; from = 0; to = 0; left = [] }
 
 abbrev pub at_recorded : ℕ → ℕ → Front
-at_recorded end slot = record { root = end; recorded = slot; from = 0; to = 0 }
+at_recorded end slot = record { root = end; recorded = slot; from = 0; to = 0; left = [] }
 
 abbrev pub at_copy : (end eden from to : ℕ) → Front
-at_copy end eden from to = record { root = end; recorded = eden; from = from; to = to }
+at_copy end eden from to = record { root = end; recorded = eden; from = from; to = to; left = [] }
 
 -- where the room has a word more behind the copies, that is 0, and no other word has changed
 pub record EndsCopies (old new : List ℕ) (fill end : ℕ) : Type 0 where
@@ -246,8 +254,9 @@ pub record EmptiesSegments (space : Space) (half : ℕ) (old new : List ℕ) : T
 -- all slots of the copy at hand are to do
 pub record MayScan (now : Mutator) (spaces : Spaces) (progress : Progress) (todo : List ℕ) (cell : Cell) : Type 0 where
   pub start : Mutator
+  pub handed : List SegmentCopies
   pub all : Bool
   pub end : ℕ
   pub are : AreSpaces now.seat.space now.young.half all spaces
-  pub scanned : IsScanned start now all progress todo cell
+  pub scanned : IsScanned start handed now all progress todo cell
       (at_copy end (eden_start now.seat.space) cell.at (cell.at + cell.size))

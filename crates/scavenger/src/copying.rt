@@ -1,5 +1,5 @@
 //! Copying one cell: to a free run of a page, or behind the other copies of the segment.
-ghost use Rattle.std.specs.Prelude.{◌≡◌, ℕ, ◌+◌, ◌^◌, ◌<◌, ◌≤◌, Bool, Some, None, IsNone, IfSome, slice_get};
+ghost use Rattle.std.specs.Prelude.{◌≡◌, ℕ, ◌+◌, ◌^◌, ◌<◌, ◌≤◌, Bool, List, Some, None, IsNone, IfSome, slice_get};
 ghost use Rattle.std.specs.Vec.{vec_capacity};
 ghost use Rattle.page_space.specs.Sizes.{page_words};
 ghost use Rattle.page_space.specs.Extents.{marks_start};
@@ -14,6 +14,7 @@ ghost use Rattle.write_barrier.specs.MutatorState.{Mutator};
 ghost use Rattle.scavenger.specs.Filling.{Front};
 ghost use Rattle.scav_copy.specs.Places.{StoodAt};
 ghost use Rattle.scav_copy.specs.Renamings.{RefersToAddress};
+ghost use Rattle.scavenger.specs.Starts.{SegmentCopies};
 ghost use Rattle.scavenger.specs.Following.{IsFreeAt, IsFromSpace};
 ghost use Rattle.scavenger.specs.Walking.{AreSpaces, CopiesCell, MayMove, HasMoved, Places, Scavenging};
 ghost use Rattle.scavenger.specs.Walking.{StandFree, CutsFreeCell};
@@ -91,12 +92,12 @@ fn move_cell(main: &mut Main, spaces: &Spaces, worker: &mut Worker, at: u32, wor
     requires room { main.old.seat.space.sizes.young ≤ vec_capacity worker.old.list }
     requires read { slice_get (heap_words main.old.seat) at ≡ Some word }
     requires unmoved { reference_in word ≡ None }
-    ensures moved { (start : Mutator) (all : Bool) (front : Front)
-        (state : Scavenging start main.old all worker.old.progress worker.old.list.items front) (slot place : ℕ) →
-        AreSpaces main.old.seat.space main.old.young.half all spaces.now →
+    ensures moved { (start : Mutator) (handed : List SegmentCopies) (all : Bool) (front : Front)
+        (state : Scavenging start handed main.old all worker.old.progress worker.old.list.items front)
+        (slot place : ℕ) → AreSpaces main.old.seat.space main.old.young.half all spaces.now →
         StoodAt state.fixed state.homes slot place → RefersToAddress (heap_words main.old.seat) slot at →
         IsFromSpace main.old.seat.space main.old.young.half at →
-        HasMoved start main.old main.new all worker.old.progress worker.new.progress worker.old.list.items
+        HasMoved start handed main.old main.new all worker.old.progress worker.new.progress worker.old.list.items
         worker.new.list.items front at result state }
     ensures capacity { vec_capacity worker.new.list ≡ vec_capacity worker.old.list }
 {
@@ -117,12 +118,12 @@ pub(crate) fn home_of(main: &mut Main, spaces: &Spaces, worker: &mut Worker, at:
     requires spaces { (all : Bool) × AreSpaces main.old.seat.space main.old.young.half all spaces.now
         × MayMove main.old all worker.old.progress worker.old.list.items at }
     requires room { main.old.seat.space.sizes.young ≤ vec_capacity worker.old.list }
-    ensures moved { (start : Mutator) (all : Bool) (front : Front)
-        (state : Scavenging start main.old all worker.old.progress worker.old.list.items front) (slot place : ℕ) →
-        AreSpaces main.old.seat.space main.old.young.half all spaces.now →
+    ensures moved { (start : Mutator) (handed : List SegmentCopies) (all : Bool) (front : Front)
+        (state : Scavenging start handed main.old all worker.old.progress worker.old.list.items front)
+        (slot place : ℕ) → AreSpaces main.old.seat.space main.old.young.half all spaces.now →
         StoodAt state.fixed state.homes slot place → RefersToAddress (heap_words main.old.seat) slot at →
         IsFromSpace main.old.seat.space main.old.young.half at →
-        HasMoved start main.old main.new all worker.old.progress worker.new.progress worker.old.list.items
+        HasMoved start handed main.old main.new all worker.old.progress worker.new.progress worker.old.list.items
         worker.new.list.items front at result state }
     ensures capacity { vec_capacity worker.new.list ≡ vec_capacity worker.old.list }
 {

@@ -8,13 +8,15 @@
 //! Invariant: `Scavenging` of `specs/Walking.antt`, between two slots: home copies fill the segment one
 //! behind another, or stand in pages, which are rows of cells; each live slot that refers to a cell that
 //! is to be copied is to do; and recorded are those slots that were and still refer to a young cell, and
-//! the slots of copies in pages that refer to a copy in the segment.
+//! the slots of copies in pages that refer to a copy in the segment. Where helpers copied first, it begins with their
+//! copies as homes, and with the slots that they left to do (`HandsOver` of `specs/Handing.antt`).
 #![tactic(auto)]
 
 mod copying;
 mod emptying;
 mod granting;
 mod laws;
+mod left_slots;
 mod progress;
 mod scanning;
 mod scavenging;
@@ -24,4 +26,4 @@ mod worker;
 
 pub use granting::grant_run;
 pub use laws::{laws_of_ends, laws_of_following, laws_of_grants, laws_of_scavenges, laws_of_slots};
-pub use scavenging::scavenge;
+pub use scavenging::{finish_scavenge, scavenge};

@@ -7,6 +7,7 @@ ghost use Rattle.page_space.specs.Extents.{eden_start, layouts_start, roots_star
 ghost use Rattle.write_barrier.specs.MutatorState.{Mutator};
 ghost use Rattle.scav_copy.specs.declared.places.Home.{Home};
 ghost use Rattle.scavenger.specs.declared.progress.Progress.{Progress};
+ghost use Rattle.scavenger.specs.Starts.{SegmentCopies};
 ghost use Rattle.scavenger.specs.Filling.{ChangesWords, Front};
 ghost use Rattle.scavenger.specs.Walking.{AreSpaces, HasGrown, IsCopyAt, IsCopyOf, IsScanned, MayScan, Scavenging};
 ghost use Rattle.scavenger.specs.Walking.{at_copy, at_recorded, at_root};
@@ -22,17 +23,17 @@ use write_barrier::Main;
 
 /// Follows the first root word of each variable.
 pub(crate) fn scavenge_roots(main: &mut Main, spaces: &Spaces, worker: &mut Worker)
-    requires scavenging { (start : Mutator) × (all : Bool) ×
+    requires scavenging { (start : Mutator) × (handed : List SegmentCopies) × (all : Bool) ×
         AreSpaces main.old.seat.space main.old.young.half all spaces.now ×
         let root = roots_start main.old.seat.space in
-        Scavenging start main.old all worker.old.progress worker.old.list.items (at_root root) }
+        Scavenging start handed main.old all worker.old.progress worker.old.list.items (at_root root) }
     requires room { main.old.seat.space.sizes.young ≤ vec_capacity worker.old.list }
-    ensures scavenging { (start : Mutator) (all : Bool) →
+    ensures scavenging { (start : Mutator) (handed : List SegmentCopies) (all : Bool) →
         AreSpaces main.old.seat.space main.old.young.half all spaces.now →
         let root = roots_start main.old.seat.space in
-        Scavenging start main.old all worker.old.progress worker.old.list.items (at_root root) →
+        Scavenging start handed main.old all worker.old.progress worker.old.list.items (at_root root) →
         let end = layouts_start main.old.seat.space in
-        Scavenging start main.new all worker.new.progress worker.new.list.items (at_root end) }
+        Scavenging start handed main.new all worker.new.progress worker.new.list.items (at_root end) }
     ensures capacity { vec_capacity worker.new.list ≡ vec_capacity worker.old.list }
 {
     let regions = main.regions();
@@ -43,15 +44,15 @@ pub(crate) fn scavenge_roots(main: &mut Main, spaces: &Spaces, worker: &mut Work
 
 /// Follows the recorded slots in order.
 pub(crate) fn scavenge_recorded(main: &mut Main, spaces: &Spaces, worker: &mut Worker)
-    requires scavenging { (start : Mutator) × (all : Bool) × (end : ℕ) ×
+    requires scavenging { (start : Mutator) × (handed : List SegmentCopies) × (all : Bool) × (end : ℕ) ×
         AreSpaces main.old.seat.space main.old.young.half all spaces.now ×
-        Scavenging start main.old all worker.old.progress worker.old.list.items (at_recorded end 0) }
+        Scavenging start handed main.old all worker.old.progress worker.old.list.items (at_recorded end 0) }
     requires room { main.old.seat.space.sizes.young ≤ vec_capacity worker.old.list }
-    ensures scavenging { (start : Mutator) (all : Bool) (end : ℕ) →
+    ensures scavenging { (start : Mutator) (handed : List SegmentCopies) (all : Bool) (end : ℕ) →
         AreSpaces main.old.seat.space main.old.young.half all spaces.now →
-        Scavenging start main.old all worker.old.progress worker.old.list.items (at_recorded end 0) →
+        Scavenging start handed main.old all worker.old.progress worker.old.list.items (at_recorded end 0) →
         let eden = eden_start main.old.seat.space in
-        Scavenging start main.new all worker.new.progress worker.new.list.items (at_recorded end eden) }
+        Scavenging start handed main.new all worker.new.progress worker.new.list.items (at_recorded end eden) }
     ensures capacity { vec_capacity worker.new.list ≡ vec_capacity worker.old.list }
 {
     // No address is past 32 bits.
@@ -66,8 +67,8 @@ pub(crate) fn scavenge_recorded(main: &mut Main, spaces: &Spaces, worker: &mut W
 /// The cell that the copy at an address is.
 fn copy_at(main: &Main, at: u32) -> Cell
     requires { IsCopyAt main.now at }
-    ensures { (start : Mutator) (all : Bool) (progress : Progress) (todo : List ℕ) (front : Front)
-        (state : Scavenging start main.now all progress todo front) (home : Home) →
+    ensures { (start : Mutator) (handed : List SegmentCopies) (all : Bool) (progress : Progress) (todo : List ℕ)
+        (front : Front) (state : Scavenging start handed main.now all progress todo front) (home : Home) →
         Contains state.homes home → home.to ≡ at → IsCopyOf state.fixed home result }
 {
     known_cell(main, at)
@@ -79,12 +80,12 @@ fn follow_before(main: &mut Main, spaces: &Spaces, worker: &mut Worker, cell: &C
     requires scanned { MayScan main.old spaces.now worker.old.progress worker.old.list.items cell.now }
     requires room { main.old.seat.space.sizes.young ≤ vec_capacity worker.old.list }
     requires ends { All (λ offset. offset < slots_end) (scavenge_offsets cell.now.layout cell.now.length) }
-    ensures scavenging { (start : Mutator) (all : Bool) (end : ℕ) →
+    ensures scavenging { (start : Mutator) (handed : List SegmentCopies) (all : Bool) (end : ℕ) →
         AreSpaces main.old.seat.space main.old.young.half all spaces.now →
         let eden = eden_start main.old.seat.space in
         let front = at_copy end eden cell.now.at (cell.now.at + cell.now.size) in
-        IsScanned start main.old all worker.old.progress worker.old.list.items cell.now front →
-        Scavenging start main.new all worker.new.progress worker.new.list.items (at_copy end eden 0 0) }
+        IsScanned start handed main.old all worker.old.progress worker.old.list.items cell.now front →
+        Scavenging start handed main.new all worker.new.progress worker.new.list.items (at_copy end eden 0 0) }
     ensures grows { HasGrown worker.old.progress worker.new.progress worker.old.list.items worker.new.list.items }
     ensures keeps { ChangesWords main.old main.new }
     ensures capacity { vec_capacity worker.new.list ≡ vec_capacity worker.old.list }
@@ -102,12 +103,12 @@ fn follow_before(main: &mut Main, spaces: &Spaces, worker: &mut Worker, cell: &C
 fn follow_slots(main: &mut Main, spaces: &Spaces, worker: &mut Worker, cell: &Cell)
     requires scanned { MayScan main.old spaces.now worker.old.progress worker.old.list.items cell.now }
     requires room { main.old.seat.space.sizes.young ≤ vec_capacity worker.old.list }
-    ensures scavenging { (start : Mutator) (all : Bool) (end : ℕ) →
+    ensures scavenging { (start : Mutator) (handed : List SegmentCopies) (all : Bool) (end : ℕ) →
         AreSpaces main.old.seat.space main.old.young.half all spaces.now →
         let eden = eden_start main.old.seat.space in
         let front = at_copy end eden cell.now.at (cell.now.at + cell.now.size) in
-        IsScanned start main.old all worker.old.progress worker.old.list.items cell.now front →
-        Scavenging start main.new all worker.new.progress worker.new.list.items (at_copy end eden 0 0) }
+        IsScanned start handed main.old all worker.old.progress worker.old.list.items cell.now front →
+        Scavenging start handed main.new all worker.new.progress worker.new.list.items (at_copy end eden 0 0) }
     ensures grows { HasGrown worker.old.progress worker.new.progress worker.old.list.items worker.new.list.items }
     ensures keeps { ChangesWords main.old main.new }
     ensures capacity { vec_capacity worker.new.list ≡ vec_capacity worker.old.list }
@@ -128,16 +129,16 @@ fn follow_slots(main: &mut Main, spaces: &Spaces, worker: &mut Worker, cell: &Ce
 
 /// Follows the slots of all copies on the list, also of those that are made on the way.
 pub(crate) fn scavenge_copies(main: &mut Main, spaces: &Spaces, worker: &mut Worker)
-    requires scavenging { (start : Mutator) × (all : Bool) × (end : ℕ) ×
+    requires scavenging { (start : Mutator) × (handed : List SegmentCopies) × (all : Bool) × (end : ℕ) ×
         AreSpaces main.old.seat.space main.old.young.half all spaces.now ×
         let front = at_copy end (eden_start main.old.seat.space) 0 0 in
-        Scavenging start main.old all worker.old.progress worker.old.list.items front }
+        Scavenging start handed main.old all worker.old.progress worker.old.list.items front }
     requires room { main.old.seat.space.sizes.young ≤ vec_capacity worker.old.list }
-    ensures scavenging { (start : Mutator) (all : Bool) (end : ℕ) →
+    ensures scavenging { (start : Mutator) (handed : List SegmentCopies) (all : Bool) (end : ℕ) →
         AreSpaces main.old.seat.space main.old.young.half all spaces.now →
         let front = at_copy end (eden_start main.old.seat.space) 0 0 in
-        Scavenging start main.old all worker.old.progress worker.old.list.items front →
-        Scavenging start main.new all worker.new.progress [] front }
+        Scavenging start handed main.old all worker.old.progress worker.old.list.items front →
+        Scavenging start handed main.new all worker.new.progress [] front }
     ensures empty { worker.new.list.items ≡ [] }
     ensures capacity { vec_capacity worker.new.list ≡ vec_capacity worker.old.list }
 {

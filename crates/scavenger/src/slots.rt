@@ -1,9 +1,10 @@
 //! Following one slot: the step of a scavenge.
-ghost use Rattle.std.specs.Prelude.{◌≡◌, ℕ, ◌≤◌, Bool};
+ghost use Rattle.std.specs.Prelude.{◌≡◌, ℕ, ◌≤◌, Bool, List};
 ghost use Rattle.std.specs.Vec.{vec_capacity};
 ghost use Rattle.heap_table.specs.Phases.{Quiet};
 ghost use Rattle.write_barrier.specs.MutatorState.{Mutator};
 ghost use Rattle.scav_copy.specs.Places.{StoodAt};
+ghost use Rattle.scavenger.specs.Starts.{SegmentCopies};
 ghost use Rattle.scavenger.specs.Filling.{Front};
 ghost use Rattle.scavenger.specs.Walking.{AreSpaces, HasFollowed, MayFollow, Scavenging};
 
@@ -22,11 +23,11 @@ pub(crate) fn follow(main: &mut Main, spaces: &Spaces, worker: &mut Worker, slot
     requires spaces { (all : Bool) × AreSpaces main.old.seat.space main.old.young.half all spaces.now
         × MayFollow main.old all worker.old.progress worker.old.list.items slot }
     requires room { main.old.seat.space.sizes.young ≤ vec_capacity worker.old.list }
-    ensures followed { (start : Mutator) (all : Bool) (front : Front)
-        (state : Scavenging start main.old all worker.old.progress worker.old.list.items front) (place : ℕ) →
-        AreSpaces main.old.seat.space main.old.young.half all spaces.now →
+    ensures followed { (start : Mutator) (handed : List SegmentCopies) (all : Bool) (front : Front)
+        (state : Scavenging start handed main.old all worker.old.progress worker.old.list.items front)
+        (place : ℕ) → AreSpaces main.old.seat.space main.old.young.half all spaces.now →
         StoodAt state.fixed state.homes slot place →
-        HasFollowed start main.old main.new all worker.old.progress worker.new.progress worker.old.list.items
+        HasFollowed start handed main.old main.new all worker.old.progress worker.new.progress worker.old.list.items
         worker.new.list.items front slot state }
     ensures capacity { vec_capacity worker.new.list ≡ vec_capacity worker.old.list }
 {

@@ -133,5 +133,5 @@ module _ {old : Mutator} {graph : Graph} {plain : PlainObject} {object : ℕ} {h
       let beside = rest_stays_again old.seat mid.seat new.seat path.beside puts.beside in
       subst (ShowsRefilled new graph plain) (sym with)
       (written_fields_show old new graph plain known.cell next others made fields known.shows known.is.object
-      known.carries known.caps known.shown (subst (AreNewFields graph) with are) added
+      known.is.reached known.carries known.caps known.shown (subst (AreNewFields graph) with are) added
       (takes_run need beside room (puts.young ∙ path.young) row) writes (added_refills adds) remembers)

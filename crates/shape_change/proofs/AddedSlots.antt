@@ -3,6 +3,7 @@ use Rattle.std.proofs.Common.{◌≡◌, ◌≢◌, ℕ, ◌≤◌, ◌<◌, ◌
 use Rattle.std.proofs.Common.{length, Some, Contains, nat_lt, slice_get, refl, sym, ◌∙◌, ap, subst, arith}
 use Rattle.std.proofs.Common.{length-append}
 use Rattle.tagged_word.specs.declared.layout.Kind.TheVariants as kind
+use Rattle.tagged_word.specs.Cells.{proto_slot}
 use Rattle.heap_model.specs.Types.{Field, Cell}
 use Rattle.object_graph.specs.Paths.{path_of}
 use Rattle.shape_tree.specs.Shapes.{shape_path, stepped}
@@ -32,7 +33,8 @@ pub data SlotIs (slots : List ℕ) (slot word k x : ℕ) : Type 0 where
 abbrev pub PutsOne : List ℕ → List ℕ → ℕ → ℕ → Type 0
 PutsOne slots now slot word = (k x : ℕ) → HasWord now k x → SlotIs slots slot word k x
 
--- A field is added to a plain object: its slots, those of the store, and the cells that belong to it.
+-- A field is added to a plain object: its slots, those of the store, and the cells that belong to it. Its prototype
+-- stays.
 pub record AddsSlot (old new : Heap) (cell : Cell) (next : ℕ) (others made : List Cell) (fields : List Field)
     (field : Field) : Type 0 where
   -- the cell before
@@ -45,6 +47,8 @@ pub record AddsSlot (old new : Heap) (cell : Cell) (next : ℕ) (others made : L
   pub path : shape_path new.paths next ≡ path_of cell.layout.cap (fields ++ field ∷ [])
   pub now : List ℕ
   pub are : HasSlots new (words_of_cell new (reshaped new.paths cell next)) now
+  pub proto : slice_get (words_of_cell new (reshaped new.paths cell next)) proto_slot
+      ≡ slice_get (words_of_cell old cell) proto_slot
   pub word : ℕ
   pub puts : PutsOne sound.slots now (length fields) word
   pub room : length fields < length now
@@ -146,6 +150,7 @@ module _ {old new : Heap} {cell : Cell} {next : ℕ} {others made : List Cell} {
     were = adds.sound.has;
     now = adds.now;
     are = adds.are;
+    proto = adds.proto;
     path = adds.path;
     enough = omega (arith, adds.room, length-append fields (field ∷ []));
     refills = record {

@@ -39,7 +39,7 @@ use Rattle.object_cells.proofs.HeldContents.{HoldsValue}
 use Rattle.object_cells.proofs.NewBoxes.{box_cell}
 use Rattle.object_cells.proofs.NumberedSlots.{IsNumbered}
 use Rattle.object_cells.proofs.OneWord.{IsReady}
-use Rattle.object_cells.proofs.OwnPlaces.{box_size, box_place, plain_is_object, store_not_in_box}
+use Rattle.object_cells.proofs.OwnPlaces.{box_size, box_place, plain_is_object, head_not_in_box}
 use Rattle.object_cells.proofs.OwnCells.{cell_below_layouts, beside_not_header}
 use Rattle.object_cells.proofs.PlainFields.{plain_sound}
 use Rattle.heap_model.proofs.OneBeside.{one_slots}
@@ -207,7 +207,7 @@ module _ {old : Mutator} {graph : Graph} {object slot : ℕ} {plain : PlainObjec
       (before_marks (one.at + 1) ready below) (before_marks s.cell.at ready (head_below s)) ready.sized.words
       (λ same. not_header (sym same)) put in
       let sets = sets_one s shape ready (one ∷ []) [] (box_place has is.box)
-      (store_not_in_box whole s.has s.shown.of_kind has is.box) below puts
+      (head_not_in_box whole s.has s.shown.of_kind has is.box) below puts
       (row_of_none (heap_of new) (next_at old)) in
       let to_old : RefersToOld (heap_of old) s.cell sets.shown.slots slot one = record {
         word = word;

@@ -2,7 +2,7 @@
 -- slots.
 use Rattle.std.proofs.Common.{◌≡◌, ◌≢◌, ℕ, ◌+◌, ◌<◌, inl, List, [], Contains, Some, slice_get, refl, sym, ◌∙◌, ap}
 use Rattle.std.proofs.Common.{subst, arith, ◌∷◌, ◌++◌, length}
-use Rattle.tagged_word.specs.Cells.{store_head, length_offset, store_slot, is_object_kind}
+use Rattle.tagged_word.specs.Cells.{plain_head, store_head, length_offset, store_slot, proto_slot, is_object_kind}
 use Rattle.page_space.specs.Extents.{Space, layouts_start, eden_start}
 use Rattle.page_space.proofs.Starts.{layouts_start_is}
 use Rattle.heap_model.specs.Types.{Field, Path, Cell}
@@ -34,10 +34,10 @@ use Rattle.object_cells.proofs.OneField.{SlotsAfter, slots_again}
 use Rattle.object_cells.proofs.OwnerWrites.{plain_owns, becomes_cap, written_own_keeps_cells}
 use Rattle.object_cells.proofs.SlotsNow.{beside_stands, plain_cell_size, word_at_offset}
 
--- no slot stands where the slot for the store does
-store_slot_apart : (heap : Heap) (object cap store count one : ℕ) → SlotsStand heap object cap store count → one < count
-    → slot_at object cap store one ≢ object + store_slot
-store_slot_apart heap object cap store count one stand below same = grind (arith, nat_tests, stand.apart)
+-- no slot stands where a word of the head does
+head_is_no_slot : (heap : Heap) (object cap store count offset one : ℕ) → SlotsStand heap object cap store count
+    → offset < plain_head → one < count → slot_at object cap store one ≢ object + offset
+head_is_no_slot heap object cap store count offset one stand head below same = grind (arith, nat_tests, stand.apart)
 
 module _ {old new : Mutator} {cell : Cell} {slot : ℕ} {fields : List Field}
     (deleting : Deleting old new cell slot fields) where
@@ -125,17 +125,17 @@ module _ {old new : Mutator} {cell : Cell} {slot : ℕ} {fields : List Field}
   abbrev pub one_of : Cell
   one_of = reshaped new.paths cell deleting.taken.next
 
-  -- the slot for the store stays
-  pub slot_stays : slice_get (heap_words new.seat) (cell.at + store_slot)
-      ≡ slice_get (heap_words old.seat) (cell.at + store_slot)
-  slot_stays =
+  -- the words of the head behind the header stay
+  pub behind_header_stays : (offset : ℕ) → 0 < offset → offset < plain_head
+      → slice_get (heap_words new.seat) (cell.at + offset) ≡ slice_get (heap_words old.seat) (cell.at + offset)
+  behind_header_stays offset behind head =
       let are = deleting.shows.has in
       let stand = all_stand deleting in
       let count : ℕ = length deleting.shows.slots in
-      deleting.taken.stay (cell.at + store_slot) (omega (arith, stand.own, layouts_start_is old.seat.space))
-      (λ same. omega (arith, same))
-      (λ one low high same. store_slot_apart (heap_of old) cell.at cell.layout.cap (store_at are.stands) count one stand
-      (omega (arith, room_is deleting, high)) (sym (address_is deleting one high) ∙ same))
+      deleting.taken.stay (cell.at + offset) (omega (arith, stand.own, head, layouts_start_is old.seat.space))
+      (λ same. omega (arith, same, behind))
+      (λ one low high same. head_is_no_slot (heap_of old) cell.at cell.layout.cap (store_at are.stands) count offset one
+      stand head (omega (arith, room_is deleting, high)) (sym (address_is deleting one high) ∙ same))
 
   -- the object's cell and its store stand again
   cells_come : CellsChange (heap_of old) (heap_of new) (cell ∷ others_of) (one_of ∷ others_of) []
@@ -145,6 +145,14 @@ module _ {old new : Mutator} {cell : Cell} {slot : ℕ} {fields : List Field}
   has_one : HasCell (heap_of new) one_of (words_of_cell (heap_of new) one_of)
   has_one = cells_come.comes one_of (first_in one_of (others_of ++ []))
 
+  -- its prototype stays
+  pub proto_stays : slice_get (words_of_cell (heap_of new) one_of) proto_slot
+      ≡ slice_get (words_of_cell (heap_of old) cell) proto_slot
+  proto_stays =
+      let within : proto_slot < cell.size = omega (arith, plain_cell_size deleting.has deleting.shows.of_kind) in
+      word_at_offset proto_slot has_one within ∙ behind_header_stays proto_slot (omega arith) (omega arith)
+      ∙ sym (word_at_offset proto_slot deleting.has within)
+
   -- so the object's has as many slots, and its store is the same
   pub slots_now : SlotsAfter (heap_of new) one_of deleting.shows.has
   slots_now =
@@ -152,7 +160,8 @@ module _ {old new : Mutator} {cell : Cell} {slot : ℕ} {fields : List Field}
       let plain = deleting.shows.of_kind in
       let object = ap is_object_kind plain in
       slots_again deleting.has has_one refl (λ other words stood store. beside_stands object cells_come stood store) was
-      (word_at_offset store_slot has_one (omega (arith, plain_cell_size deleting.has plain)) ∙ slot_stays
+      (word_at_offset store_slot has_one (omega (arith, plain_cell_size deleting.has plain))
+      ∙ behind_header_stays store_slot (omega arith) (omega arith)
       ∙ word_stands store_slot was.store deleting.has was.slot)
 
   -- and this is what each holds

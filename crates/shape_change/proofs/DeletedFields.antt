@@ -23,7 +23,7 @@ use Rattle.object_cells.proofs.OwnSteps.{written_places_stay, written_box_stays}
 use Rattle.object_cells.proofs.OwnerWrites.{plain_owns, becomes_cap}
 use Rattle.object_cells.proofs.WrittenPlaces.{hole_names_none}
 use Rattle.shape_change.proofs.DeletedSlots.{Deleting, count_is, NowHolds, room_is}
-use Rattle.shape_change.proofs.DeletedCells.{others_of, deleted_writes, one_of, slots_now, now_read}
+use Rattle.shape_change.proofs.DeletedCells.{others_of, deleted_writes, one_of, proto_stays, slots_now, now_read}
 use Rattle.shape_change.proofs.MovedInFields.{drawn_shown, drawn_is, no_box, drawn_field}
 use Rattle.std.proofs.lemmas.List.{append-nil}
 use Rattle.tagged_word.specs.declared.layout.Kind.TheVariants as kind
@@ -198,6 +198,7 @@ module _ {old new : Mutator} {cell : Cell} {slot : ℕ} {fields : List Field}
         were = shows.has;
         now = now.now;
         are = now.are;
+        proto = proto_stays deleting;
         path = path_now name less;
         enough = omega (arith, less.count, count_is deleting, room_is deleting, now.long);
         refills = record {

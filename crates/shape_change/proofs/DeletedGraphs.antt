@@ -43,7 +43,7 @@ use Rattle.object_cells.proofs.OwnerWrites.{plain_owns}
 use Rattle.object_cells.proofs.TakenRuns.{bumped_none, takes_none}
 use Rattle.shape_change.proofs.FullPaths.{full_of_paths}
 use Rattle.shape_change.proofs.DeletedSlots.{Deleting}
-use Rattle.shape_change.proofs.DeletedCells.{slot_stays, others_of, deleted_writes}
+use Rattle.shape_change.proofs.DeletedCells.{behind_header_stays, others_of, deleted_writes}
 use Rattle.shape_change.proofs.DeletedFields.{deleted_refills, store_belongs}
 use Rattle.shape_change.proofs.DeletedTouches.{deleted_remembers}
 use Rattle.shape_change.proofs.ShownFields.{ShownCell, FieldFound, shown_cell, shown_path, name_is_new}
@@ -97,7 +97,8 @@ module _ {old : Mutator} {graph : Graph} {object : ℕ} {plain : PlainObject} {h
               let next = reshaped new.paths shown.cell deleting_of.taken.next in
               subst (HasWord (words_of_cell (heap_of new) next) store_slot)
               (fields_refill.refills.stores other among is).1 fields_refill.refills.has_store;
-        }) (row_of_none (heap_of new) (next_at old)) (slot_stays deleting_of))
+        }) (row_of_none (heap_of new) (next_at old))
+        (behind_header_stays deleting_of store_slot (omega arith) (omega arith)))
 
     -- the heap shows the graph in which the object lacks the field
     field_less : ShowsRefilled new graph plain (without_field plain.fields name)
@@ -106,7 +107,7 @@ module _ {old : Mutator} {graph : Graph} {object : ℕ} {plain : PlainObject} {h
         (path_of plain.cap (without_field plain.fields name))) (sym shows.shows.paths)
         ∙ ap (with_path (Some paths_most) old.paths) (sym path_less) ∙ taken.leads.added in
         written_fields_show old new graph plain shown.cell deleting_of.taken.next (others_of deleting_of) []
-        (without_field plain.fields name) shows is.object shown.carries shown.cap shown.shows
+        (without_field plain.fields name) shows is.object is.reached shown.carries shown.cap shown.shows
         (rest_of_fields_are_new graph plain name shows.is_graph is.object is.reached) added
         (takes_none taken.beside (room_for_none old shows.tied shows.shows.whole)
         (taken.young ∙ sym (bumped_none old.young)))
@@ -133,10 +134,10 @@ module _ {old : Mutator} {graph : Graph} {object : ℕ} {plain : PlainObject} {h
 
 -- an object that gets its own fields, whose path is there, is as it was
 refilled_alike : (main : Mutator) (graph : Graph) (plain : PlainObject) → MainShows main graph
-    → slice_get graph.objects plain.number ≡ Some (Plain plain.cap plain.fields)
+    → slice_get graph.objects plain.number ≡ Some (Plain plain.cap plain.proto plain.fields)
     → ShowsRefilled main graph plain plain.fields
 refilled_alike main graph plain shows there =
-    let what : Object = Plain plain.cap plain.fields in
+    let what : Object = Plain plain.cap plain.proto plain.fields in
     let path : Path = path_of plain.cap plain.fields in
     let shaped : HasItsPath graph.paths what =
     All-slice_get (HasItsPath graph.paths) graph.objects plain.number what shows.is_graph.shaped there in

@@ -1,10 +1,9 @@
 -- The ways to fill the slot of a field that is set: with a tagged word, a raw one, or a box that is made.
-use Rattle.std.proofs.Common.{◌≡◌, ◌≢◌, ℕ, ◌+◌, ◌<◌, List, [], length, Some, slice_get, set, nat_lt, true, refl, sym}
+use Rattle.std.proofs.Common.{◌≡◌, ℕ, ◌+◌, ◌<◌, List, [], length, Some, slice_get, set, nat_lt, true, refl, sym}
 use Rattle.std.proofs.Common.{◌∙◌, ap, subst, arith}
 use Rattle.std.proofs.lemmas.Bool.Decides.{nat_tests}
 use Rattle.std.proofs.lemmas.Option.{same_Some}
 use Rattle.tagged_word.specs.Headers.{header_bits}
-use Rattle.tagged_word.specs.Cells.{store_slot}
 use Rattle.page_space.specs.Extents.{Space, layouts_start, marks_start}
 use Rattle.page_space.proofs.Starts.{marks_start_is}
 use Rattle.cell_layout.specs.Cells.{IsRow}
@@ -31,10 +30,10 @@ use Rattle.object_cells.specs.declared.content.SlotContent.{SlotContent}
 use Rattle.object_cells.specs.Made.{slot_touch}
 use Rattle.object_cells.proofs.FieldWords.{path_field, tagged_is_field}
 use Rattle.object_cells.proofs.HeldContents.{HoldsValue}
-use Rattle.object_cells.proofs.NumberedSlots.{IsNumbered, number_is_not_store}
+use Rattle.object_cells.proofs.NumberedSlots.{IsNumbered, number_not_in_head}
 use Rattle.object_cells.proofs.OneWord.{IsReady}
 use Rattle.object_cells.proofs.OneField.{SetsOne}
-use Rattle.object_cells.proofs.OwnPlaces.{IsSlotPlace, plain_is_object, slot_place}
+use Rattle.object_cells.proofs.OwnPlaces.{IsSlotPlace, slot_place}
 use Rattle.object_cells.proofs.OwnCells.{cell_below_layouts}
 use Rattle.object_cells.proofs.MadeBoxes.{row_of_none}
 use Rattle.object_cells.proofs.SlotsNow.{IsSlotAddress, numbered_address}
@@ -132,9 +131,8 @@ module _ {old : Mutator} {graph : Graph} {object slot : ℕ} {plain : PlainObjec
           let whole = s.shows.shows.whole in
           let puts = slot_puts word next ready word_put head in
           let place = slot_place slot at whole s.has s.shown.of_kind s.shown.has numbered in
-          let not_store : s.cell.at + store_slot ≢ at =
-          λ same. number_is_not_store slot at whole.rows s.has (plain_is_object s.shown.of_kind) numbered (sym same) in
-          let sets = sets_one s shape ready place.0 made place.1.own not_store slot_below puts row in
+          let not_head = number_not_in_head slot at whole.rows s.has s.shown.of_kind numbered in
+          let sets = sets_one s shape ready place.0 made place.1.own not_head slot_below puts row in
           let shows = owed place.0 sets in
           let store : s.shown.has.store ≡ sets.shown.has.store =
           same_Some _ _ (sym s.shown.has.slot ∙ sets.shown.has.slot) in

@@ -6,7 +6,7 @@ use Rattle.std.proofs.lemmas.Bool.{cases_lt}
 use Rattle.std.proofs.lemmas.Bool.Decides.{nat_tests}
 use Rattle.heap_model.specs.Types.{Header, Value, Path, Cell, Held}
 use Rattle.tagged_word.specs.declared.layout.Kind.TheVariants as kind
-use Rattle.tagged_word.specs.Cells.{plain_head, store_head, store_slot}
+use Rattle.tagged_word.specs.Cells.{plain_head, store_head, store_slot, proto_slot}
 use Rattle.tagged_word.proofs.Members.{first_in}
 use Rattle.object_graph.specs.Values.{rep_of}
 use Rattle.object_graph.specs.Objects.{with_field}
@@ -41,7 +41,7 @@ use Rattle.object_cells.proofs.OwnCells.{IsOwnWord, writes_cells, word_stays}
 use Rattle.object_cells.proofs.OwnPlaces.{plain_is_object}
 use Rattle.object_cells.proofs.OwnerWrites.{plain_owns, becomes_cap}
 use Rattle.object_cells.proofs.SlotPlaces.{own_slot, behind_cap}
-use Rattle.object_cells.proofs.SlotsNow.{plain_cell_size}
+use Rattle.object_cells.proofs.SlotsNow.{plain_cell_size, word_at_offset, head_stays}
 use Rattle.object_cells.proofs.StoreRuns.{CopiesSlots, copies_slots}
 use Rattle.object_cells.proofs.TakenValues as taken
 use Rattle.object_cells.proofs.TakenValues.{TakesValue, only_store}
@@ -154,7 +154,7 @@ module _ {old new : Mutator} {graph : Graph} {plain : PlainObject} {object : ℕ
   own_kept : (k x : ℕ) → k < growing.known.cell.layout.cap → HasWord now k x → HasWord growing.known.sound.slots k x
   own_kept k x below there =
       let known = growing.known in
-      let a : ℕ = known.cell.at + (2 + k) in
+      let a : ℕ = known.cell.at + (plain_head + k) in
       let size = plain_cell_size known.has known.shown.of_kind in
       let of_cell : IsOfCell known.cell a = record { from = omega arith; below = omega (arith, size, below) } in
       let no_filler =
@@ -163,6 +163,17 @@ module _ {old new : Mutator} {graph : Graph} {plain : PlainObject} {object : ℕ
       ∙ sym (word_stays a known.shows.shows.whole one known.has no_filler of_cell (λ same. omega (arith, same))
       (λ same. omega (arith, same, known.stands)))
       ∙ own_slot k (taken.came_has takes) refl slots_now (omega (arith, below, becomes_cap writes.becomes)) ∙ there
+
+  -- the prototype stays
+  proto_stays : slice_get (words_of_cell (heap_of new) came) proto_slot
+      ≡ slice_get (words_of_cell (heap_of old) growing.known.cell) proto_slot
+  proto_stays =
+      let known = growing.known in
+      let within : proto_slot < known.cell.size = omega (arith, plain_cell_size known.has known.shown.of_kind) in
+      word_at_offset proto_slot (taken.came_has takes) within
+      ∙ head_stays proto_slot known.shows.shows.whole known.has known.shown.of_kind one (omega arith) (omega arith)
+      (λ same. omega (arith, same, known.stands))
+      ∙ sym (word_at_offset proto_slot known.has within)
 
   -- a slot of the store holds what one of the other held, the word that was put, or nothing
   beside_is : (j x : ℕ) → HasWord (drop store_head (words_of_cell (heap_of new) new_store)) j x
@@ -238,6 +249,7 @@ module _ {old new : Mutator} {graph : Graph} {plain : PlainObject} {object : ℕ
         path = path_after known (over growing);
         now = now;
         are = slots_now;
+        proto = proto_stays;
         word = word;
         puts = puts;
         room = now_long;

@@ -19,7 +19,7 @@ use Rattle.object_cells.specs.CellWrites.{reshaped}
 use Rattle.object_cells.specs.OwnSlots.{ComesFrom, StoreComes}
 use Rattle.object_cells.specs.SlotChanges.{IsTaggedSlot, HasTagged}
 use Rattle.object_cells.proofs.NumberedSlots.{IsNumbered, one_address, one_number}
-use Rattle.object_cells.proofs.SlotsNow.{PutsOwn, store_now, slot_now}
+use Rattle.object_cells.proofs.SlotsNow.{PutsOwn, store_now, proto_now, slot_now}
 use Rattle.object_cells.proofs.OwnPlaces.{IsSlotPlace, plain_is_object}
 use Rattle.object_cells.proofs.OneField.{slots_after}
 use Rattle.object_cells.proofs.OwnCapacities.{one_keeps}
@@ -77,6 +77,7 @@ one_adds {old} {new} {cell} {word = word} {others} {made} {fields} adds shows co
       path = adds.path;
       now = after.now;
       are = after.are;
+      proto = proto_now adds.puts;
       word = word;
       puts = one_puts after.now adds after.are;
       room = omega (arith, adds.there, after.long);

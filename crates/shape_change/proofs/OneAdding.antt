@@ -12,9 +12,9 @@ use Rattle.object_cells.specs.SlotChanges.{WritesFields}
 use Rattle.object_cells.specs.Contents.{next_at}
 use Rattle.shape_change.specs.Additions.{added_path}
 use Rattle.object_cells.proofs.OwnerWrites.{plain_owns, written_own_keeps_cells}
-use Rattle.object_cells.proofs.NumberedSlots.{IsNumbered, number_is_not_store}
+use Rattle.object_cells.proofs.NumberedSlots.{IsNumbered, number_not_in_head}
 use Rattle.object_cells.proofs.OwnCells.{writes_cells}
-use Rattle.object_cells.proofs.OwnPlaces.{plain_is_object, slot_place}
+use Rattle.object_cells.proofs.OwnPlaces.{slot_place}
 use Rattle.shape_change.proofs.AddedFields.{new_field}
 use Rattle.shape_change.proofs.AddedWords.{PutsOver, over_writes_one}
 use Rattle.shape_change.proofs.AddedShown.{Adding}
@@ -75,9 +75,7 @@ one_adding {old} {mid} {new} {plain = plain} {header = header} {name} {value} {w
           one = one;
           writes = writes;
           cells = (written_own_keeps_cells plain_owns whole writes).1;
-          not_store = λ same.
-              number_is_not_store (length plain.fields) at whole.rows known.has (plain_is_object kind) numbered
-              (sym same);
+          not_head = number_not_in_head (length plain.fields) at whole.rows known.has kind numbered;
         };
         sound = known.sound;
         was = known.was;

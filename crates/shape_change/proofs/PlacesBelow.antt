@@ -2,6 +2,7 @@
 use Rattle.std.proofs.Common.{◌≡◌, ℕ, ◌+◌, ◌-◌, ◌<◌, ◌/◌, ◌%◌, ◌==◌, ◌&&◌, nat_lt, Bool, true, false, None, Some}
 use Rattle.std.proofs.Common.{length, slice_get, get_or, refl, sym, ◌∙◌, ap, subst, arith}
 use Rattle.std.proofs.lemmas.Option.{slice_get-get_or}
+use Rattle.tagged_word.specs.Cells.{plain_head}
 use Rattle.tagged_word.specs.Readings.{given, reference_in}
 use Rattle.page_space.specs.Sizes.{AreWithin}
 use Rattle.page_space.specs.Extents.{marks_start}
@@ -40,7 +41,7 @@ module _ {heap : Heap} {object : ℕ} where
 
   -- a slot below the cap ends before the marks
   pub own_within : (slot cap : ℕ) → HasSizes heap → IsCapAt heap object cap → HasPlainSlot heap object slot → slot < cap
-      → object + (2 + slot) < marks_start heap.space
+      → object + (plain_head + slot) < marks_start heap.space
   own_within slot cap sized caps there below =
       let is = caps there.cell there.words there.has there.stands in
       let within = own_slot_within slot sized there.has there.plain (omega (arith, is, below)) in
@@ -48,11 +49,11 @@ module _ {heap : Heap} {object : ℕ} where
 
   -- and stands in the object
   pub own_stands : (slot cap : ℕ) → IsCapAt heap object cap → HasPlainSlot heap object slot → slot < cap
-      → StandsSlot heap object slot (InObject (2 + slot))
+      → StandsSlot heap object slot (InObject (plain_head + slot))
   own_stands slot cap caps there below cell words slots has stands are =
       let same : there.cell ≡ cell = one_at there.has has (there.stands ∙ sym stands) in
       let plain = ap (λ (one : Cell). one.layout.kind) (sym same) ∙ there.plain in
-      ap (λ at. slice_get heap.words (at + (2 + slot))) (sym stands)
+      ap (λ at. slice_get heap.words (at + (plain_head + slot))) (sym stands)
       ∙ own_slot slot has plain are (omega (arith, caps cell words has stands, below))
 
   -- so it is where a plain object has a slot behind the cap

@@ -1,6 +1,5 @@
 -- A heap in which a slot of a plain object was filled shows the graph in which the field of this slot has the value.
 use Rattle.tagged_word.specs.Headers.{header_bits}
-use Rattle.tagged_word.specs.Cells.{store_slot}
 use Rattle.page_space.specs.Extents.{layouts_start}
 use Rattle.cell_layout.specs.Cells.{IsRow}
 use Rattle.cell_layout.proofs.Rows.{cell_within}
@@ -28,10 +27,11 @@ use Rattle.object_cells.proofs.OwnCapacities.{one_keeps}
 use Rattle.object_cells.proofs.RefilledHeaps.{written_fields_show}
 use Rattle.object_cells.proofs.WordsPut.{PutsTwo}
 use Rattle.object_cells.proofs.OneWord.{IsReady, writes_two}
+use Rattle.object_cells.proofs.NumberedSlots.{NotInHead}
 use Rattle.object_cells.proofs.OwnCells.{IsOwnWord, writes_cells, cell_below_layouts}
 use Rattle.object_cells.proofs.SlotsNow.{PutsOwn}
 use Rattle.object_cells.proofs.OneField.{SetsOne, FillsOne, slots_after, refills_slots}
-use Rattle.std.proofs.Common.{◌≡◌, ◌≢◌, ℕ, ◌+◌, ◌<◌, List, ◌∷◌, Some, set, sym, ◌∙◌, ap, subst}
+use Rattle.std.proofs.Common.{◌≡◌, ℕ, ◌+◌, ◌<◌, List, ◌∷◌, Some, set, sym, ◌∙◌, ap, subst}
 use Rattle.shape_change.proofs.Settings.{Setting, fields_are, fields_are_new, slot_is_field}
 
 module _ {old : Mutator} {graph : Graph} {object slot : ℕ} {plain : PlainObject} {what : Value} {name : ℕ}
@@ -55,12 +55,12 @@ module _ {old : Mutator} {graph : Graph} {object slot : ℕ} {plain : PlainObjec
     where
       -- a word of the object's own cells was put, and its header, and cells were made
       pub sets_one : (others made : List Cell) → IsOwnWord (heap_of old) s.cell others at
-          → s.cell.at + store_slot ≢ at → at < layouts_start old.seat.space
+          → NotInHead s.cell at → at < layouts_start old.seat.space
           → PutsTwo mid new s.cell.at (header_bits (record s.cell.header { shape = next })) at word
           → IsRow new.seat.space (heap_words new.seat) (next_at old) (next_at old + need) made
           → SetsOne (heap_of old) (heap_of new) s.cell next at word slot others made plain.fields
           (revalued s.field what)
-      sets_one others made own not_store below puts row =
+      sets_one others made own not_head below puts row =
           let whole = s.shows.shows.whole in
           let cap = ap (λ (p : Path). p.cap) shape.is_shape.of_path ∙ sym s.cap in
           let one = writes_two s.cell.at (header_bits (record s.cell.header { shape = next })) at word need made
@@ -74,7 +74,7 @@ module _ {old : Mutator} {graph : Graph} {object slot : ℕ} {plain : PlainObjec
             one = one;
             writes = writes;
             cells = (written_own_keeps_cells plain_owns whole writes).1;
-            not_store = not_store;
+            not_head = not_head;
           } in
           record {
             puts = puts_own;
@@ -109,8 +109,9 @@ module _ {old : Mutator} {graph : Graph} {object slot : ℕ} {plain : PlainObjec
           } in
           record {
             shows = subst (ShowsRefilled new graph plain) (sym same)
-                (written_fields_show old new graph plain s.cell next others made fields s.shows s.is.object s.carries
-                s.cap shown new_fields added takes sets.puts.writes (refills_slots sets fills) remembers);
+                (written_fields_show old new graph plain s.cell next others made fields s.shows s.is.object
+                s.is.reached s.carries s.cap shown new_fields added takes sets.puts.writes (refills_slots sets fills)
+                remembers);
             changes = one_keeps sets.puts row fills.belong fills.kinds sets.shown.has.slot
                 (λ other among is. (fills.stores other among is).1);
           }

@@ -124,8 +124,8 @@ module _ {old : Mutator} {graph : Graph} {object slot : ℕ} {plain : PlainObjec
   path_is_there =
       let path : Path = path_of plain.cap plain.fields in
       let same : old.paths ≡ graph.paths = s.shows.shows.paths in
-      let its = All-slice_get (HasItsPath graph.paths) graph.objects plain.number (Plain plain.cap plain.fields)
-      s.shows.is_graph.shaped s.is.object in
+      let its = All-slice_get (HasItsPath graph.paths) graph.objects plain.number
+      (Plain plain.cap plain.proto plain.fields) s.shows.is_graph.shaped s.is.object in
       let shapes = s.shows.shows.whole.sized.shapes in
       let none = missing-there old.paths path shapes.are (subst (λ paths. Contains paths path) (sym same) its) in
       let few = shapes.few in

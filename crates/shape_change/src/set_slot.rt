@@ -115,18 +115,6 @@ fn changed_shape(main: &mut Main, shape: u32, slot: u32, rep: Rep) -> u32
     next
 }
 
-/// Tells the marking of an object one slot of which is about to become raw; of no other.
-fn blacken_for(main: &mut Main, object: u32, filling: SlotWrite)
-    requires may_store { MayStore main.old }
-    requires within { object < marks_start main.old.seat.space }
-    ensures { main.new ≡ main.old }
-{
-    match filling {
-        SlotWrite::Raw(_) => main.blacken(object),
-        SlotWrite::Tagged(_) | SlotWrite::NewBox { .. } | SlotWrite::OldBox { .. } => {}
-    }
-}
-
 /// Sets the slot of this number of the plain object at an address, whose field comes to have
 /// another representation, and the object another shape.
 ///
@@ -150,8 +138,8 @@ fn set_wider(
     room_for_change(main, header.shape, slot, rep)?;
     let filling = filling_of(main, object, place, setting.content)?;
     let next = changed_shape(main, header.shape, slot, rep);
-    // Marking may not have looked at the slot, and will not where it is raw.
-    blacken_for(main, object, filling);
+    // Marking may not have looked at the slot, and will not where it becomes raw.
+    main.blacken(object);
     fill(main, object, place, filling);
     set_shape(main, object, header, next);
     Ok(())

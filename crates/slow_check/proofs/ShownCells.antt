@@ -29,7 +29,7 @@ plain_shape heap cell words is sound =
     let plain : IsSoundOf kind.Plain heap cell words = subst (λ k. IsSoundOf k heap cell words) is sound in
     plain.shape
 
--- a cell shows a plain object by its path and its slots
+-- a cell shows the cap and the fields of a plain object by its path and its slots
 pub plain_shown_from : (heap : Heap) (cell : Cell) (words : List ℕ) (cap : ℕ) (fields : List Field) (store : ℕ)
     (own beside : Span) → cell.layout.kind ≡ kind.Plain
     → shape_path heap.paths cell.header.shape ≡ path_of cap fields → HasWord words store_slot store

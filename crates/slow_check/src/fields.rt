@@ -1,8 +1,8 @@
-//! Whether the cell of a plain object shows its cap and its fields.
+//! Whether the cell of a plain object shows its cap, its prototype and its fields.
 ghost use Rattle.std.specs.Prelude.{◌≡◌, ◌+◌, ◌≤◌, ◌++◌, ◌↔◌, IsTrue};
 ghost use Rattle.heap_model.specs.Images.{image_heap};
 ghost use Rattle.heap_model.specs.Heaps.{words_of_cell};
-ghost use Rattle.heap_model.specs.Showing.{ShowsPlain};
+ghost use Rattle.heap_model.specs.Showing.{ShowsPlain, ShowsProto};
 ghost use Rattle.heap_model.specs.Wholeness.{HasRows};
 ghost use Rattle.image_walk.specs.Words.{HasWords};
 ghost use Rattle.image_walk.specs.Spans.{StandsIn, EachWord, WordAt, span_words, IsSpan};
@@ -10,25 +10,36 @@ ghost use Rattle.heap_check.specs.SoundCells.{HasSoundCells};
 ghost use Rattle.slow_check.specs.ShownSlots.{ShowsFieldAt};
 
 use crate::paths::is_path_of;
-use crate::values::shows_field;
+use crate::values::{refers_to, shows_field};
 use cell_layout::Cell;
 use heap_model::HeapImage;
 use ideal_graph::Field;
-use image_walk::{Span, behind_head, slots_beside, sort_of, word_at, word_of};
+use image_walk::{Span, behind_head, is_undefined, slots_beside, sort_of, word_at, word_of};
 use tagged_word::Kind;
-use tagged_word::cell::STORE_SLOT;
+use tagged_word::cell::{PLAIN_HEAD, PROTO_SLOT, STORE_SLOT};
 
-/// Whether the cell is that of a plain object with this cap and these fields.
-pub(crate) fn shows_plain(image: &HeapImage, cell: Cell, cap: u32, fields: &[Field]) -> bool
+/// Whether the cell is that of a plain object with this cap, this prototype or none, and these fields.
+pub(crate) fn shows_plain(
+    image: &HeapImage,
+    cell: Cell,
+    cap: u32,
+    proto: Option<u32>,
+    fields: &[Field],
+) -> bool
     requires sized { HasWords (image_heap image.now) }
     requires rows { HasRows (image_heap image.now) }
     requires sound { HasSoundCells (image_heap image.now) }
     requires stands { StandsIn (image_heap image.now) cell }
-    ensures { let heap = image_heap image.now in IsTrue result
-        ↔ ShowsPlain heap cell (words_of_cell heap cell) cap fields.now }
+    ensures { let heap = image_heap image.now in let words = words_of_cell heap cell in IsTrue result
+        ↔ (ShowsPlain heap cell words cap fields.now × ShowsProto heap words proto) }
 {
     match cell.layout.kind {
-        Kind::Plain => shows_plain_cell(image, cell, cap, fields),
+        Kind::Plain => {
+            if !shows_plain_cell(image, cell, cap, fields) {
+                return false;
+            }
+            shows_proto(image, cell, proto)
+        }
         _ => false,
     }
 }
@@ -48,8 +59,30 @@ fn shows_plain_cell(image: &HeapImage, cell: Cell, cap: u32, fields: &[Field]) -
     }
     let store = word_of(image, cell, STORE_SLOT);
     match slots_beside(image, store, sort_of(image, store), Kind::Store) {
-        Some(beside) => show_fields(image, cap, fields, behind_head(image, cell), beside),
+        Some(beside) => show_fields(
+            image,
+            cap,
+            fields,
+            behind_head(image, cell, PLAIN_HEAD),
+            beside,
+        ),
         None => false,
+    }
+}
+
+/// Whether the prototype slot of a plain object's cell shows this prototype, or that there is none.
+fn shows_proto(image: &HeapImage, cell: Cell, proto: Option<u32>) -> bool
+    requires sized { HasWords (image_heap image.now) }
+    requires rows { HasRows (image_heap image.now) }
+    requires stands { StandsIn (image_heap image.now) cell }
+    requires plain { cell.layout.kind ≡ Kind.Plain }
+    ensures { let heap = image_heap image.now in IsTrue result
+        ↔ ShowsProto heap (words_of_cell heap cell) proto }
+{
+    let word = word_of(image, cell, PROTO_SLOT);
+    match proto {
+        Some(number) => refers_to(image, word, number),
+        None => is_undefined(word),
     }
 }
 

@@ -38,5 +38,6 @@ pub use fitting::fits;
 pub use free::are_free_runs;
 pub use moved::is_moved;
 pub use moves::Move;
+pub use objects::show_reached;
 pub use remembered::are_remembered;
 pub use shown::shows;

@@ -3,7 +3,7 @@ ghost use Rattle.std.specs.Prelude.{◌↔◌, IsTrue};
 ghost use Rattle.heap_model.specs.Images.{image_heap};
 ghost use Rattle.heap_model.specs.Heaps.{words_of_cell};
 ghost use Rattle.heap_model.specs.Showing.{ShowsObject, ShowsReached};
-ghost use Rattle.heap_model.specs.Wholeness.{HasRows};
+ghost use Rattle.heap_model.specs.Wholeness.{HasRows, Whole};
 ghost use Rattle.image_walk.specs.Words.{HasWords};
 ghost use Rattle.image_walk.specs.Spans.{StandsIn};
 ghost use Rattle.heap_check.specs.SoundCells.{HasSoundCells};
@@ -17,12 +17,10 @@ use cell_layout::Cell;
 use heap_model::HeapImage;
 use ideal_graph::Object;
 
-/// Whether each of the objects that is marked has one place and no second, and the cell there shows
-/// it.
-pub(crate) fn show_reached(image: &HeapImage, marks: &[bool], objects: &[Object]) -> bool
-    requires sized { HasWords (image_heap image.now) }
-    requires rows { HasRows (image_heap image.now) }
-    requires sound { HasSoundCells (image_heap image.now) }
+/// Whether each of the objects that is marked has one place in a whole heap and no second, and the
+/// cell there shows it.
+pub fn show_reached(image: &HeapImage, marks: &[bool], objects: &[Object]) -> bool
+    requires whole { Whole (image_heap image.now) }
     ensures { IsTrue result ↔ ShowReached (image_heap image.now) marks.now objects.now }
 {
     for (number, object) in objects.iter().enumerate() {
@@ -69,7 +67,9 @@ fn shows_object(image: &HeapImage, marks: &[bool], cell: Cell, object: &Object) 
         ↔ ShowsObject heap marks.now cell (words_of_cell heap cell) object.now }
 {
     match object {
-        Object::Plain { cap, fields } => shows_plain(image, cell, *cap, fields.as_slice()),
+        Object::Plain { cap, proto, fields } => {
+            shows_plain(image, cell, *cap, *proto, fields.as_slice())
+        }
         Object::List { elements } => shows_list(image, cell, elements.as_slice()),
         Object::Weak { entries } => shows_weak(image, marks, cell, entries.as_slice()),
     }

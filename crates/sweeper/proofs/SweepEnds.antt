@@ -88,6 +88,7 @@ module _ {first new : Mutator} {marked : List ℕ} (begun : IsBegun first)
         cell_words_were all at (subst (λ (heap : Heap). IsCellWord heap at) (sym heap_is) is);
     seat = sweeping.seat;
     paths = sweeping.paths;
+    cycle = sweeping.cycle;
     young = sweeping.young;
     outside = words_stay;
     rows = sweeping.runs.count;

@@ -34,6 +34,7 @@ sweep_begins first now marked rows cleared =
     record {
       seat = subst Rests (sym seat) (rest_stays_itself first.seat);
       paths = ap (λ (main : Mutator). main.paths) same;
+      cycle = ap (λ (main : Mutator). main.cycle) same;
       young = ap (λ (main : Mutator). main.young) same;
       gaps = [];
       swept = subst Swept (sym seat) (nothing_swept (heap_of first) marked);
@@ -75,6 +76,7 @@ module _ {first old new : Mutator} {marked : List ℕ} {from to : ℕ} (sweeping
       record {
         seat = rest_stays_again first.seat old.seat new.seat sweeping.seat covers.seat;
         paths = covers.paths ∙ sweeping.paths;
+        cycle = covers.cycle ∙ sweeping.cycle;
         young = covers.young ∙ sweeping.young;
         gaps = now_gaps;
         swept = subst Swept (sym covers.words) (part_is_swept sweeping.swept part);
@@ -89,6 +91,7 @@ abbrev pub sweep_further : {first now : Mutator} {marked : List ℕ} {to : ℕ} 
 sweep_further later sweeping swept = record {
   seat = sweeping.seat;
   paths = sweeping.paths;
+  cycle = sweeping.cycle;
   young = sweeping.young;
   gaps = sweeping.gaps;
   swept = swept;

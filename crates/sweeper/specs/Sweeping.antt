@@ -49,6 +49,7 @@ pub record IsRoomy (main : Mutator) (from to : ℕ) : Type 0 where
 pub record Covers (old new : Mutator) (from to : ℕ) : Type 0 where
   pub seat : RestStays old.seat new.seat
   pub paths : new.paths ≡ old.paths
+  pub cycle : new.cycle ≡ old.cycle
   pub young : new.young ≡ old.young
   pub words : heap_words new.seat ≡ with_free_cell (heap_words old.seat) from (to - from)
   pub bound : new.recorded.bound ≡ old.recorded.bound
@@ -110,6 +111,7 @@ pub record AreForgotten (gaps : List Patch) (old new : Recorded) : Type 0 where
 pub record Sweeping (first now : Mutator) (marked : List ℕ) (to : ℕ) : Type 0 where
   pub seat : RestStays first.seat now.seat
   pub paths : now.paths ≡ first.paths
+  pub cycle : now.cycle ≡ first.cycle
   pub young : now.young ≡ first.young
   pub gaps : List Patch
   pub swept : IsSweptTo (heap_of first) (heap_words now.seat) marked gaps to

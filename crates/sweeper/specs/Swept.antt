@@ -51,12 +51,13 @@ pub record IsCellWord (heap : Heap) (at : ℕ) : Type 0 where
 -- number, and has words of cells alone. No word of a marked cell has changed, no root word and no layout word. Each
 -- page has a row of free runs. They are single cells, and neither overlap nor touch; together they have the words of
 -- pages that no marked cell has. Recorded are again the slots of pages that refer to young cells, if they were, and a
--- half that was empty is.
+-- half that was empty is. What is known of a cycle of marking stays.
 pub record Sweeps (old new : Mutator) (marked : List ℕ) : Type 0 where
   pub moved : IsMoved (heap_of old) (heap_of new) (place_if_marked marked)
   pub cells : (at : ℕ) → IsCellWord (heap_of new) at → IsCellWord (heap_of old) at
   pub seat : RestStays old.seat new.seat
   pub paths : new.paths ≡ old.paths
+  pub cycle : new.cycle ≡ old.cycle
   pub young : new.young ≡ old.young
   pub outside : (at : ℕ) → (roots_start old.seat.space ≤ at) ⊎ IsOfMarked (heap_of old) marked at
       → slice_get (heap_words new.seat) at ≡ slice_get (heap_words old.seat) at

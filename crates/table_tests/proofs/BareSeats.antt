@@ -17,6 +17,7 @@ use Rattle.heap_table.proofs.Agreeing.{zeros_agree}
 use Rattle.heap_table.proofs.SeatSteps.{overview_is}
 use Rattle.table_tests.specs.OneCell.{IsBare}
 use Rattle.table_tests.specs.BareSeats.{IsBareSeat, HasNoLayout}
+use Rattle.table_tests.specs.OpenMains.{page_and_eden}
 
 -- pages are whole
 whole_pages : (space : Space) → eden_start space % page_words ≡ 0
@@ -57,12 +58,8 @@ opened_layouts space seat fresh =
     ∙ slice_get-get_or (replicate shapes_most 0) 17 0 (omega (arith, length-replicate {A = ℕ} shapes_most 0))
     ∙ ap Some (get_or-replicate shapes_most 17 0 0 (omega arith))
 
--- the regions of one page
-abbrev pub one_page_space : Space
-one_page_space = record { sizes = record { pages = 1; young = 64; helpers = 0 }; variables = 1 }
-
--- they are within the limits
-pub one_page : AreWithin one_page_space.sizes one_page_space.variables
+-- the regions of one page are within the limits
+pub one_page : AreWithin page_and_eden.sizes page_and_eden.variables
 one_page = record {
   some_page = omega arith;
   pages = omega arith;
@@ -73,7 +70,7 @@ one_page = record {
 }
 
 -- a seat that was opened with them has all words of the page
-pub opened_page : (space : Space) (seat : Seat) → space ≡ one_page_space → IsFresh space true seat
+pub opened_page : (space : Space) (seat : Seat) → space ≡ page_and_eden → IsFresh space true seat
     → eden_start seat.space ≡ 2048
 opened_page space seat is fresh =
     ap (λ (one : Seat). eden_start one.space) fresh.1 ∙ ap (λ (one : Space). eden_start one) is

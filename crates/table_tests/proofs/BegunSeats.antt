@@ -6,18 +6,18 @@ use Rattle.tagged_word.specs.declared.reading.Reading.{Reading}
 use Rattle.tagged_word.proofs.Members.{in_cases, one_in}
 use Rattle.page_space.specs.Extents.{Space, eden_start}
 use Rattle.cell_layout.specs.Cells.{layouts_in}
-use Rattle.cell_list.specs.Listing.{Listing}
 use Rattle.mark_laws.specs.Types.{MainView}
 use Rattle.mark_laws.proofs.Stores.{free_is}
 use Rattle.mark_world.specs.Cycles.{Cycle}
 use Rattle.mark_world.specs.Pages.{EachFree, cell_at, is_head_of}
 use Rattle.heap_table.specs.Seats.{Seat}
 use Rattle.mark_barrier.specs.Paid.{IsPaid, StepsTo}
+use Rattle.mark_barrier.specs.Waiting.{Waiting}
 use Rattle.table_tests.specs.BegunSeats.{IsMarking}
 use Rattle.table_tests.specs.CellPages.{three_starts}
 
 -- the cycle still is the one of the three cells
-pub marking_on : (seat new : Seat) (grey now : Listing) (words : List ℕ) (cycle : Cycle) → IsMarking seat grey
+pub marking_on : (seat new : Seat) (grey now : Waiting) (words : List ℕ) (cycle : Cycle) → IsMarking seat grey
     → StepsTo seat new words cycle → cycle.starts ≡ three_starts → cycle.born ≡ three_starts
     → layouts_in seat.space words ≡ layouts_in seat.space seat.table → IsPaid new now → IsMarking new now
 marking_on seat new grey now words cycle marking steps starts born same paid = record {
@@ -44,11 +44,11 @@ pub no_heads : (old : ℕ) (words layouts : List ℕ) (main : MainView) (at : �
     → EachFree main (λ start. is_head_of start (cell_at old words layouts start) at ≡ false)
 no_heads old words layouts main at starts mine before start free =
     let is = free_is main start free in
-    elim (in_cases 0 (1024 ∷ 1026 ∷ []) start (subst (λ (xs : List ℕ). Contains xs start) starts is.0)) [
+    elim (in_cases 0 (1024 ∷ 1027 ∷ []) start (subst (λ (xs : List ℕ). Contains xs start) starts is.0)) [
       | inl first ↦ absurd (is.1 (subst (Contains main.mine) first mine))
-      | inr later ↦ elim (in_cases 1024 (1026 ∷ []) start later) [
+      | inr later ↦ elim (in_cases 1024 (1027 ∷ []) start later) [
         | inl second ↦ head_behind start at (cell_at old words layouts start) (omega (arith, second, before))
         | inr last ↦ head_behind start at (cell_at old words layouts start)
-            (let third = one_in 1026 start last in omega (arith, third, before))
+            (let third = one_in 1027 start last in omega (arith, third, before))
       ]
     ]

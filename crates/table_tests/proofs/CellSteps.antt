@@ -160,7 +160,7 @@ head_there words at is = elim (cases_lt at (length words)) [
       absurd cc
 ]
 
--- the header of a cell with two tagged slots is one of the two
+-- the header of a cell with a tagged field is one of the two
 wide_heads : (words : List ℕ) (count trimmed at : ℕ) → 4 * at < length words
     → ((cell : ℕ) → trimmed ≤ cell → cell < count → IsTrue (is_plain_head (slice_index words (4 * cell))))
     → (cell : ℕ) → trimmed ≤ cell → cell < count
@@ -186,7 +186,7 @@ widened_whole main count trimmed at later within w = record {
   heads = wide_heads main.words count trimmed at (head_there main.words (4 * at) (w.heads at later within)) w.heads;
 }
 
--- a box is made in a cell that was trimmed
+-- a filler is made in a cell that was trimmed
 module _ (main : Overview) (count trimmed at : ℕ) (inside : at < 4 * trimmed) (slot : 2 ≤ at % 4)
     (w : IsWholeGrid main count trimmed) where
   -- what the main seat knows after the new cell was made black

@@ -96,8 +96,8 @@ module _ (main : Overview) (cycle : Cycle) (pages : PageLists) (count : ℕ) (cu
       born = λ cell within. found_in cycle.born (4 * cell) (is.born cell within);
     };
     few = omega arith;
-    one_raw = layout_at 8 8737 (omega arith) cut.one_raw;
-    none_raw = layout_at 9 545 (omega arith) cut.none_raw;
+    one_raw = layout_at 8 4369 (omega arith) cut.one_raw;
+    none_raw = layout_at 9 273 (omega arith) cut.none_raw;
     aligned = λ start free. (is.aligned start (free_is begun.view start free).0, omega arith);
     free = λ cell later within.
         free_made begun.view (4 * cell) (is.published cell within) (none_in cycle.mine (4 * cell) is.mine);

@@ -2,6 +2,7 @@
 use Rattle.std.proofs.Common.{◌≡◌, ◌<◌, ◌≤◌, ◌⊎◌, inl, inr, ◌+◌, ◌==◌, ◌&&◌, ◌||◌, ℕ, Bool, true, false, Option}
 use Rattle.std.proofs.Common.{Some, None}
 use Rattle.std.proofs.Common.{IfSome, refl, arith, nat_lt}
+use Rattle.std.proofs.lemmas.Bool.{cases_lt}
 use Rattle.std.proofs.lemmas.Bool.Decides.{nat_tests}
 use Rattle.tagged_word.specs.declared.reading.Reading.{Reading}
 use Rattle.tagged_word.specs.Cells.{has_length}
@@ -46,3 +47,15 @@ if_given false to P holds = tt
 -- what holds of the address that a word refers to holds of its target
 pub of_reference : (old word to : ℕ) (P : ℕ → Type 0) → reference_in word ≡ Some to → P to → OfTarget old word P
 of_reference old word to P refers holds = rw refers (if_given (nat_lt to old) to P holds)
+
+-- the same of an address that may be below a bound or not
+if_below : (old to : ℕ) (P : ℕ → Type 0) → (to < old → P to) → IfSome (given (nat_lt to old) to) P
+if_below old to P holds = elim (cases_lt to old) [
+  | inl below ↦ if_given (nat_lt to old) to P (holds below)
+  | inr past ↦ let test : nat_lt to old ≡ false = grind (arith, nat_tests) in rw test tt
+]
+
+-- what holds of the address that a word refers to, if that is old, holds of its target
+pub of_old_reference : (old word to : ℕ) (P : ℕ → Type 0) → reference_in word ≡ Some to → (to < old → P to)
+    → OfTarget old word P
+of_old_reference old word to P refers holds = rw refers (if_below old to P holds)

@@ -9,6 +9,7 @@ mod Hands
 mod Heads
 mod Marked
 mod OneCell
+mod OpenMains
 mod Paired
 pub mod BegunSeats
 pub mod PutSeats

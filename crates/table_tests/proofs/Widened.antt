@@ -1,4 +1,4 @@
--- A plain cell of two slots, of which the second may be raw, gets two tagged ones.
+-- A plain cell of one field, which may be raw, gets a tagged one.
 use Rattle.std.proofs.Common.{◌≡◌, ◌+◌, ◌⊎◌, ◌==◌, inl, inr, ℕ, List, [], ◌∷◌, Contains}
 use Rattle.std.proofs.Common.{IsTrue, Option, Some, slice_get, slice_index, refl, ap, arith, eqb-true}
 use Rattle.std.specs.Option.{option_and_then}
@@ -19,31 +19,31 @@ use Rattle.table_tests.specs.Grids.{is_plain_head}
 abbrev header_of : ℕ → Header
 header_of shape = record { shape = shape; object = 0 }
 
--- the layout of two slots, with a mask of those that are raw
-abbrev two_slots : ℕ → LayoutWord
-two_slots raw = record { kind = kind.Plain; cap = 2; used = 2; raw = raw }
+-- the layout of one field, with a mask that says whether it is raw
+abbrev one_field : ℕ → LayoutWord
+one_field raw = record { kind = kind.Plain; cap = 1; used = 1; raw = raw }
 
 -- what the two headers are laid by
 abbrev one_raw : Laid
-one_raw = record { header = header_of 8; layout = two_slots 2 }
+one_raw = record { header = header_of 8; layout = one_field 1 }
 
--- by the second header both slots are tagged
+-- by the second header the field is tagged
 abbrev none_raw : Laid
-none_raw = record { header = header_of 9; layout = two_slots 0 }
+none_raw = record { header = header_of 9; layout = one_field 0 }
 
 -- the first header is laid so
-laid_one : (layouts : List ℕ) → slice_get layouts 8 ≡ Some 8737 → laid_in layouts 34 ≡ Some one_raw
+laid_one : (layouts : List ℕ) → slice_get layouts 8 ≡ Some 4369 → laid_in layouts 34 ≡ Some one_raw
 laid_one layouts at = ap (λ (o : Option ℕ). laid_by (header_of 8) (option_and_then layout_in o)) at
 
 -- and so is the second
-laid_none : (layouts : List ℕ) → slice_get layouts 9 ≡ Some 545 → laid_in layouts 38 ≡ Some none_raw
+laid_none : (layouts : List ℕ) → slice_get layouts 9 ≡ Some 273 → laid_in layouts 38 ≡ Some none_raw
 laid_none layouts at = ap (λ (o : Option ℕ). laid_by (header_of 9) (option_and_then layout_in o)) at
 
--- the offsets of the tagged slots: of a cell with one, and of a cell with two
+-- the offsets of the tagged slots where the field is raw
 abbrev two : List ℕ
 two = 1 ∷ 2 ∷ []
 
--- the offsets of the three slots
+-- and where it is tagged
 abbrev three : List ℕ
 three = 1 ∷ 2 ∷ 3 ∷ []
 
@@ -89,7 +89,7 @@ change_none = record {
       (All-cons (Contains three) 3 [] three_in (All-nil (Contains three))));
 }
 
-module _ (layouts : List ℕ) (first : slice_get layouts 8 ≡ Some 8737) (second : slice_get layouts 9 ≡ Some 545) where
+module _ (layouts : List ℕ) (first : slice_get layouts 8 ≡ Some 4369) (second : slice_get layouts 9 ≡ Some 273) where
   -- the change from either header to the second is safe
   pub is_safe : (word : ℕ) → IsTrue (is_plain_head word) → IsSafe layouts word 38
   is_safe word is = elim (either_head word is) [

@@ -16,7 +16,7 @@ these_cells starts = record { starts = starts; born = starts; mine = []; sure = 
 
 -- where the three cells of a page begin
 abbrev pub three_starts : List ℕ
-three_starts = 0 ∷ 1024 ∷ 1026 ∷ []
+three_starts = 0 ∷ 1024 ∷ 1027 ∷ []
 
 -- it is the cycle of these three
 abbrev pub IsOfThree : Own → ℕ → Overview → Cycle → Type 0

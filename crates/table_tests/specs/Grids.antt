@@ -30,7 +30,7 @@ IsCutSo own made main cycle = IsCut made cycle
 abbrev pub are_cut : List ℕ → ℕ → Bool
 are_cut starts count = list_all (λ cell. slice_index starts cell == 4 * cell) (range_with_len 0 count)
 
--- whether a word is the header of a plain cell of two slots: one whose second is raw, or one with two tagged slots
+-- whether a word is the header of a plain cell of one field: one whose field is raw, or one whose field is tagged
 abbrev pub is_plain_head : ℕ → Bool
 is_plain_head word = word == 34 || word == 38
 
@@ -51,8 +51,8 @@ pub record AreCutPages (pages : PageLists) (old count : ℕ) : Type 0 where
   pub words : length pages.words ≡ old
   pub layouts : length pages.layouts ≡ shapes_most
   pub room : 4 * count ≤ old
-  pub one_raw : slice_index pages.layouts 8 ≡ 8737
-  pub none_raw : slice_index pages.layouts 9 ≡ 545
+  pub one_raw : slice_index pages.layouts 8 ≡ 4369
+  pub none_raw : slice_index pages.layouts 9 ≡ 273
   pub starts : length pages.starts ≡ count
   pub cut : are_cut pages.starts count ≡ true
   pub heads : have_plain_heads pages.words count ≡ true
@@ -69,8 +69,8 @@ pub record IsOpenGrid (main : Overview) (count : ℕ) : Type 0 where
 pub record IsWholeGrid (main : Overview) (count trimmed : ℕ) : Type 0 where
   pub grid : IsOpenGrid main count
   pub few : trimmed ≤ count
-  pub one_raw : slice_get main.layouts 8 ≡ Some 8737
-  pub none_raw : slice_get main.layouts 9 ≡ Some 545
+  pub one_raw : slice_get main.layouts 8 ≡ Some 4369
+  pub none_raw : slice_get main.layouts 9 ≡ Some 273
   pub aligned : EachFree main.view (λ start. (start % 4 ≡ 0) × (4 * trimmed ≤ start))
   pub free : (cell : ℕ) → trimmed ≤ cell → cell < count → IsTrue (is_free main.view (4 * cell))
   pub heads : (cell : ℕ) → trimmed ≤ cell → cell < count → IsTrue (is_plain_head (slice_index main.words (4 * cell)))

@@ -6,3 +6,4 @@ pub mod TwoCells
 pub mod BegunSeats
 pub mod EdenList
 pub mod Grids
+pub mod OpenMains

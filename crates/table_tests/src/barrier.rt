@@ -6,12 +6,13 @@ ghost use Rattle.cell_layout.specs.Cells.{layouts_in};
 ghost use Rattle.mark_world.specs.Pages.{OfTarget};
 ghost use Rattle.mark_world.specs.Safety.{FitsTaggedSlot};
 ghost use Rattle.heap_table.specs.Overviews.{overview};
+ghost use Rattle.mark_barrier.specs.Waiting.{empty_to};
 ghost use Rattle.table_tests.specs.BareSeats.{IsBareSeat};
 ghost use Rattle.table_tests.specs.BegunSeats.{HasFirstBlack, IsMarking};
 ghost use Rattle.table_tests.specs.CellPages.{three_starts};
 
 use crate::cells::{Three, are_cells, word_at};
-use crate::kinds::{LAYOUTS, TO_FIRST, TO_SECOND, TO_YOUNG, long_store, padded, put};
+use crate::kinds::{LAYOUTS, NO_PROTO, TO_FIRST, TO_SECOND, TO_YOUNG, long_store, padded, put};
 use crate::seats::bare;
 use heap_table::{Colour, MainSeat};
 use mark_barrier::GreyCells;
@@ -72,7 +73,7 @@ fn begin(
     requires page { eden_start seat.old.space ≡ 2048 }
     requires count { length layouts.now ≡ shapes_most }
     requires three { starts.now ≡ three_starts }
-    requires empty { grey.old ≡ record { bound = 2048; addresses = [] } }
+    requires empty { grey.old ≡ empty_to 2048 }
     ensures { result ≡ true → IsMarking seat.new grey.new }
 {
     fill_page(seat, words);
@@ -115,8 +116,8 @@ fn store_both(seat: &mut MainSeat, grey: &mut GreyCells)
     requires { HasFirstBlack seat.old grey.old }
     ensures { HasFirstBlack seat.new grey.new }
 {
-    store_in_first(seat, grey, 2, TO_SECOND);
-    store_in_first(seat, grey, 3, TO_YOUNG);
+    store_in_first(seat, grey, 3, TO_SECOND);
+    store_in_first(seat, grey, 4, TO_YOUNG);
 }
 
 /// Stores the two references, if it is to.
@@ -143,18 +144,19 @@ fn colours(seat: &mut MainSeat, grey: &GreyCells) -> [Colour; 3]
     ensures same { seat.new ≡ seat.old }
 {
     seat.colours_fit();
-    [seat.colour(0), seat.colour(1_024), seat.colour(1_026)]
+    [seat.colour(0), seat.colour(1_024), seat.colour(1_027)]
 }
 
 /// The words of a page with a cell at its start, an object with no field at 1,024, whose store slot refers to the third
-/// cell, and that at 1,026, a weak map's table with a pair that refers to the second one.
+/// cell, and that at 1,027, a weak map's table with a pair that refers to the second one.
 fn page(alloc: Global, cell: &[u64]) -> Result<Vec<u64>, NoMemory> {
     let mut words = padded(alloc, cell, 2_048)?;
     put(&mut words, 1_024, 42);
     put(&mut words, 1_025, TO_SECOND);
-    put(&mut words, 1_026, 18);
-    put(&mut words, 1_027, 1);
-    put(&mut words, 1_028, TO_FIRST);
+    put(&mut words, 1_026, NO_PROTO);
+    put(&mut words, 1_027, 18);
+    put(&mut words, 1_028, 1);
+    put(&mut words, 1_029, TO_FIRST);
     Ok(words)
 }
 
@@ -181,7 +183,7 @@ fn cases<'a>(long: &'a [u64]) -> [Case<'a>; 3] {
     [
         Case {
             name: "two slots",
-            cell: &[38, 0, TO_FIRST, TO_YOUNG],
+            cell: &[38, 0, NO_PROTO, TO_FIRST, TO_YOUNG],
             stores: false,
             blackened: [Colour::Black, Colour::Grey, Colour::White],
             scanned: [Colour::Black; 3],
@@ -195,7 +197,7 @@ fn cases<'a>(long: &'a [u64]) -> [Case<'a>; 3] {
         },
         Case {
             name: "two slots with integers, and a stored reference",
-            cell: &[38, 0, 10, 10],
+            cell: &[38, 0, NO_PROTO, 10, 10],
             stores: true,
             blackened: [Colour::Black, Colour::White, Colour::Grey],
             scanned: [Colour::Black, Colour::White, Colour::Black],
@@ -218,7 +220,7 @@ fn what_a_black_cell_refers_to_is_shaded_and_visited(rt: HostRuntime) -> Result<
             &mut grey,
             words.as_slice(),
             layouts.as_slice(),
-            &[0, 1_024, 1_026],
+            &[0, 1_024, 1_027],
         );
         assert!(rt; begins, "{}", case.name);
         assert!(rt;

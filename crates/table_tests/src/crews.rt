@@ -28,8 +28,8 @@ const COUNTS: Counts = Counts {
 };
 
 /// The layout words of the shapes from 0 on: of no cell, a list, a weak map, a store, a table, a box, and free words;
-/// then of three plain objects: one with a tagged slot and a raw one, one with two tagged slots, and one with none.
-const LAYOUTS: [u64; 11] = [0, 2, 3, 4, 5, 6, 7, 8, 8_737, 545, 1];
+/// then of two plain objects with one field, a raw one and a tagged one.
+const LAYOUTS: [u64; 10] = [0, 2, 3, 4, 5, 6, 7, 8, 4_369, 273];
 
 /// The word of a node's slot: a reference to its child of this number, if it has one. In a tree each node has two. The
 /// nodes of a chain have the next one and a leaf.

@@ -5,7 +5,7 @@ ghost use Rattle.table_tests.specs.CellPages.{IsOpenWithThree};
 ghost use Rattle.table_tests.specs.Steps.{IsIdle};
 
 use crate::cycles::own_words;
-use crate::kinds::{LAYOUTS, TO_FIRST, TO_SECOND, opened, padded, page};
+use crate::kinds::{LAYOUTS, NO_PROTO, TO_FIRST, TO_SECOND, opened, padded, page};
 use crate::steps::take_cell;
 use crew::{Gate, Point};
 use shared_table::{Colour, HelperSeat, MainSide, SharedTable};
@@ -22,7 +22,7 @@ enum Change {
     Nothing,
     /// It makes the cell black, and stores two words, each with its address.
     Own([(u32, u64); 2]),
-    /// It stores a reference to the second box in the slot at 2, and shades the box.
+    /// It stores a reference to the second box in the slot at 3, and shades the box.
     Refer,
 }
 
@@ -49,14 +49,14 @@ fn own_cell(side: &mut MainSide, words: [(u32, u64); 2])
     store_own(side, words[1].0, words[1].1);
 }
 
-/// Stores a reference to the second box in the slot at 2, and shades the box.
+/// Stores a reference to the second box in the slot at 3, and shades the box.
 fn refer(side: &mut MainSide)
     requires { IsOpenWithThree side.old.main }
     ensures { IsOpenWithThree side.new.main }
 {
     let _counts = side.counts();
-    side.store_slot(2, TO_SECOND);
-    side.shade(1_026);
+    side.store_slot(3, TO_SECOND);
+    side.shade(1_027);
 }
 
 /// Makes the steps of a change.
@@ -102,14 +102,14 @@ impl Gate for Between {
     }
 }
 
-/// What a visit came to: the header that it read, how many slots, and the word of the second; or the colour that it
+/// What a visit came to: the header that it read, how many slots, and the word of the third; or the colour that it
 /// found.
 #[derive(Clone, Copy, Debug, PartialEq, Eq)]
 enum Found {
     Kept {
         header: u64,
         count: usize,
-        second: u64,
+        third: u64,
     },
     Dropped(Colour),
 }
@@ -122,14 +122,14 @@ fn visit(seat: &mut HelperSeat, table: &SharedTable, helper: &mut Helper, gate: 
 {
     match helper.visit(seat, table, 0, gate) {
         Visit::Kept(snapshot) => {
-            let second = match snapshot.slots.get(1) {
+            let third = match snapshot.slots.get(2) {
                 Some(slot) => slot.word,
                 None => 0,
             };
             Found::Kept {
                 header: snapshot.header,
                 count: snapshot.slots.len(),
-                second,
+                third,
             }
         }
         Visit::Dropped { found } => Found::Dropped(found),
@@ -163,7 +163,7 @@ fn run(
     };
     let found = visit(&mut seat, &table, &mut helper, &gate);
     let mut side = gate.mutator.into_inner().side;
-    let colours = [side.colour(0), side.colour(1_024), side.colour(1_026)];
+    let colours = [side.colour(0), side.colour(1_024), side.colour(1_027)];
     Ok(Some((found, colours)))
 }
 
@@ -200,7 +200,7 @@ impl Case {
 
 /// The cases.
 fn cases() -> [Case; 8] {
-    let other_header = Change::Own([(2, 10), (0, 34)]);
+    let other_header = Change::Own([(3, 10), (0, 34)]);
     let no_length = (1, u64::MAX);
     [
         Case::passed("no change", Change::Nothing, true),
@@ -218,8 +218,8 @@ fn cases() -> [Case; 8] {
 fn expected(case: &Case) -> (Found, [Colour; 3]) {
     let kept = Found::Kept {
         header: 38,
-        count: 3,
-        second: TO_FIRST,
+        count: 4,
+        third: TO_FIRST,
     };
     let found = if case.is_kept {
         kept
@@ -238,8 +238,8 @@ fn a_visit_is_dropped_where_the_mutator_made_the_cell_black(rt: HostRuntime) -> 
     let alloc = rt.alloc();
     let own = own_words(alloc)?;
     let layouts = padded(alloc, &LAYOUTS, 8_200)?;
-    // A plain cell with two slots besides that of its property store.
-    let words = page(alloc, &[38, 0, TO_FIRST, TO_SECOND])?;
+    // A plain cell with two slots besides those of its property store and its prototype.
+    let words = page(alloc, &[38, 0, NO_PROTO, TO_FIRST, TO_SECOND])?;
     for case in cases() {
         let wanted = expected(&case);
         let side = opened(alloc, &own, words.as_slice(), layouts.as_slice())?;

@@ -12,17 +12,17 @@ use crate::cells::{are_cells, fill_layouts, fill_words, word_at};
 use shared_table::{Choice, Colour, Counts, MainSide, OwnWords};
 use tagged_word::Word;
 
-/// The header of a plain cell with a tagged slot at 2 and a raw one at 3.
+/// The header of a plain cell whose one field, at 3, is raw.
 pub(crate) const ONE_RAW: u64 = 34;
 
-/// The header of a plain cell with two tagged slots.
+/// The header of a plain cell whose one field is tagged.
 pub(crate) const NONE_RAW: u64 = 38;
 
-/// The header of a plain cell with no slot but that of its property store.
-pub(crate) const NO_SLOTS: u64 = 42;
+/// The header of a list.
+pub(crate) const LIST: u64 = 6;
 
-/// The header of a box.
-pub(crate) const BOXED: u64 = 22;
+/// The header of a filler.
+pub(crate) const FILLER: u64 = 26;
 
 /// The cycle that begins with the cells.
 struct CellsOfFour;
@@ -48,7 +48,7 @@ fn are_cut(starts: &[u64], count: u32) -> bool
     (0..count).all(|cell| word_at(starts, cell as u64) == 4 * cell as u64)
 }
 
-/// Whether a word is the header of a plain cell of two slots.
+/// Whether a word is the header of a plain cell of one field.
 fn is_plain_head(word: u64) -> bool
     ensures { result ≡ is_plain_head word }
 {
@@ -83,13 +83,13 @@ fn have_lengths(counts: Counts, pages: Pages<'_>, count: u32) -> bool
 
 /// Whether the layout words of the two headers are in place.
 fn have_layouts(layouts: &[u64]) -> bool
-    ensures one_raw { result ≡ true → slice_index layouts.now 8 ≡ 8737 }
-    ensures none_raw { result ≡ true → slice_index layouts.now 9 ≡ 545 }
+    ensures one_raw { result ≡ true → slice_index layouts.now 8 ≡ 4369 }
+    ensures none_raw { result ≡ true → slice_index layouts.now 9 ≡ 273 }
 {
-    if word_at(layouts, 8) != 8_737 {
+    if word_at(layouts, 8) != 4_369 {
         return false;
     }
-    word_at(layouts, 9) == 545
+    word_at(layouts, 9) == 273
 }
 
 /// Whether pages of these sizes are cut into so many cells.
@@ -174,7 +174,7 @@ pub(crate) fn store(side: &mut MainSide, count: u32, trimmed: u32, at: u32, to: 
     shade(side, count, to)
 }
 
-/// Stores a reference to a cell in the slot at 3 of one that was not trimmed, shades it, and makes the slot tagged.
+/// Stores a reference to a cell in the field of one that was not trimmed, shades it, and makes the field tagged.
 /// Returns whether the cell was white.
 pub(crate) fn widen(side: &mut MainSide, count: u32, trimmed: u32, cell: u32, to: u32) -> bool
     requires whole { IsWholeGrid side.old.main count trimmed }
@@ -201,7 +201,7 @@ fn store_own(side: &mut MainSide, count: u32, trimmed: u32, at: u32, word: u64)
     side.store_owned(at, word);
 }
 
-/// Makes the two slots of a cell that was made black last a box with a word.
+/// Makes the cell that was made black last a list, with a word as its length, and a filler after it.
 pub(crate) fn trim(side: &mut MainSide, count: u32, cell: u32, word: u64)
     requires whole { IsWholeGrid side.old.main count (cell + 1) }
     ensures whole { IsWholeGrid side.new.main count (cell + 1) }
@@ -209,8 +209,8 @@ pub(crate) fn trim(side: &mut MainSide, count: u32, cell: u32, word: u64)
 {
     let _counts = side.counts();
     let at = 4 * cell;
-    side.new_black(at + 2);
-    store_own(side, count, cell + 1, at + 3, word);
-    store_own(side, count, cell + 1, at + 2, BOXED);
-    store_own(side, count, cell + 1, at, NO_SLOTS);
+    side.new_black(at + 3);
+    store_own(side, count, cell + 1, at + 2, word);
+    store_own(side, count, cell + 1, at + 3, FILLER);
+    store_own(side, count, cell + 1, at, LIST);
 }

@@ -17,8 +17,11 @@ use tagged_word::NoMemory;
 /// Refers to the box at 1,024.
 pub(crate) const TO_FIRST: u64 = 4_097;
 
-/// Refers to the box at 1,026.
-pub(crate) const TO_SECOND: u64 = 4_105;
+/// Refers to the box at 1,027.
+pub(crate) const TO_SECOND: u64 = 4_109;
+
+/// The word of the prototype slot of an object that has no prototype: `undefined`.
+pub(crate) const NO_PROTO: u64 = 3;
 
 /// Refers to a young cell.
 pub(crate) const TO_YOUNG: u64 = 8_401;
@@ -56,7 +59,7 @@ pub(crate) fn long_store(alloc: Global) -> Result<Vec<u64>, NoMemory> {
 pub(crate) fn page(alloc: Global, cell: &[u64]) -> Result<Vec<u64>, NoMemory> {
     let mut words = padded(alloc, cell, 2_048)?;
     put(&mut words, 1_024, 22);
-    put(&mut words, 1_026, 22);
+    put(&mut words, 1_027, 22);
     Ok(words)
 }
 
@@ -89,7 +92,7 @@ pub(crate) fn opened(
         old: 2_048,
         shapes: 8_200,
     };
-    let starts: [u64; 3] = [0, 1_024, 1_026];
+    let starts: [u64; 3] = [0, 1_024, 1_027];
     let mut side = bare(alloc, counts)?;
     if side.counts().old != 2_048 {
         return Ok(None);
@@ -174,7 +177,7 @@ fn visit_first(alloc: Global, side: MainSide) -> Result<Visited, NoMemory>
     let colours = [
         colour_at(&mut side, 0),
         colour_at(&mut side, 1_024),
-        colour_at(&mut side, 1_026),
+        colour_at(&mut side, 1_027),
     ];
     Ok(Visited {
         outcome,
@@ -196,15 +199,24 @@ fn expected(listed: &[u32], at: u32) -> Option<Colour> {
 fn a_marker_visits_each_kind_of_cell(rt: HostRuntime) -> Result<(), Fail> {
     let alloc = rt.alloc();
     let long = long_store(alloc)?;
-    let cases: [(&str, &[u64], &[u32]); 8] = [
-        ("plain", &[34, 0, TO_FIRST, TO_SECOND, TO_YOUNG], &[1_024]),
-        ("one target twice", &[38, 0, TO_FIRST, TO_FIRST], &[1_024]),
-        ("list", &[6, TO_SECOND, 0], &[1_026]),
+    let cases: [(&str, &[u64], &[u32]); 9] = [
+        (
+            "plain",
+            &[34, 0, NO_PROTO, TO_FIRST, TO_SECOND, TO_YOUNG],
+            &[1_024],
+        ),
+        ("prototype", &[38, 0, TO_SECOND, 10, 10], &[1_027]),
+        (
+            "one target twice",
+            &[38, 0, NO_PROTO, TO_FIRST, TO_FIRST],
+            &[1_024],
+        ),
+        ("list", &[6, TO_SECOND, 0], &[1_027]),
         ("weak map", &[10, TO_FIRST, 0], &[1_024]),
         ("table", &[18, 1, TO_FIRST, TO_SECOND], &[]),
         ("box", &[22, TO_FIRST], &[]),
         ("store of 0", &[14, 0], &[]),
-        ("store of 1,000", long.as_slice(), &[1_026]),
+        ("store of 1,000", long.as_slice(), &[1_027]),
     ];
     let layouts = padded(alloc, &LAYOUTS, 8_200)?;
     let own = own_words(alloc)?;
@@ -217,7 +229,7 @@ fn a_marker_visits_each_kind_of_cell(rt: HostRuntime) -> Result<(), Fail> {
             let colours = [
                 Some(Colour::Black),
                 expected(listed, 1_024),
-                expected(listed, 1_026),
+                expected(listed, 1_027),
             ];
             assert_eq!(rt; came.outcome, Some(Outcome::Spent { turns: 2 }), "{name}");
             assert_eq!(rt; came.colours, colours, "{name}");

@@ -21,9 +21,13 @@ mod grids;
 #[cfg(test)]
 mod kinds;
 #[cfg(test)]
+mod main_steps;
+#[cfg(test)]
 mod markers;
 #[cfg(test)]
 mod mutators;
+#[cfg(test)]
+mod open_mains;
 #[cfg(test)]
 mod opened_mutators;
 #[cfg(test)]

@@ -3,7 +3,7 @@ ghost use Rattle.std.specs.Prelude.{◌≡◌, IfOk};
 ghost use Rattle.table_tests.specs.Grids.{IsWholeGrid, StaysLent};
 
 use crate::cells::word_at;
-use crate::grids::{BOXED, NO_SLOTS, NONE_RAW, ONE_RAW, blacken, shade, store, trim, widen};
+use crate::grids::{FILLER, LIST, NONE_RAW, ONE_RAW, blacken, shade, store, trim, widen};
 use crate::kinds::{padded, put};
 use shared_table::{Colour, MainSide};
 use std::alloc::Global;
@@ -43,7 +43,7 @@ pub(crate) fn slot_target(words: &[u64], count: u32, cell: u32, offset: u32) -> 
     let end = match word_at(words, at) {
         ONE_RAW => 3,
         NONE_RAW => 4,
-        NO_SLOTS => 2,
+        LIST => 2,
         _ => 1,
     };
     if offset >= end {
@@ -111,7 +111,7 @@ impl Mutator {
         }
     }
 
-    /// Stores a reference in the slot at 2 of a cell, unless it was trimmed.
+    /// Stores a reference in the prototype slot of a cell, unless it was trimmed.
     fn store(&mut self, cell: u32, to: u32)
         ensures { StaysLent self.old.side self.new.side }
     {
@@ -129,7 +129,7 @@ impl Mutator {
         }
     }
 
-    /// Widens a cell whose slot at 3 then has a reference, unless it was trimmed.
+    /// Widens a cell whose field then has a reference, unless it was trimmed.
     fn widen(&mut self, cell: u32, to: u32)
         ensures { StaysLent self.old.side self.new.side }
     {
@@ -163,12 +163,12 @@ impl Mutator {
     fn put_trimmed(&mut self, cell: u32, word: u64)
         ensures { StaysLent self.old.side self.new.side }
     {
-        put(&mut self.words, cell as usize * 4, NO_SLOTS);
-        put(&mut self.words, cell as usize * 4 + 2, BOXED);
-        put(&mut self.words, cell as usize * 4 + 3, word);
+        put(&mut self.words, cell as usize * 4, LIST);
+        put(&mut self.words, cell as usize * 4 + 2, word);
+        put(&mut self.words, cell as usize * 4 + 3, FILLER);
     }
 
-    /// Trims the first cell that was not trimmed so far: its two slots become a box with a word.
+    /// Trims the first cell that was not trimmed so far: it becomes a list, with a word as its length, and a filler.
     fn trim(&mut self, word: u64)
         ensures { StaysLent self.old.side self.new.side }
     {
@@ -218,7 +218,7 @@ impl Mutator {
         REACHED
     }
 
-    /// Moves what the slot at 2 of one cell refers to into another, and lets the first refer to the other.
+    /// Moves what the prototype slot of one cell refers to into another, and lets the first refer to the other.
     fn carry(&mut self, from: u32, into: u32)
         ensures { StaysLent self.old.side self.new.side }
     {
@@ -229,8 +229,8 @@ impl Mutator {
     }
 
     /// Makes a step where a marker is about to be: a trim, a widening, or a move from a cell that is not reached so far
-    /// to one that is. All cells that it names were reached when the cycle began. Only the word of a box looks like a
-    /// reference to one that was not. What the mutator shades before a marker does, no marker visits, so in the first
+    /// to one that is. All cells that it names were reached when the cycle began. Only the length of a list looks like
+    /// a reference to one that was not. What the mutator shades before a marker does, no marker visits, so in the first
     /// half of its steps it trims no cell that is white.
     fn make_step(&mut self, step: u32)
         ensures { StaysLent self.old.side self.new.side }

@@ -2,6 +2,7 @@
 //! page and in eden. What is expected is worked out by hand.
 ghost use Rattle.std.specs.Prelude.{◌≡◌, IfOk};
 ghost use Rattle.heap_table.specs.Phases.{Quiet};
+ghost use Rattle.table_tests.specs.OpenMains.{IsBareMain};
 
 use heap_table::HeapTable;
 use page_space::{Regions, Run, Sizes};
@@ -13,8 +14,8 @@ use word_store::Reads;
 use write_barrier::Main;
 
 /// A mutator with a shared table, for a heap of one page.
-fn opened(alloc: Global) -> Result<Main, NoMemory>
-    ensures { IfOk result (λ main. main.seat.phase ≡ Quiet) }
+pub(crate) fn opened(alloc: Global) -> Result<Main, NoMemory>
+    ensures { IfOk result IsBareMain }
 {
     let sizes = Sizes {
         pages: 1,

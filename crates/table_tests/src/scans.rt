@@ -190,7 +190,7 @@ pub(crate) fn count_cells(
         let starts = at % 4 == 0;
         let was_reached = starts && is_set(before, cell);
         let is_reached = starts && is_set(after, cell);
-        let was_made = at % 4 == 2 && cell < trimmed;
+        let was_made = at % 4 == 3 && cell < trimmed;
         let is_black = colour == Some(Colour::Black);
         count_if(&mut counted.reached, was_reached);
         count_if(&mut counted.missed, is_reached && !is_black);

@@ -3,14 +3,14 @@ use Rattle.std.proofs.Common.{ℕ, ◌<◌, ◌+◌, Bool, not, List, [], ◌∷
 use Rattle.std.specs.List.{All, AllPairs, range_with_len}
 use Rattle.std.specs.List.Sorted.{IsStrictlyIncreasing}
 use Rattle.std.proofs.lemmas.List.{length-map, get_or-map}
-use Rattle.std.proofs.lemmas.List.Elements.{Contains-get_or}
+use Rattle.std.proofs.lemmas.List.Elements.{All-cons, Contains-get_or}
 use Rattle.std.proofs.lemmas.List.FromFn.{length-range_with_len, get_or-range_with_len}
 use Rattle.std.proofs.lemmas.List.Kept.{AllPairs-cons, AllPairs-filter}
 use Rattle.tagged_word.specs.declared.layout.Kind.{Kind}
 use Rattle.tagged_word.specs.declared.layout.Kind.TheVariants as kind
 use Rattle.tagged_word.specs.declared.layout.LayoutWord.{LayoutWord}
 use Rattle.tagged_word.specs.Layouts.{is_raw}
-use Rattle.tagged_word.specs.Cells.{in_object_offsets, plain_head, store_head, store_slot}
+use Rattle.tagged_word.specs.Cells.{in_object_offsets, plain_head, store_head, store_slot, proto_slot}
 use Rattle.tagged_word.specs.Cells.{tagged_offsets, tagged_offsets_of}
 use Rattle.tagged_word.proofs.Offsets.{in_object_is}
 
@@ -40,12 +40,25 @@ rises_in_object layout =
     rises_behind plain_head (filter test (range_with_len 0 layout.used))
     (AllPairs-filter (λ x y. x < y) test (range_with_len 0 layout.used) (rises_run 0 layout.used))
 
--- and stand behind the store's slot
-in_object_later : (layout : LayoutWord) → All (λ x. store_slot < x) (in_object_offsets layout)
-in_object_later layout k d l =
+-- and stand after the words of the head
+in_object_later : (layout : LayoutWord) (before : ℕ) → before < plain_head →
+    All (λ x. before < x) (in_object_offsets layout)
+in_object_later layout before head k d l =
     let slot = in_object_is layout (get_or (in_object_offsets layout) k d)
     (Contains-get_or (in_object_offsets layout) k d l) in
-    omega (arith, slot.behind)
+    omega (arith, slot.behind, head)
+
+-- the slot of the prototype and the in-object slots ascend
+rises_from_proto : (layout : LayoutWord) → Rises (proto_slot ∷ in_object_offsets layout)
+rises_from_proto layout =
+    AllPairs-cons (λ x y. x < y) proto_slot (in_object_offsets layout) (in_object_later layout proto_slot (omega arith))
+    (rises_in_object layout)
+
+-- and stand after the store's slot
+later_than_store : (layout : LayoutWord) → All (λ x. store_slot < x) (proto_slot ∷ in_object_offsets layout)
+later_than_store layout =
+    All-cons (λ x. store_slot < x) proto_slot (in_object_offsets layout) (omega arith)
+    (in_object_later layout store_slot (omega arith))
 
 -- no offsets ascend
 rises_none : Rises []
@@ -58,7 +71,8 @@ rises_one x i j d less within = absurd (omega arith)
 -- the offsets that marking visits, kind by kind
 rises_tagged : (k : Kind) (layout : LayoutWord) (long : ℕ) → Rises (tagged_offsets_of k layout long)
 rises_tagged kind.Plain layout long =
-    AllPairs-cons (λ x y. x < y) store_slot (in_object_offsets layout) (in_object_later layout) (rises_in_object layout)
+    AllPairs-cons (λ x y. x < y) store_slot (proto_slot ∷ in_object_offsets layout) (later_than_store layout)
+    (rises_from_proto layout)
 rises_tagged kind.List layout long = rises_one store_slot
 rises_tagged kind.Weak layout long = rises_one store_slot
 rises_tagged kind.Store layout long = rises_run store_head long

@@ -1,5 +1,5 @@
 -- Cells: an address reads as one cell, its size is that of a page or less, and its slots lie in it.
-use Rattle.std.proofs.Common.{ℕ, ◌<◌, ◌≤◌, ◌+◌, ◌*◌, ◌≡◌, ◌≢◌, ◌⊎◌, inl, inr, List}
+use Rattle.std.proofs.Common.{ℕ, ◌<◌, ◌≤◌, ◌+◌, ◌*◌, ◌≡◌, ◌≢◌, List}
 use Rattle.std.proofs.Common.{slice_get, Option, Some, IsTrue, arith, refl, ap, ◌∙◌}
 use Rattle.std.proofs.lemmas.Bool.{false≢true}
 use Rattle.std.proofs.lemmas.Bool.Decides.{nat_tests}
@@ -11,12 +11,12 @@ use Rattle.tagged_word.specs.declared.layout.LayoutWord.{LayoutWord}
 use Rattle.tagged_word.specs.declared.reading.Reading.{Reading}
 use Rattle.tagged_word.specs.Layouts.{IsLayout, IsLayoutOfKind, HasInObjectSlots, layout_bits}
 use Rattle.tagged_word.specs.Cells.{ReadsAs, has_length, length_by, length_offset, cell_size, size_within, words_least}
-use Rattle.tagged_word.specs.Cells.{words_of, cell_words_most, in_object_offsets, plain_head, store_head, store_slot}
+use Rattle.tagged_word.specs.Cells.{words_of, cell_words_most, plain_head, store_head, store_slot}
 use Rattle.tagged_word.specs.Cells.{scavenge_offsets, scavenge_offsets_of, tagged_offsets, tagged_offsets_of}
 use Rattle.tagged_word.proofs.Headers.{same_header}
 use Rattle.tagged_word.proofs.Layouts.{same_layout}
-use Rattle.tagged_word.proofs.Members.{one_in, in_cases, range_bounds}
-use Rattle.tagged_word.proofs.Offsets.{in_object_is}
+use Rattle.tagged_word.proofs.Members.{one_in, range_bounds}
+use Rattle.tagged_word.proofs.Offsets.{IsPlainSlot, plain_slot_is}
 
 -- where there is a size, it is the number of words, within its bounds
 pub size_is : (least words size : ℕ) → size_within least words ≡ Some size →
@@ -50,18 +50,19 @@ size_bounds layout long size e =
     let l = least_one layout.kind in
     (omega arith, omega arith)
 
--- a slot of a plain cell is its store's or an in-object one
-plain_within : (layout : LayoutWord) → HasInObjectSlots layout → (offset : ℕ) →
-    (store_slot ≡ offset) ⊎ Contains (in_object_offsets layout) offset →
+-- a slot of a plain cell lies behind its header, and within its words
+plain_within : (layout : LayoutWord) → HasInObjectSlots layout → (offset : ℕ) → IsPlainSlot layout offset →
     (1 ≤ offset) × (offset < plain_head + layout.cap)
-plain_within layout is offset (inl e) = (omega arith, omega arith)
-plain_within layout is offset (inr c) = let slot = in_object_is layout offset c in (omega arith, omega arith)
+plain_within layout is offset (IsPlainSlot.store e) = (omega (arith, e), omega (arith, e))
+plain_within layout is offset (IsPlainSlot.proto e) = (omega (arith, e), omega (arith, e))
+plain_within layout is offset (IsPlainSlot.own slot) =
+    (omega (arith, slot.behind), omega (arith, slot.behind, slot.used, is.used))
 
 -- the slots lie within the words, kind by kind
 slots_within : (k : Kind) (layout : LayoutWord) → IsLayoutOfKind k layout → (long offset : ℕ) →
     Contains (scavenge_offsets_of k layout long) offset → (1 ≤ offset) × (offset < words_of k layout.cap long)
 slots_within kind.Plain layout is long offset c =
-    plain_within layout is offset (in_cases store_slot (in_object_offsets layout) offset c)
+    plain_within layout is offset (plain_slot_is layout offset c)
 slots_within kind.List layout is long offset c = let e = one_in store_slot offset c in (omega arith, omega arith)
 slots_within kind.Weak layout is long offset c = let e = one_in store_slot offset c in (omega arith, omega arith)
 slots_within kind.Store layout is long offset c =

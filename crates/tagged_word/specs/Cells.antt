@@ -15,9 +15,9 @@ use Rattle.tagged_word.specs.Shapes.{shapes_most}
 abbrev pub cell_words_most : ℕ
 cell_words_most = 2048
 
--- the words of a plain cell before its in-object slots: its header, and its property store
+-- the words of a plain cell before its in-object slots: its header, its property store, and its prototype
 abbrev pub plain_head : ℕ
-plain_head = 2
+plain_head = 3
 
 -- the words of a store or table before its slots: its header, and its capacity
 abbrev pub store_head : ℕ
@@ -26,6 +26,10 @@ store_head = 2
 -- the offset of the slot for the store or table of a plain cell, a list or a weak map
 abbrev pub store_slot : ℕ
 store_slot = 1
+
+-- the offset of the slot for the prototype of a plain cell
+abbrev pub proto_slot : ℕ
+proto_slot = 2
 
 -- the offset of the word that is the length, in the kinds that have one
 abbrev pub length_offset : ℕ
@@ -106,7 +110,7 @@ in_object_offsets layout =
 
 -- The offsets of the slots that marking visits, ascending. The pairs of a weak table are none of them.
 abbrev pub tagged_offsets_of : Kind → LayoutWord → ℕ → List ℕ
-tagged_offsets_of kind.Plain layout length = store_slot ∷ in_object_offsets layout
+tagged_offsets_of kind.Plain layout length = store_slot ∷ proto_slot ∷ in_object_offsets layout
 tagged_offsets_of kind.List layout length = store_slot ∷ []
 tagged_offsets_of kind.Weak layout length = store_slot ∷ []
 tagged_offsets_of kind.Store layout length = range_with_len store_head length

@@ -4,7 +4,8 @@ ghost use Rattle.std.specs.List.{Contains, range_with_len};
 ghost use Rattle.tagged_word.specs.Layouts.{is_raw};
 ghost use Rattle.tagged_word.specs.Cells.{is_object_kind, is_free_kind, marks_by_length};
 ghost use Rattle.tagged_word.specs.Cells.{has_length, words_of, words_least, cell_size};
-ghost use Rattle.tagged_word.specs.Cells.{cell_words_most, store_slot, store_head, plain_head, length_offset};
+ghost use Rattle.tagged_word.specs.Cells.{cell_words_most, store_slot, proto_slot, store_head, plain_head};
+ghost use Rattle.tagged_word.specs.Cells.{length_offset};
 ghost use Rattle.tagged_word.specs.Cells.{in_object_offsets, tagged_offsets, scavenge_offsets};
 
 use crate::layout::{Kind, LayoutWord};
@@ -13,13 +14,16 @@ use crate::layout::{Kind, LayoutWord};
 pub const WORDS_MOST: u32 = 2048;
 
 /// The words of a plain cell before its in-object slots.
-pub const PLAIN_HEAD: u32 = 2;
+pub const PLAIN_HEAD: u32 = 3;
 
 /// The words of a store or table before its slots.
 pub const STORE_HEAD: u32 = 2;
 
 /// The offset of the slot for a store or table, in the cells that have one beside them.
 pub const STORE_SLOT: u32 = 1;
+
+/// The offset of the slot for the prototype of a plain cell.
+pub const PROTO_SLOT: u32 = 2;
 
 /// The offset of the length, in the cells that have one: the capacity of a store or table, and the
 /// size of a gap.
@@ -31,6 +35,7 @@ pub fn numbers_are_those_of_cells()
     ensures plain { PLAIN_HEAD ≡ plain_head }
     ensures head { STORE_HEAD ≡ store_head }
     ensures slot { STORE_SLOT ≡ store_slot }
+    ensures proto { PROTO_SLOT ≡ proto_slot }
     ensures length { LENGTH ≡ length_offset }
 {}
 
@@ -155,9 +160,12 @@ impl LayoutWord {
 
     /// Whether marking visits the slot at an offset of a plain cell.
     fn is_plain_tagged(self, offset: u32) -> bool
-        ensures { IsTrue result ↔ Contains (store_slot ∷ in_object_offsets self) offset }
+        ensures { IsTrue result ↔ Contains (store_slot ∷ proto_slot ∷ in_object_offsets self) offset }
     {
         if offset == STORE_SLOT {
+            return true;
+        }
+        if offset == PROTO_SLOT {
             return true;
         }
         self.is_in_object_tagged(offset)

@@ -24,8 +24,8 @@ const CELLS: [(u32, u32, [u64; 2], Option<(Kind, u64, u32)>, u32); 34] = [
     (8, 0, [30, 1], None, 3),
     (9, 0, [13, 0], None, 1),
     // Shapes of field paths; 18 has no layout word, and 8,200 would have the first mark word.
-    (10, 0, [34, 0], Some((Kind::Plain, 0, 10)), 2),
-    (11, EDEN, [70, 3], Some((Kind::Plain, 0, 4)), 2),
+    (10, 0, [34, 0], Some((Kind::Plain, 0, 11)), 2),
+    (11, EDEN, [70, 3], Some((Kind::Plain, 0, 5)), 2),
     (12, EDEN, [74, 3], None, 2),
     (13, EDEN, [32_798, 0], Some((Kind::Filler, 0, 1)), 2),
     (14, EDEN, [32_802, 0], None, 1),
@@ -149,29 +149,31 @@ fn a_page_is_walked_from_cell_to_cell(rt: HostRuntime) -> Result<(), Fail> {
 
 /// Row, the cell's words, an offset, and the first slot from it on that marking visits, and that a
 /// scavenge does.
-const SLOTS: [(u32, [u64; 2], u32, Option<u32>, Option<u32>); 19] = [
-    // A plain cell has the slots that it uses.
+const SLOTS: [(u32, [u64; 2], u32, Option<u32>, Option<u32>); 21] = [
+    // A plain cell has a slot for its store, one for its prototype, and those that it uses.
     (1, [70, 3], 0, Some(1), Some(1)),
     (2, [70, 3], 1, Some(1), Some(1)),
     (3, [70, 3], 2, Some(2), Some(2)),
-    (4, [70, 3], 3, None, None),
-    (5, [70, 3], 9, None, None),
+    (4, [70, 3], 3, Some(3), Some(3)),
+    (5, [70, 3], 4, None, None),
+    (6, [70, 3], 9, None, None),
     // Raw slots are passed by.
-    (6, [34, 0], 0, Some(1), Some(1)),
-    (7, [34, 0], 2, Some(3), Some(3)),
-    (8, [34, 0], 3, Some(3), Some(3)),
-    (9, [34, 0], 4, Some(5), Some(5)),
-    (10, [34, 0], 6, Some(7), Some(7)),
-    (11, [34, 0], 8, Some(9), Some(9)),
-    (12, [34, 0], 10, None, None),
+    (7, [34, 0], 0, Some(1), Some(1)),
+    (8, [34, 0], 2, Some(2), Some(2)),
+    (9, [34, 0], 3, Some(4), Some(4)),
+    (10, [34, 0], 4, Some(4), Some(4)),
+    (11, [34, 0], 5, Some(6), Some(6)),
+    (12, [34, 0], 7, Some(8), Some(8)),
+    (13, [34, 0], 9, Some(10), Some(10)),
+    (14, [34, 0], 11, None, None),
     // Stores and tables have all their slots.
-    (13, [14, 2], 0, Some(2), Some(2)),
-    (14, [14, 2], 3, Some(3), Some(3)),
-    (15, [14, 2], 4, None, None),
-    (16, [18, 1], 0, None, Some(2)),
-    (17, [18, 1], 3, None, Some(3)),
-    (18, [18, 1], 4, None, None),
-    (19, [26, 0], 0, None, None),
+    (15, [14, 2], 0, Some(2), Some(2)),
+    (16, [14, 2], 3, Some(3), Some(3)),
+    (17, [14, 2], 4, None, None),
+    (18, [18, 1], 0, None, Some(2)),
+    (19, [18, 1], 3, None, Some(3)),
+    (20, [18, 1], 4, None, None),
+    (21, [26, 0], 0, None, None),
 ];
 
 /// The first slot from an offset on that marking visits, and the first that a scavenge does, of the

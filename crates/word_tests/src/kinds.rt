@@ -41,7 +41,7 @@ fn each_kind_and_each_fixed_shape_says_what_its_cells_are(rt: HostRuntime) {
 /// Row, a kind, a cap, a length, and the size of such a cell: none passes a page, and no gap is of
 /// one word.
 const SIZES: [(u32, Kind, u32, u64, Option<u32>); 17] = [
-    (1, Kind::Plain, 8, 0, Some(10)),
+    (1, Kind::Plain, 8, 0, Some(11)),
     (2, Kind::List, 0, 0, Some(3)),
     (3, Kind::Weak, 0, 0, Some(3)),
     (4, Kind::Store, 0, 2_046, Some(2_048)),
@@ -84,25 +84,26 @@ const TABLE: LayoutWord = LayoutWord {
 
 /// Row, a layout, a length, an offset, whether marking visits the slot there, and whether a
 /// scavenge does.
-const SLOTS: [(u32, LayoutWord, u64, u32, bool, bool); 18] = [
+const SLOTS: [(u32, LayoutWord, u64, u32, bool, bool); 19] = [
     (1, PLAIN, 0, 0, false, false),
     (2, PLAIN, 0, 1, true, true),
     (3, PLAIN, 0, 2, true, true),
-    (4, PLAIN, 0, 3, false, false),
+    (4, PLAIN, 0, 3, true, true),
     (5, PLAIN, 0, 4, false, false),
-    (6, STORE, 3, 0, false, false),
-    (7, STORE, 3, 1, false, false),
-    (8, STORE, 3, 2, true, true),
-    (9, STORE, 3, 3, true, true),
-    (10, STORE, 3, 4, true, true),
-    (11, STORE, 3, 5, false, false),
-    (12, TABLE, 2, 1, false, false),
-    (13, TABLE, 2, 2, false, true),
-    (14, TABLE, 2, 3, false, true),
-    (15, TABLE, 2, 4, false, true),
-    (16, TABLE, 2, 5, false, true),
-    (17, TABLE, 2, 6, false, false),
-    (18, TABLE, u64::MAX, u32::MAX, false, true),
+    (6, PLAIN, 0, 5, false, false),
+    (7, STORE, 3, 0, false, false),
+    (8, STORE, 3, 1, false, false),
+    (9, STORE, 3, 2, true, true),
+    (10, STORE, 3, 3, true, true),
+    (11, STORE, 3, 4, true, true),
+    (12, STORE, 3, 5, false, false),
+    (13, TABLE, 2, 1, false, false),
+    (14, TABLE, 2, 2, false, true),
+    (15, TABLE, 2, 3, false, true),
+    (16, TABLE, 2, 4, false, true),
+    (17, TABLE, 2, 5, false, true),
+    (18, TABLE, 2, 6, false, false),
+    (19, TABLE, u64::MAX, u32::MAX, false, true),
 ];
 
 #[test]

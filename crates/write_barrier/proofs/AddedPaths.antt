@@ -7,6 +7,7 @@ use Rattle.heap_model.specs.Types.{Path}
 use Rattle.object_graph.specs.Paths.{with_path, missing, may_have}
 use Rattle.object_graph.specs.Limits.{paths_most}
 use Rattle.shape_tree.specs.Shapes.{AreShapes, Leads}
+use Rattle.mark_barrier.specs.Waiting.{HasRoom, Waiting}
 use Rattle.heap_table.specs.Seats.{Seat as TableSeat}
 use Rattle.write_barrier.specs.declared.main_side.Main.TheInside.{Inside}
 use Rattle.write_barrier.specs.Layouts.{AreLayouts, AreLayoutsBelow, HasBoth, HasBothBelow, HasFirst, IsUnmarked}
@@ -14,7 +15,6 @@ use Rattle.write_barrier.specs.Layouts.{PutsLayouts}
 use Rattle.write_barrier.specs.Model.{mutator_of, IsTold}
 use Rattle.write_barrier.specs.MutatorState.{Mutator}
 use Rattle.write_barrier.specs.Opening.{LaysPath}
-use Rattle.cell_list.specs.Listing.{Listing}
 use Rattle.write_barrier.proofs.PutLayouts.{both_by, layouts_grown}
 use Rattle.write_barrier.proofs.SeatSteps.{listed_again, paid_again}
 
@@ -76,10 +76,10 @@ lays_path main old seat paths path shape is leads both puts counted are =
     })
 
 -- the list of grey cells has the same bound
-bound_again : {old new : Space} (list : Option Listing) → new ≡ old
-    → IfSome list (λ grey. grey.bound ≡ eden_start old) → IfSome list (λ grey. grey.bound ≡ eden_start new)
+bound_again : {old new : Space} (list : Option Waiting) → new ≡ old
+    → IfSome list (λ grey. HasRoom grey (eden_start old)) → IfSome list (λ grey. HasRoom grey (eden_start new))
 bound_again list same =
-    subst (λ (space : Space). IfSome list (λ grey. grey.bound ≡ eden_start space)) (sym same)
+    subst (λ (space : Space). IfSome list (λ grey. HasRoom grey (eden_start space))) (sym same)
 
 -- what the mutator keeps is so again
 pub told_again : (main : Inside) (seat : TableSeat) (paths : List Path) → IsTold main → HasBoth seat paths

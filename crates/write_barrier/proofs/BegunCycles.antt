@@ -1,17 +1,16 @@
 -- A cycle begins: what the seat knows while none is open, and what the mutator keeps then.
-use Rattle.std.proofs.Common.{◌≡◌, ◌==◌, ℕ, true, [], Contains, Option, Some, None, IfSome, IsTrue}
+use Rattle.std.proofs.Common.{◌≡◌, ◌==◌, inl, inr, ℕ, true, [], Option, Some, None, IfSome, IsTrue}
 use Rattle.std.proofs.Common.{replicate, refl, sym, ap, subst, ◌∙◌}
 use Rattle.std.specs.Prelude.{is_some}
 use Rattle.std.proofs.lemmas.Bool.{false≢true}
 use Rattle.page_space.specs.Extents.{eden_start}
-use Rattle.cell_list.specs.Listing.{Listing}
 use Rattle.core_parts.specs.Boards.{empty_board}
 use Rattle.mark_laws.proofs.Drained.{in_none}
-use Rattle.mark_laws.proofs.Joins.{all_from}
 use Rattle.mark_world.specs.BetweenCommands.{Fresh}
 use Rattle.mark_world.specs.Cycles.{Cycle}
 use Rattle.mark_world.specs.Steps.{white}
 use Rattle.mark_barrier.specs.Paid.{IsPaid}
+use Rattle.mark_barrier.specs.Waiting.{HasRoom, IsEmpty, IsOn, Waiting}
 use Rattle.shared_table.specs.declared.overview.Overview.{Overview}
 use Rattle.shared_table.specs.Changes.{opened}
 use Rattle.shared_table.specs.Owned.{Own}
@@ -69,15 +68,23 @@ chosen_here fits main now made is told knows quiet own chosen =
     (sym is) (chosen (overview main.seat) (subst (λ (one : Mutator). IsQuietOverview one (overview main.seat)) is here))
     in (begins.0, begins.1.0, begins.1.1)
 
--- the list of an open cycle is empty at first
-begun_paid : (main : Inside) (grey : Listing) (cycle : Cycle) → grey.bound ≡ eden_start main.seat.space
-    → grey.addresses ≡ []
+-- no cell is on empty lists
+none_on : (grey : Waiting) (at : ℕ) → IsEmpty grey → IsOn grey at → ⊥
+none_on grey at empty on = elim on [
+  | inl listed ↦ in_none grey.list.addresses at empty.list listed
+  | inr over ↦ in_none grey.passed.addresses at empty.passed over
+]
+
+-- the lists of an open cycle are empty at first
+begun_paid : (main : Inside) (grey : Waiting) (cycle : Cycle) → HasRoom grey (eden_start main.seat.space)
+    → IsEmpty grey
     → IsPaid (without_words (knowing main.seat main.seat.table (opened (overview main.seat) cycle))) grey
-begun_paid main grey cycle bound none = record {
+begun_paid main grey cycle room empty = record {
   lists = record {
-    bound = bound;
-    listed = λ at. (λ on. absurd (in_none grey.addresses at none on), λ on. absurd (in_none [] at refl on));
-    born = all_from (Contains cycle.born) grey.addresses (λ at on. absurd (in_none grey.addresses at none on));
+    room = room;
+    waits = λ at on. absurd (in_none [] at refl on);
+    was = λ at on. absurd (none_on grey at empty on);
+    born = λ at on. absurd (none_on grey at empty on);
   };
   owed = refl;
 }
@@ -87,17 +94,17 @@ abbrev pub begun : Inside → TableSeat → Inside
 begun main seat = record main { seat = seat }
 
 -- it keeps what it has to, whether it has a list or not
-begun_by : (main : Inside) (list : Option Listing) (cycle : Cycle) → main.grey ≡ list → IsTold main
+begun_by : (main : Inside) (list : Option Waiting) (cycle : Cycle) → main.grey ≡ list → IsTold main
     → main.seat.phase ≡ Quiet → IsTrue (is_some main.seat.shared)
     → IsTold (record main { seat = knowing main.seat main.seat.table (opened (overview main.seat) cycle); grey = list })
 begun_by main (Some grey) cycle is told quiet shared =
     let next : Overview = opened (overview main.seat) cycle in
     told_knowing_on main next shared grey told refl refl told.home
     (begun_paid main grey cycle
-    (subst (λ (l : Option Listing). IfSome l (λ one. one.bound ≡ eden_start main.seat.space)) is told.lists)
-    (subst (λ (l : Option Listing). IfSome l (λ one. one.addresses ≡ [])) is (told.clean quiet).listed))
+    (subst (λ (l : Option Waiting). IfSome l (λ one. HasRoom one (eden_start main.seat.space))) is told.lists)
+    (subst (λ (l : Option Waiting). IfSome l IsEmpty) is (told.clean quiet).listed))
 begun_by main None cycle is told quiet shared =
-    absurd (false≢true (ap (λ (l : Option Listing). is_some l) (sym is) ∙ told.listed ∙ shared))
+    absurd (false≢true (ap (λ (l : Option Waiting). is_some l) (sym is) ∙ told.listed ∙ shared))
 
 -- so where the seat has opened one
 pub begun_told : (main : Inside) (seat : TableSeat) (cycle : Cycle) → IsTold main → main.seat.phase ≡ Quiet

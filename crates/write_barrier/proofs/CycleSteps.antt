@@ -21,9 +21,9 @@ use Rattle.cycle_state.specs.Cycles.{main_of}
 use Rattle.heap_table.specs.Phases.{Mark}
 use Rattle.heap_table.specs.Seats.{Seat as TableSeat, Beside}
 use Rattle.heap_table.specs.Overviews.{MayStep, cycle_in, known, overview}
-use Rattle.cell_list.specs.Listing.{Listing}
 use Rattle.mark_barrier.specs.CycleSteps.{made_black}
 use Rattle.mark_barrier.specs.Paid.{StepsTo}
+use Rattle.mark_barrier.specs.Waiting.{Waiting}
 use Rattle.write_barrier.specs.declared.main_side.Main.TheInside.{Inside}
 use Rattle.write_barrier.specs.Layouts.{AreLayouts, HasLayouts}
 use Rattle.write_barrier.specs.Marking.{MayPut, MayPutHeader, MayStepInCycle, blackened}
@@ -168,7 +168,7 @@ module _ (main : Inside) (now : Mutator) (is : mutator_of main ≡ now) (told : 
       (same_layouts here.layouts) here.may
 
 -- what is known of the cycle once a cell was made black, by the layout words that helpers read, is so by the heap's
-pub black_steps : (main : Inside) (now : Mutator) (seat : TableSeat) (grey : Listing) (at : ℕ) → mutator_of main ≡ now
+pub black_steps : (main : Inside) (now : Mutator) (seat : TableSeat) (grey : Waiting) (at : ℕ) → mutator_of main ≡ now
     → IsTrue (is_some main.seat.shared) → main.seat.phase ≡ Mark
     → layouts_in main.seat.space main.seat.table ≡ (overview main.seat).layouts
     → StepsTo main.seat seat main.seat.table (made_black (overview main.seat).old (overview main.seat).words

@@ -1,14 +1,14 @@
 -- A cycle is closed before its marking has ended.
-use Rattle.std.proofs.Common.{◌≡◌, ◌==◌, ℕ, Bool, true, List, [], Option, Some, None, IfSome, IsTrue, replicate}
+use Rattle.std.proofs.Common.{◌≡◌, ◌==◌, ℕ, Bool, true, List, Option, Some, None, IfSome, IsTrue, replicate}
 use Rattle.std.proofs.Common.{eqb-true, sym, ap, subst, ◌∙◌}
 use Rattle.std.specs.Prelude.{is_some}
 use Rattle.atomic_table.specs.Seated.{TableId}
 use Rattle.page_space.specs.Extents.{Space, eden_start}
-use Rattle.cell_list.specs.Listing.{Listing}
 use Rattle.core_parts.specs.Boards.{empty_board}
 use Rattle.mark_world.specs.Cycles.{Cycle}
 use Rattle.mark_world.specs.Steps.{white}
 use Rattle.mark_barrier.specs.Paid.{IsDropped}
+use Rattle.mark_barrier.specs.Waiting.{HasRoom, IsEmpty, Waiting}
 use Rattle.heap_table.specs.Overviews.{cycle_in, known, unopened}
 use Rattle.heap_table.specs.Phases.{Phase, Quiet}
 use Rattle.heap_table.specs.Seats.{Seat as TableSeat, Beside}
@@ -25,9 +25,9 @@ unmarked_by : (shared : Option Beside) (many : ℕ) → (known shared).colours �
 unmarked_by (Some beside) many colours board = record { colours = colours; board = board }
 unmarked_by None many colours board = tt
 
-module _ (main : Inside) (seat : TableSeat) (grey was : Listing) (told : IsTold main)
+module _ (main : Inside) (seat : TableSeat) (grey : Waiting) (told : IsTold main)
     (shared : IsTrue (is_some main.seat.shared)) (drops : IsDropped main.seat seat)
-    (has : main.grey ≡ Some was) (empty : grey ≡ record was { addresses = [] }) where
+    (empty : IsEmpty grey) (room : HasRoom grey (eden_start main.seat.space)) where
   -- what is told of the seat
   told_drops : told_of seat ≡ record (told_of main.seat) { phase = Quiet }
   told_drops =
@@ -65,20 +65,18 @@ module _ (main : Inside) (seat : TableSeat) (grey was : Listing) (told : IsTold 
   told_drops_on home =
       let none : (known seat.shared).out ≡ 0 =
       drops.out ∙ eqb-true (known main.seat.shared).out 0 (sym told.home ∙ home) in
-      let bound : was.bound ≡ eden_start main.seat.space =
-      subst (λ (l : Option Listing). IfSome l (λ one. one.bound ≡ eden_start main.seat.space)) has told.lists in
       record {
         bound = told.bound ∙ sym (ap eden_start drops.space);
         layouts = read_same (λ all. AreLayouts all 0 main.shapes) main.seat.shared seat.shared shared drops.shared
             drops.layouts told.layouts;
         listed = sym drops.shared;
-        lists = ap (λ (l : Listing). l.bound) empty ∙ bound ∙ sym (ap eden_start drops.space);
+        lists = subst (λ (s : Space). HasRoom grey (eden_start s)) (sym drops.space) room;
         home = drops.home ∙ told.home ∙ ap (λ (many : ℕ). many == 0) (sym drops.out);
         paid = λ mark. absurd (mark_quiet mark drops.phase);
         paused = λ waits. absurd (quiet_paused drops.phase waits);
         clean = λ quiet. record {
           out = none;
-          listed = ap (λ (l : Listing). l.addresses) empty;
+          listed = empty;
           unmarked = unmarked_by seat.shared (eden_start seat.space)
               (drops.colours ∙ sym (ap (λ (s : Space). replicate (eden_start s) white) drops.space)) drops.board;
         };

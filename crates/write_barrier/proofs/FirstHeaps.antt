@@ -19,6 +19,7 @@ use Rattle.remembered_set.specs.Recorded.{Recorded}
 use Rattle.object_graph.specs.Graphs.{start}
 use Rattle.object_graph.specs.Invariants.{IsObject, HasItsPath, IsGraph}
 use Rattle.object_graph.proofs.FirstPaths.{empty_paths_are, length-empty_paths}
+use Rattle.object_graph.proofs.FirstGraph.{start_is_graph}
 use Rattle.shape_tree.specs.Shapes.{AreShapes}
 use Rattle.handle_roots.specs.declared.held.Held.TheVariants as held
 use Rattle.handle_roots.specs.Roots.{Holds}
@@ -36,15 +37,6 @@ use Rattle.write_barrier.specs.Opening.{IsStarted}
 use Rattle.write_barrier.proofs.FirstCells.{page_gap, first_row, first_end, first_row_stands, has_gaps}
 use Rattle.write_barrier.proofs.FirstCells.{begins_below_eden}
 use Rattle.write_barrier.proofs.FirstRuns.{first_are_free}
-
--- the graph of no object is a graph
-pub start_is : IsGraph start
-start_is = record {
-  bound = λ x value at. absurd (none-some value (sym (get-empty nat_cmp x) ∙ at));
-  made = All-nil (IsObject 0);
-  paths = empty_paths_are;
-  shaped = All-nil (HasItsPath start.paths);
-}
 
 -- no segment has survivors
 no_survivors_in : (region : Region) (extent : Extent) → region ≡ extent.region
@@ -179,7 +171,7 @@ pub started_shows : (main : Mutator) → IsStarted main → MainShows main start
 started_shows main is = (
   record {
     tied = first_is_tied main is;
-    is_graph = start_is;
+    is_graph = start_is_graph;
     quiet = is.beside.phase;
     shows = first_shows main is;
     collectable = first_is_collectable main (other_half main.young.half) is;

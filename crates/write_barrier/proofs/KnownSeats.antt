@@ -4,8 +4,8 @@ use Rattle.std.proofs.Common.{◌∙◌}
 use Rattle.std.specs.Prelude.{is_some, IsSome}
 use Rattle.atomic_table.specs.Seated.{TableId}
 use Rattle.cell_layout.specs.Cells.{layouts_in}
-use Rattle.cell_list.specs.Listing.{Listing}
 use Rattle.mark_barrier.specs.Paid.{IsPaid}
+use Rattle.mark_barrier.specs.Waiting.{Waiting}
 use Rattle.heap_table.specs.Overviews.{cycle_in, knowing, overview}
 use Rattle.heap_table.specs.Phases.{Mark}
 use Rattle.heap_table.specs.Seats.{Seat as TableSeat}
@@ -49,7 +49,7 @@ module _ (main : Inside) (next : Overview) (shared : IsTrue (is_some main.seat.s
       (sym (table_there main.seat.shared shared))
 
   -- the mutator with it
-  pub mutator_knowing : (grey : Option Listing) → mutator_of (record main { seat = known_seat; grey = grey })
+  pub mutator_knowing : (grey : Option Waiting) → mutator_of (record main { seat = known_seat; grey = grey })
       ≡ record (mutator_of main) {
         seat = record (told_of main.seat) {
           phase = next.phase;
@@ -63,7 +63,7 @@ module _ (main : Inside) (next : Overview) (shared : IsTrue (is_some main.seat.s
       ap (λ (one : Seat). record (mutator_of main) { seat = one; cycle = cycle_in known_seat }) told_knowing
 
   -- it keeps what it kept, in an open cycle
-  pub told_knowing_on : (grey : Listing) → IsTold main → next.phase ≡ Mark
+  pub told_knowing_on : (grey : Waiting) → IsTold main → next.phase ≡ Mark
       → next.layouts ≡ (overview main.seat).layouts → next.home ≡ (next.out == 0)
       → IsPaid (without_words known_seat) grey → IsTold (record main { seat = known_seat; grey = Some grey })
   told_knowing_on grey told mark layouts home paid = record {
@@ -71,7 +71,7 @@ module _ (main : Inside) (next : Overview) (shared : IsTrue (is_some main.seat.s
     layouts = read_same (λ all. AreLayouts all 0 main.shapes) main.seat.shared known_seat.shared shared refl layouts
         told.layouts;
     listed = refl;
-    lists = paid.lists.bound;
+    lists = paid.lists.room;
     home = home;
     paid = λ again. paid;
     paused = λ waits. absurd (mark_paused mark waits);

@@ -3,10 +3,10 @@ use Rattle.std.proofs.Common.{◌≡◌, ◌==◌, ◌<◌, ◌+◌, ◌-◌, in
 use Rattle.std.proofs.Common.{refl, sym, ap, subst, ◌∙◌, arith, eq-eqb}
 use Rattle.std.specs.Prelude.{is_some}
 use Rattle.std.proofs.lemmas.Bool.{cases_lt}
-use Rattle.cell_list.specs.Listing.{Listing}
 use Rattle.core_parts.proofs.Tested.{not_equal}
 use Rattle.mark_laws.specs.Types.{HelperView}
 use Rattle.mark_barrier.specs.Paid.{IsPaid}
+use Rattle.mark_barrier.specs.Waiting.{Waiting}
 use Rattle.shared_table.specs.Changes.{home_with, lending, taking}
 use Rattle.heap_table.specs.Overviews.{knowing, overview}
 use Rattle.heap_table.specs.Phases.{Mark}
@@ -18,10 +18,10 @@ use Rattle.write_barrier.proofs.KnownSeats.{mutator_knowing, told_knowing_on}
 use Rattle.write_barrier.proofs.SeatSteps.{no_list, paid_list, paid_without}
 
 -- the list is as before a seat was lent
-lent_paid : (seat : TableSeat) (grey : Listing) → IsPaid seat grey
+lent_paid : (seat : TableSeat) (grey : Waiting) → IsPaid seat grey
     → IsPaid (without_words (knowing seat seat.table (lending (overview seat)))) grey
 lent_paid seat grey paid = record {
-  lists = record { bound = paid.lists.bound; listed = paid.lists.listed; born = paid.lists.born };
+  lists = record { room = paid.lists.room; waits = paid.lists.waits; was = paid.lists.was; born = paid.lists.born };
   owed = paid.owed;
 }
 
@@ -35,11 +35,11 @@ module _ (main : Inside) (seat : TableSeat) (shared : IsTrue (is_some main.seat.
       ∙ mutator_knowing main (lending (overview main.seat)) shared main.grey
 
   -- it keeps what it kept
-  pub lent_told : (grey : Listing) → main.grey ≡ Some grey → IsTold main → main.seat.phase ≡ Mark
+  pub lent_told : (grey : Waiting) → main.grey ≡ Some grey → IsTold main → main.seat.phase ≡ Mark
       → IsPaid main.seat grey → IsTold (record main { seat = seat })
   lent_told grey has told mark paid =
       subst (λ (one : TableSeat). IsTold (record main { seat = one })) (sym is)
-      (subst (λ (l : Option Listing). IsTold (record main {
+      (subst (λ (l : Option Waiting). IsTold (record main {
         seat = knowing main.seat main.seat.table (lending (overview main.seat));
         grey = l;
       })) (sym has)
@@ -48,13 +48,13 @@ module _ (main : Inside) (seat : TableSeat) (shared : IsTrue (is_some main.seat.
 
 -- so whether there is a list, since there is one in an open cycle
 pub lent_told_by : (main : Inside) (seat : TableSeat) → IsTrue (is_some main.seat.shared)
-    → seat ≡ knowing main.seat main.seat.table (lending (overview main.seat)) → (list : Option Listing)
+    → seat ≡ knowing main.seat main.seat.table (lending (overview main.seat)) → (list : Option Waiting)
     → main.grey ≡ list → IsTold main → main.seat.phase ≡ Mark → IsTold (record main { seat = seat })
 lent_told_by main seat shared is (Some grey) has told mark =
     lent_told main seat shared is grey has told mark (paid_list main grey told has mark)
 lent_told_by main seat shared is None has told mark = absurd (no_list main told has mark)
 
-module _ (main : Inside) (seat : TableSeat) (grey : Listing) (view : HelperView)
+module _ (main : Inside) (seat : TableSeat) (grey : Waiting) (view : HelperView)
     (shared : IsTrue (is_some main.seat.shared)) (told : IsTold main) (mark : main.seat.phase ≡ Mark)
     (some : 0 < (overview main.seat).out)
     (taken : 1 < (overview main.seat).out

@@ -1,5 +1,5 @@
 -- A heap with its layout words, made of a seat that was just opened.
-use Rattle.std.proofs.Common.{◌≡◌, ℕ, ◌+◌, ◌<◌, ◌≤◌, ◌⊎◌, Bool, true, false, List, [], length, Some, slice_get}
+use Rattle.std.proofs.Common.{◌≡◌, ℕ, ◌+◌, ◌<◌, ◌≤◌, ◌⊎◌, Bool, true, false, List, length, Some, slice_get}
 use Rattle.std.proofs.Common.{refl, sym, ◌∙◌, ap, subst, arith}
 use Rattle.std.specs.Prelude.{replicate, Option, IfSome, is_some}
 use Rattle.atomic_table.specs.Seated.{TableId}
@@ -13,6 +13,7 @@ use Rattle.nursery.specs.Young.{new_young}
 use Rattle.remembered_set.specs.Recorded.{Recorded}
 use Rattle.object_graph.specs.Paths.{empty_paths}
 use Rattle.heap_model.specs.Types.{Path}
+use Rattle.mark_barrier.specs.Waiting.{HasRoom, IsEmpty}
 use Rattle.heap_table.specs.Overviews.{cycle_in, unopened}
 use Rattle.heap_table.specs.Seats.{Seat as TableSeat, IsFresh}
 use Rattle.write_barrier.specs.declared.main_side.Main.TheInside.{Inside}
@@ -85,8 +86,8 @@ pub record AreParts (space : Space) (shared : Bool) (old : TableSeat) (main : In
   pub free : main.free ≡ whole_rows space.sizes.pages
   pub recorded : main.remembered ≡ none_recorded space
   pub listed : is_some main.grey ≡ is_some old.shared
-  pub lists : IfSome main.grey (λ grey. grey.bound ≡ eden_start space)
-  pub empty : IfSome main.grey (λ grey. grey.addresses ≡ [])
+  pub lists : IfSome main.grey (λ grey. HasRoom grey (eden_start space))
+  pub empty : IfSome main.grey IsEmpty
 
 -- nothing is there but the layout words
 pub is_laid : (space : Space) (shared : Bool) (old : TableSeat) (main : Inside) → AreParts space shared old main
@@ -127,7 +128,7 @@ is_told space shared old main parts =
       bound = ap (λ (recorded : Recorded). recorded.bound) parts.recorded ∙ sym (ap eden_start same);
       layouts = parts.both.read;
       listed = listed_again old main.seat main.grey parts.puts.rest.shared parts.listed;
-      lists = subst (λ (s : Space). IfSome main.grey (λ grey. grey.bound ≡ eden_start s)) (sym same) parts.lists;
+      lists = subst (λ (s : Space). IfSome main.grey (λ grey. HasRoom grey (eden_start s))) (sym same) parts.lists;
       home = at_home (parts.puts.rest.home ∙ ap (λ (seat : Seat). seat.home) told) out;
       paid = λ mark. absurd (quiet_idle quiet mark);
       paused = λ waits. absurd (quiet_paused quiet waits);

@@ -4,7 +4,6 @@ use Rattle.std.specs.Prelude.{is_some}
 use Rattle.std.proofs.lemmas.List.Elements.{All-replicate}
 use Rattle.page_space.specs.Extents.{Space}
 use Rattle.cell_layout.specs.Cells.{layouts_in}
-use Rattle.cell_list.specs.Listing.{Listing}
 use Rattle.mark_laws.specs.PageWords.{MainSound}
 use Rattle.mark_laws.specs.Runs.{IsSoundAndBorn}
 use Rattle.mark_laws.specs.Types.{HelperView, MainView, World}
@@ -13,8 +12,9 @@ use Rattle.mark_world.specs.Coverage.{EachSlot}
 use Rattle.mark_world.specs.Cycles.{Cycle}
 use Rattle.mark_world.specs.Steps.{returned}
 use Rattle.mark_barrier.specs.Paid.{IsPaid, Scans}
+use Rattle.mark_barrier.specs.Waiting.{Waiting}
 use Rattle.shared_table.specs.Worlds.{world_at_home}
-use Rattle.cycle_state.specs.Cycles.{main_of, world_in}
+use Rattle.cycle_state.specs.Cycles.{world_in}
 use Rattle.heap_table.specs.Overviews.{cycle_in, overview}
 use Rattle.heap_table.specs.Seats.{Seat as TableSeat}
 use Rattle.write_barrier.specs.declared.main_side.Main.TheInside.{Inside}
@@ -58,16 +58,28 @@ module _ (main : Inside) (same : layouts_in main.seat.space main.seat.table ≡ 
   -- the mutator's view is as in a sound world
   pub sound_view : MainSound (overview main.seat).old (overview main.seat).words (overview main.seat).layouts view
       → HasSoundView (mutator_of main)
-  sound_view sound = record {
-    world = record (world_in (heap_of (mutator_of main)) (cycle_in main.seat)) {
-      main = record (main_of (cycle_in main.seat)) { grey = view.grey; log = view.log };
-    };
-    is = record { is = refl };
-    holds = subst (λ (ls : List ℕ). MainSound (overview main.seat).old (overview main.seat).words ls
-        (record view { owed = [] })) (sym same)
-        (subst (MainSound (overview main.seat).old (overview main.seat).words (overview main.seat).layouts) view_paid
-        sound);
-  }
+  sound_view sound =
+      let here : MainSound (overview main.seat).old (overview main.seat).words
+      (layouts_in main.seat.space main.seat.table) (record view { owed = [] }) =
+      subst (λ (ls : List ℕ). MainSound (overview main.seat).old (overview main.seat).words ls
+      (record view { owed = [] })) (sym same)
+      (subst (MainSound (overview main.seat).old (overview main.seat).words (overview main.seat).layouts) view_paid
+      sound) in
+      record {
+        pages = here.pages;
+        addresses = here.addresses;
+        within = here.within;
+        shapes = here.shapes;
+        read = here.read;
+        apart = here.apart;
+        born = here.born;
+        mine = here.mine;
+        mine_born = here.mine_born;
+        mine_old = here.mine_old;
+        sure_born = here.sure_born;
+        owed_born = here.owed_born;
+        slots = here.slots;
+      }
 
   -- and where no seat is out the world is whole
   pub whole_world : IsSoundAndBorn home → HasWholeWorld (mutator_of main)
@@ -89,7 +101,7 @@ module _ (main : Inside) (same : layouts_in main.seat.space main.seat.table ≡ 
       }
 
 -- what a scan leaves
-pub scanned : (main : Inside) (now : Mutator) (seat : TableSeat) (grey : Listing) → mutator_of main ≡ now
+pub scanned : (main : Inside) (now : Mutator) (seat : TableSeat) (grey : Waiting) → mutator_of main ≡ now
     → IsTrue (is_some main.seat.shared)
     → layouts_in main.seat.space main.seat.table ≡ (overview main.seat).layouts
     → (overview main.seat).view.owed ≡ [] → IsPaid seat grey → Scans main.seat seat

@@ -1,18 +1,17 @@
 -- What the mutator is, and what it keeps, after steps on its seat.
-use Rattle.std.proofs.Common.{◌≡◌, ◌↔◌, ◌==◌, ℕ, Bool, true, List, [], Contains, Option, Some, None, IfSome, IsTrue}
+use Rattle.std.proofs.Common.{◌≡◌, ◌⊎◌, ◌==◌, ℕ, Bool, true, List, [], Contains, Option, Some, None, IfSome, IsTrue}
 use Rattle.std.proofs.Common.{eq-eqb, refl, sym, ◌∙◌, ap, subst}
 use Rattle.std.specs.Prelude.{is_some, option_map, IsSomeAnd}
 use Rattle.std.proofs.lemmas.Bool.{false≢true}
 use Rattle.atomic_table.specs.Seated.{TableId}
 use Rattle.page_space.specs.Extents.{Space, eden_start}
-use Rattle.cell_list.specs.Listing.{Listing}
 use Rattle.mark_world.specs.declared.views.MainView.{MainView}
 use Rattle.mark_world.specs.Cycles.{Cycle}
-use Rattle.mark_world.specs.Soundness.{AreIn}
 use Rattle.heap_table.specs.Overviews.{known, overview}
 use Rattle.heap_table.specs.Phases.{Phase, Quiet, Mark, Paused}
 use Rattle.heap_table.specs.Seats.{Seat as TableSeat, Beside}
 use Rattle.mark_barrier.specs.Paid.{IsPaid, MovesTo, StepsTo}
+use Rattle.mark_barrier.specs.Waiting.{HasRoom, IsOn, Waiting}
 use Rattle.write_barrier.specs.declared.main_side.Main.TheInside.{Inside}
 use Rattle.write_barrier.specs.Layouts.{AreLayouts}
 use Rattle.write_barrier.specs.Model.{mutator_of, without_words, IsTold}
@@ -20,44 +19,36 @@ use Rattle.write_barrier.specs.MutatorState.{Mutator}
 use Rattle.write_barrier.specs.Seats.{Seat, table_of, told_of}
 
 -- own words play no part in what the mutator owes
-pub paid_without : {seat : TableSeat} {grey : Listing} → IsPaid seat grey → IsPaid (without_words seat) grey
+pub paid_without : {seat : TableSeat} {grey : Waiting} → IsPaid seat grey → IsPaid (without_words seat) grey
 paid_without paid = record {
-  lists = record {
-    bound = paid.lists.bound;
-    listed = paid.lists.listed;
-    born = paid.lists.born;
-  };
+  lists = record { room = paid.lists.room; waits = paid.lists.waits; was = paid.lists.was; born = paid.lists.born };
   owed = paid.owed;
 }
 
 -- own words play no part in what is paid
-pub paid_with : {seat : TableSeat} {grey : Listing} → IsPaid (without_words seat) grey → IsPaid seat grey
+pub paid_with : {seat : TableSeat} {grey : Waiting} → IsPaid (without_words seat) grey → IsPaid seat grey
 paid_with paid = record {
-  lists = record {
-    bound = paid.lists.bound;
-    listed = paid.lists.listed;
-    born = paid.lists.born;
-  };
+  lists = record { room = paid.lists.room; waits = paid.lists.waits; was = paid.lists.was; born = paid.lists.born };
   owed = paid.owed;
 }
 
 -- so the list of grey cells is there in an open cycle, and is paid
-pub paid_list : (main : Inside) (grey : Listing) → IsTold main → main.grey ≡ Some grey → main.seat.phase ≡ Mark
+pub paid_list : (main : Inside) (grey : Waiting) → IsTold main → main.grey ≡ Some grey → main.seat.phase ≡ Mark
     → IsPaid main.seat grey
 paid_list main grey told is mark =
-    paid_with (subst (λ (list : Option Listing). IsSomeAnd list (IsPaid (without_words main.seat))) is (told.paid mark))
+    paid_with (subst (λ (list : Option Waiting). IsSomeAnd list (IsPaid (without_words main.seat))) is (told.paid mark))
 
 -- no cycle is open where there is no list of grey cells
 pub no_list : (main : Inside) → IsTold main → main.grey ≡ None → main.seat.phase ≡ Mark → ⊥
 no_list main told none mark =
-    subst (λ (list : Option Listing). IsSomeAnd list (IsPaid (without_words main.seat))) none (told.paid mark)
+    subst (λ (list : Option Waiting). IsSomeAnd list (IsPaid (without_words main.seat))) none (told.paid mark)
 
 -- the seat is in an open cycle where the mutator is
 pub in_mark : (main : Inside) (now : Mutator) → mutator_of main ≡ now → now.seat.phase ≡ Mark → main.seat.phase ≡ Mark
 in_mark main now is mark = ap (λ (one : Mutator). one.seat.phase) is ∙ mark
 
 -- what is owed in an open cycle, where there is a list
-owed_by : (seat : TableSeat) (list : Option Listing) → IsSomeAnd list (IsPaid (without_words seat))
+owed_by : (seat : TableSeat) (list : Option Waiting) → IsSomeAnd list (IsPaid (without_words seat))
     → (overview seat).view.owed ≡ []
 owed_by seat (Some grey) paid = paid.owed
 owed_by seat None paid = absurd paid
@@ -96,7 +87,7 @@ at_home home out = home ∙ sym (eq-eqb _ 0 out)
 pub mark_quiet : {phase : Phase} → phase ≡ Mark → phase ≡ Quiet → ⊥
 mark_quiet mark quiet = let no : Mark ≡ Quiet = sym mark ∙ quiet in cc
 
-module _ (main : Inside) (seat : TableSeat) (grey : Listing) (words : List ℕ) (next : Cycle)
+module _ (main : Inside) (seat : TableSeat) (grey : Waiting) (words : List ℕ) (next : Cycle)
     (shared : IsTrue (is_some main.seat.shared)) (moves : MovesTo main.seat seat words next) where
   -- the mutator after whole steps of marking
   abbrev pub stepped_to : Inside
@@ -143,14 +134,14 @@ module _ (main : Inside) (seat : TableSeat) (grey : Listing) (words : List ℕ) 
     layouts = read_same (λ all. AreLayouts all 0 main.shapes) main.seat.shared seat.shared shared moves.shared
         moves.layouts told.layouts;
     listed = sym moves.shared;
-    lists = paid.lists.bound;
+    lists = paid.lists.room;
     home = moves.home ∙ told.home ∙ ap (λ (many : ℕ). many == 0) (sym moves.out);
     paid = λ again. paid_without paid;
     paused = λ waits. absurd (mark_paused (moves.phase ∙ mark) waits);
     clean = λ quiet. absurd (mark_quiet (moves.phase ∙ mark) quiet);
   }
 
-module _ (main : Inside) (seat : TableSeat) (grey : Listing) (words : List ℕ) (next : Cycle)
+module _ (main : Inside) (seat : TableSeat) (grey : Waiting) (words : List ℕ) (next : Cycle)
     (shared : IsTrue (is_some main.seat.shared)) (steps : StepsTo main.seat seat words next) where
   -- so after steps that give no cell to the board
   pub mutator_steps : mutator_of (record main { seat = seat; grey = Some grey })
@@ -184,22 +175,23 @@ named_some (Some beside) = refl
 named_some None = refl
 
 -- a list of grey cells is right for a seat with the same regions and view
-pub paid_again : (old new : TableSeat) (list : Option Listing) → new.space ≡ old.space
+pub paid_again : (old new : TableSeat) (list : Option Waiting) → new.space ≡ old.space
     → (overview new).view ≡ (overview old).view → IsSomeAnd list (IsPaid (without_words old))
     → IsSomeAnd list (IsPaid (without_words new))
 paid_again old new None space view was = was
 paid_again old new (Some grey) space view was = record {
   lists = record {
-    bound = was.lists.bound ∙ sym (ap eden_start space);
-    listed = subst (λ (one : MainView). (at : ℕ) → Contains grey.addresses at ↔ Contains one.grey at) (sym view)
-        was.lists.listed;
-    born = subst (λ (one : MainView). AreIn one.born grey.addresses) (sym view) was.lists.born;
+    room = subst (HasRoom grey) (sym (ap eden_start space)) was.lists.room;
+    waits = subst (λ (one : MainView). (at : ℕ) → Contains one.grey at → IsOn grey at) (sym view) was.lists.waits;
+    was = subst (λ (one : MainView). (at : ℕ) → IsOn grey at → Contains one.grey at ⊎ Contains one.mine at) (sym view)
+        was.lists.was;
+    born = subst (λ (one : MainView). (at : ℕ) → IsOn grey at → Contains one.born at) (sym view) was.lists.born;
   };
   owed = ap (λ (one : MainView). one.owed) view ∙ was.owed;
 }
 
 -- it is there where there is a shared table
-pub listed_again : (old new : TableSeat) (list : Option Listing) → table_of new ≡ table_of old
+pub listed_again : (old new : TableSeat) (list : Option Waiting) → table_of new ≡ table_of old
     → is_some list ≡ is_some old.shared → is_some list ≡ is_some new.shared
 listed_again old new list named listed =
     listed ∙ sym (named_some old.shared) ∙ sym (ap (λ (id : Option TableId). is_some id) named)

@@ -50,6 +50,7 @@ put_all space laid gaps last is pages gaps_are roots unbound seconds =
 gaps_space : {space : Space} {laid gaps last : Mutator} → IsPutAll space laid gaps last → gaps.seat.space ≡ space
 gaps_space all = all.pages.seat.space ∙ all.laid_is.changes.seat.space
 
+-- and so it is once the roots are put
 pub last_space : {space : Space} {laid gaps last : Mutator} → IsPutAll space laid gaps last → last.seat.space ≡ space
 last_space all = all.roots.seat.space ∙ gaps_space all
 

@@ -106,6 +106,13 @@ hole_alone eden at words stands refers =
     let same : hole_word ≡ refers.word = same_Some hole_word refers.word (sym stands ∙ refers.stands) in
     none-some refers.cell (ap reference_in same ∙ refers.refers)
 
+-- behind all pages it is as if what was wiped had been stored
+pub young_stored : {old new : Mutator} (from to : ℕ) → old.recorded.bound ≤ from
+    → Touches old new (touched Touch.Wiped from to) → Touches old new (touched Touch.Stored from to)
+young_stored from to behind touches =
+    touch_alike (λ at below. touched_outside Touch.Wiped from to at (inl (omega (arith, below, behind)))
+    ∙ sym (touched_outside Touch.Stored from to at (inl (omega (arith, below, behind))))) touches
+
 -- so where holes were put that are not recorded, they were stored
 pub stored_holes : {old new : Mutator} (from to : ℕ)
     → ((at : ℕ) → from ≤ at → at < to → slice_get (heap_words new.seat) at ≡ Some hole_word)

@@ -67,9 +67,9 @@ pub record IsWorldWith (main : Mutator) (P : World → Type 0) : Type 0 where
   pub is : IsWorldOf (heap_of main) main.cycle world
   pub holds : P world
 
--- the mutator's view is as it is in a sound world
+-- the mutator's view is as it is in a sound world, by the words of the heap and what is known of the cycle
 abbrev pub HasSoundView : Mutator → Type 0
-HasSoundView main = IsWorldWith main HasMainSound
+HasSoundView main = HasMainSound (world_in (heap_of main) main.cycle)
 
 -- a world is sound, marking reaches born cells alone, no seat is out, and nothing is owed
 pub record IsWholeWorld (world : World) : Type 0 where

@@ -1,11 +1,11 @@
 -- What the mutator keeps in its fields.
 use Rattle.std.specs.Prelude.{◌≡◌, ◌==◌, [], Option, is_some, IfSome, IsSomeAnd}
 use Rattle.page_space.specs.Extents.{eden_start}
-use Rattle.cell_list.specs.Listing.{Listing}
 use Rattle.heap_table.specs.Overviews.{cycle_in, known}
 use Rattle.heap_table.specs.Phases.{Quiet, Mark, Paused}
 use Rattle.heap_table.specs.Seats.{Seat as TableSeat}
 use Rattle.mark_barrier.specs.Paid.{IsPaid}
+use Rattle.mark_barrier.specs.Waiting.{HasRoom, IsEmpty, Waiting}
 use Rattle.write_barrier.specs.declared.main_side.Main.TheInside.{Inside}
 use Rattle.write_barrier.specs.Layouts.{IsUnmarked, ReadLayouts}
 use Rattle.write_barrier.specs.MutatorState.{Mutator}
@@ -27,20 +27,20 @@ abbrev pub without_words : TableSeat → TableSeat
 without_words seat = record seat { table = [] }
 
 -- No cycle is open and none waits: no cell is listed, and none has a colour or is on the board.
-pub record IsClean (seat : TableSeat) (list : Option Listing) : Type 0 where
+pub record IsClean (seat : TableSeat) (list : Option Waiting) : Type 0 where
   pub out : (known seat.shared).out ≡ 0
-  pub listed : IfSome list (λ grey. grey.addresses ≡ [])
+  pub listed : IfSome list IsEmpty
   pub unmarked : IfSome seat.shared (IsUnmarked (eden_start seat.space))
 
 -- An address is below the bound of what is recorded exactly if it is one of a page. The layout words that helpers read
--- are those of the shapes, and else 0. Colours and board are known exactly while no seat is out. There is a list of
--- grey cells where there is a shared table. While a cycle is open, or waits, it lists the grey cells that wait with the
--- mutator, and nothing is owed; else it lists none, and no cell has a colour.
+-- are those of the shapes, and else 0. Colours and board are known exactly while no seat is out. There are lists of
+-- grey cells where there is a shared table. While a cycle is open, or waits, they have the grey cells that wait with
+-- the mutator, and nothing is owed; else they have none, and no cell has a colour.
 pub record IsTold (main : Inside) : Type 0 where
   pub bound : main.remembered.bound ≡ eden_start main.seat.space
   pub layouts : ReadLayouts main.seat main.shapes
   pub listed : is_some main.grey ≡ is_some main.seat.shared
-  pub lists : IfSome main.grey (λ grey. grey.bound ≡ eden_start main.seat.space)
+  pub lists : IfSome main.grey (λ grey. HasRoom grey (eden_start main.seat.space))
   pub home : (known main.seat.shared).home ≡ ((known main.seat.shared).out == 0)
   pub paid : main.seat.phase ≡ Mark → IsSomeAnd main.grey (IsPaid (without_words main.seat))
   pub paused : main.seat.phase ≡ Paused → IsSomeAnd main.grey (IsPaid (without_words main.seat))

@@ -57,8 +57,8 @@ impl Main {
         grey.scan(&mut self.seat);
     }
 
-    /// The heap's pages are a world of the cycle in which the mutator's view is as in a sound one. The call says so, by
-    /// one load, and does nothing else.
+    /// The mutator's view of the heap's pages is as in a sound world. The call says so, by one load, and does nothing
+    /// else.
     pub fn sound(&mut self)
         requires mark { self.old.seat.phase ≡ Mark }
         requires layouts { HasLayouts self.old }

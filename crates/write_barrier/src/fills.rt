@@ -200,9 +200,35 @@ impl Main {
         ensures young { self.new.young ≡ self.old.young }
         ensures touches { Touches self.old self.new (touched Touch.Stored to (to + count)) }
     {
-        self.copy_words(from, to, count);
-        if self.remembered.covers(to) {
-            self.judge_copies(to, count);
+        self.addresses_fit();
+        // The first store of an object takes the place of one with no slots.
+        if count == 0 {
+            return;
         }
+        if self.remembered.covers(to) {
+            self.copy_slots_to_page(from, to, count);
+        } else {
+            self.copy_behind(from, to, count);
+        }
+    }
+
+    /// The same to words from one of a page on.
+    #[cold]
+    #[inline(never)]
+    fn copy_slots_to_page(&mut self, from: u32, to: u32, count: u32)
+        requires may_store { self.old.seat.phase ≡ Mark → ⊥ }
+        requires within { from + count ≤ marks_start self.old.seat.space }
+        requires room { to + count ≤ marks_start self.old.seat.space }
+        requires apart { AreDisjoint from to count }
+        ensures heap { let words = heap_words self.old.seat in
+            heap_words self.new.seat ≡ copied words from to count }
+        ensures beside { RestStays self.old.seat self.new.seat }
+        ensures paths { self.new.paths ≡ self.old.paths }
+        ensures cycle { self.new.cycle ≡ self.old.cycle }
+        ensures young { self.new.young ≡ self.old.young }
+        ensures touches { Touches self.old self.new (touched Touch.Stored to (to + count)) }
+    {
+        self.copy_words(from, to, count);
+        self.judge_copies(to, count);
     }
 }

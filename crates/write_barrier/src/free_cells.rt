@@ -128,7 +128,7 @@ impl Main {
             1 => self.put_young(at, FILLER.word().0),
             _ => {
                 self.put_young(at, GAP.word().0);
-                self.put_young(at + LENGTH, count as u64);
+                self.put_own_slot(at, LENGTH, count as u64);
             }
         }
     }

@@ -4,6 +4,7 @@ ghost use Rattle.page_space.specs.Sizes.{page_words};
 ghost use Rattle.page_space.specs.Extents.{eden_start, roots_start, layouts_start};
 ghost use Rattle.object_graph.specs.Graphs.{start};
 ghost use Rattle.handle_roots.specs.Roots.{root_at};
+ghost use Rattle.mark_barrier.specs.Waiting.{HasRoom, IsEmpty};
 ghost use Rattle.heap_table.specs.Phases.{Quiet};
 ghost use Rattle.heap_table.specs.Seats.{IsFresh};
 ghost use Rattle.write_barrier.specs.Seats.{heap_words, table_of};
@@ -23,14 +24,14 @@ use std::alloc::Global;
 use tagged_word::cell::LENGTH;
 use tagged_word::{Header, NoMemory, Word, odd, shape};
 
-/// A list of grey cells, where the seat has a shared table.
+/// Lists of grey cells, where the seat has a shared table.
 ///
 /// # Errors
 /// Out of memory.
 fn list_for(alloc: Global, seat: &MainSeat, regions: Regions) -> Result<Option<GreyCells>, NoMemory>
     ensures listed { IfOk result (λ grey. is_some grey ≡ is_some seat.now.shared) }
-    ensures bound { IfOk result (λ grey. IfSome grey (λ list. list.bound ≡ eden_start regions)) }
-    ensures empty { IfOk result (λ grey. IfSome grey (λ list. list.addresses ≡ [])) }
+    ensures room { IfOk result (λ grey. IfSome grey (λ lists. HasRoom lists (eden_start regions))) }
+    ensures empty { IfOk result (λ grey. IfSome grey IsEmpty) }
 {
     if seat.is_shared() {
         let grey = GreyCells::new(alloc, regions)?;
@@ -45,7 +46,7 @@ impl Main {
     /// nothing. It keeps the seat, and so the shared table, where there is one.
     ///
     /// # Errors
-    /// Memory was refused, for the shapes, the free runs, what is recorded of pages, or the list of grey cells.
+    /// Memory was refused, for the shapes, the free runs, what is recorded of pages, or the lists of grey cells.
     pub fn open(alloc: Global, seat: MainSeat, regions: Regions) -> Result<Main, NoMemory>
         requires { (shared : Bool) × IsFresh regions shared seat }
         ensures opened { IfOk result (λ main. MainShows main start × IsOpened main) }

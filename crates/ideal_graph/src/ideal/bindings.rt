@@ -16,7 +16,8 @@ impl Ideal {
         ensures { Steps self.old self.new (Command.New x cap) result }
     {
         let fields = Fields::from_vec(Vec::new(self.alloc));
-        self.make(x, Object::Plain { cap, fields })
+        let proto = None;
+        self.make(x, Object::Plain { cap, proto, fields })
     }
 
     /// Binds `x` to a new list.

@@ -28,8 +28,8 @@ impl Ideal {
             return Err(IdealStop::ScriptFault(FaultWord::FieldsFull));
         }
         let fields = with_value(self.alloc, plain.fields, f, value)?;
-        let (number, cap) = (plain.number, plain.cap);
-        self.reshape(number, cap, fields)
+        let (number, cap, proto) = (plain.number, plain.cap, plain.proto);
+        self.reshape(number, cap, proto, fields)
     }
 
     /// Binds `y` to the field `f` of `x`, or to `undefined` where there is none.
@@ -53,22 +53,28 @@ impl Ideal {
             return Ok(Said::nothing(self.alloc));
         }
         let fields = without_key(self.alloc, plain.fields, f)?;
-        let (number, cap) = (plain.number, plain.cap);
-        self.reshape(number, cap, fields)
+        let (number, cap, proto) = (plain.number, plain.cap, plain.proto);
+        self.reshape(number, cap, proto, fields)
     }
 
     /// Gives the plain object of this number these fields, and adds its path.
-    fn reshape(&mut self, number: u32, cap: u32, fields: Vec<Field>) -> Result<Said, IdealStop>
+    fn reshape(
+        &mut self,
+        number: u32,
+        cap: u32,
+        proto: Option<u32>,
+        fields: Vec<Field>,
+    ) -> Result<Said, IdealStop>
         requires { number < length self.old.graph.objects }
         ensures { StepsTo self.old self.new
             (reshape ideal_limits self.old.graph
-            (record { number = number; cap = cap; fields = fields.items }) fields.items) result }
+            (record { number = number; cap = cap; proto = proto; fields = fields.items }) fields.items) result }
     {
         // The path first: where it cannot be added, the object keeps its fields.
         let path = path_of(self.alloc, cap, &fields)?;
         add_path(self.alloc, &mut self.paths, &path)?;
         let fields = Fields::from_vec(fields);
-        self.objects[number as usize] = Object::Plain { cap, fields };
+        self.objects[number as usize] = Object::Plain { cap, proto, fields };
         Ok(Said::nothing(self.alloc))
     }
 

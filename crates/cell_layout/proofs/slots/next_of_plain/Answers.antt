@@ -1,11 +1,15 @@
 use Rattle.std.proofs.Common.{◌+◌, ◌-◌, sym, subst, arith}
 use Rattle.tagged_word.specs.Cells.{plain_head}
 use Rattle.cell_layout.proofs.PlainSlots.{IsRawRun, raw_run, none_are_raw}
-use Rattle.cell_layout.proofs.PlainSlots.{first_is_store, first_of_plain, none_of_plain}
+use Rattle.cell_layout.proofs.PlainSlots.{first_is_store, first_is_proto, first_of_plain, none_of_plain}
 use Rattle.cell_layout.proofs.slots.next_of_plain.Goals as goal
 
 pub returns-then-from-le-STORE_SLOT : goal.returns-then-from-le-STORE_SLOT
 returns-then-from-le-STORE_SLOT c = first_is_store c.args.layout c.args.from c.if-from-le-STORE_SLOT.true
+
+pub returns-then-from-le-PROTO_SLOT : goal.returns-then-from-le-PROTO_SLOT
+returns-then-from-le-PROTO_SLOT c =
+    first_is_proto c.args.layout c.args.from (omega arith) c.if-from-le-PROTO_SLOT.true
 
 pub returns-then-slot-layout : goal.returns-then-slot-layout
 returns-then-slot-layout c =

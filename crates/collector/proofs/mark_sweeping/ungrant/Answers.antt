@@ -8,5 +8,6 @@ returns c = record {
   words = c.grant.ensures.heap;
   beside = c.grant.ensures.beside;
   paths = c.grant.ensures.paths;
+  cycle = c.grant.ensures.cycle;
   touches = none_touched c.grant.ensures.touches;
 }

@@ -1,5 +1,5 @@
 -- Pairs move back, one after the other, until the hole may be free.
-use Rattle.std.proofs.Common.{◌≡◌, ℕ, ◌+◌, ◌<◌, Some, None, sym, ◌∙◌, ap, subst, arith}
+use Rattle.std.proofs.Common.{◌≡◌, ℕ, ◌+◌, ◌<◌, Some, None, refl, sym, ◌∙◌, ap, subst, arith}
 use Rattle.page_space.specs.Extents.{Space, marks_start}
 use Rattle.write_barrier.specs.Seats.{heap_words}
 use Rattle.tagged_word.specs.Readings.{reference_in}
@@ -19,6 +19,7 @@ loop-passed-init c =
     let within = table_within c.args.main.now c.args.table c.requires.within c.addresses_fit.ensures.heap_counted in
     record {
       changes = nothing_changed c.args.main.now c.args.table;
+      cycle = refl;
       shifting = shift_begins (heap_of c.args.main.now)
           (pairs_of (heap_words c.args.main.now.seat) c.args.table) c.args.at
           (omega (arith, c.requires.place, (pairs_read (heap_words c.args.main.now.seat) c.args.table within).long));
@@ -51,6 +52,7 @@ returns-in_default c =
     ∙ none_from_not_some c.address.result c.in_default.not-Some in
     record {
       changes = far.changes;
+      cycle = far.cycle;
       within = hole_below (heap_of c.args.main.now) (heap_of c.loop-passed.main) c.args.table within far.changes.long
           far.shifting;
       removed = far.shifting.going.removed;
@@ -87,6 +89,7 @@ loop-passed-preserved-then-steps-passed c =
     sym (c.address.ensures ∙ ap reference_in (c.key_of.ensures ∙ one.key)) ∙ c.in-Some.is in
     record {
       changes = far.changes;
+      cycle = far.cycle;
       shifting = passes_on (heap_of c.args.main.now) (heap_of c.loop-passed.main) c.args.table within far.changes.long
           far.shifting next few c.place-next.ensures far.changes.beside c.in-Some.key refers
           c.requires.keys
@@ -128,6 +131,7 @@ loop-passed-preserved c =
       changes = pair_changed c.args.table c.loop-passed.hole _ far.changes (hole_below (heap_of c.args.main.now)
           (heap_of c.loop-passed.main) c.args.table within far.changes.long far.shifting)
           c.copy_pair.ensures.puts c.copy_pair.ensures.touches;
+      cycle = c.copy_pair.ensures.cycle ∙ far.cycle;
       shifting = moves_on (heap_of c.args.main.now) (heap_of c.loop-passed.main) c.args.table within far.changes.long
           far.shifting next few c.place-next.ensures far.changes.beside c.in-Some.key refers c.requires.keys
           c.number_at-number.result c.steps.result c.number_at-number.ensures c.steps.ensures c.if-steps-passed.false
@@ -142,6 +146,7 @@ returns c =
     far.changes.long far.shifting in
     record {
       changes = far.changes;
+      cycle = far.cycle;
       within = hole_below (heap_of c.args.main.now) (heap_of c.loop-passed.main) c.args.table within far.changes.long
           far.shifting;
       removed = far.shifting.going.removed;

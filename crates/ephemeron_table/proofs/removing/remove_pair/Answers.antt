@@ -16,6 +16,7 @@ returns c =
     removes_at c.args.map c.args.at c.backward_shift-hole.result c.slot-count.result c.args.table
     (omega (arith, c.requires.within, c.addresses_fit.ensures.heap_counted))
     (omega (arith, c.requires.map, c.addresses_fit.ensures.heap_counted))
-    c.requires.map c.requires.beside c.backward_shift-hole.ensures puts c.put_pair.ensures.touches
+    c.requires.map c.requires.beside c.backward_shift-hole.ensures puts c.put_pair.ensures.cycle
+    c.put_pair.ensures.touches
     c.slot-count.ensures.of_heap
     c.write_slot.ensures.written c.write_slot.ensures.heap

@@ -1,4 +1,4 @@
-use Rattle.graph_laws.proofs.MadeGraphs.{start_is_graph}
+use Rattle.object_graph.proofs.FirstGraph.{start_is_graph}
 use Rattle.graph_laws.proofs.GraphsStay.{graphs_stay}
 use Rattle.graph_laws.proofs.RunGraphs.{runs_make_graphs}
 use Rattle.graph_laws.proofs.ShortPaths.{fields_are_few}

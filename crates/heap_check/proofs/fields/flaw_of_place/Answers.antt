@@ -8,7 +8,7 @@ use Rattle.image_walk.proofs.SlotKinds.{field_from, field_to}
 use Rattle.heap_check.specs.Cells.{asked_at}
 use Rattle.heap_check.specs.declared.flaw.Flaw.{Flaw}
 use Rattle.heap_check.proofs.JoinedFinds.{first_of_word}
-use Rattle.heap_check.proofs.PlainFlaws.{asked_behind, asked_within, field_fits, fits_field}
+use Rattle.heap_check.proofs.FieldSlots.{asked_behind, asked_within, field_fits, fits_field}
 use Rattle.heap_check.proofs.fields.flaw_of_place.Goals as goal
 
 pub returns-then-place-fields : goal.returns-then-place-fields

@@ -2,7 +2,7 @@ use Rattle.std.proofs.Common.{ℕ, arith, get_or}
 use Rattle.shape_tree.specs.Shapes.{shape_path}
 use Rattle.heap_model.specs.Images.{image_heap}
 use Rattle.heap_model.specs.Types.{Path}
-use Rattle.heap_check.proofs.PlainFlaws.{FieldFits, field_asked}
+use Rattle.heap_check.proofs.FieldSlots.{FieldFits, field_asked}
 use Rattle.heap_check.proofs.JoinedFinds.{first_in_span, read_there, fit_more, fit_all}
 use Rattle.heap_check.proofs.fields.flaw_of_places.Goals as goal
 

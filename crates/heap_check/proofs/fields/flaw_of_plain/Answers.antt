@@ -22,7 +22,7 @@ returns-then-not-has_path c =
     (ap (λ n. record { at = cell.at; found = n; wanted = c.filler_word.result }) c.word.ensures
     ∙ ap (λ n. record { at = cell.at; found = header_bits cell.header; wanted = n }) c.filler_word.ensures)
 
--- a plain object has two words and more
+-- a plain object has three words and more
 pub word_of-store-requires-clause-within : goal.word_of-store-requires-clause-within
 word_of-store-requires-clause-within c =
     omega (arith, words_are_size c.requires.stands, words_by_kind kind.Plain c.requires.stands c.requires.plain)

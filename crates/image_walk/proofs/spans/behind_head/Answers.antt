@@ -1,5 +1,4 @@
 use Rattle.std.proofs.Common.{arith}
-use Rattle.tagged_word.specs.Cells.{store_head}
 use Rattle.heap_model.specs.Images.{image_heap}
 use Rattle.image_walk.proofs.SpanWords.{cell_ends, cell_ends_few, behind_first}
 use Rattle.page_space.specs.Extents.{words_most}
@@ -26,7 +25,7 @@ overflow_add-result-2 c =
     )
 
 pub returns-clause-slots : goal.returns-clause-slots
-returns-clause-slots c = behind_first (image_heap c.args.image.now) c.args.cell store_head c.requires.long
+returns-clause-slots c = behind_first (image_heap c.args.image.now) c.args.cell c.args.head c.requires.long
 
 pub returns-clause-is : goal.returns-clause-is
 returns-clause-is c = record {

@@ -60,8 +60,8 @@ shade_slots-requires c =
     (sym is) c.known_cell-cell.ensures.reads in
     record {
       mark = subst (λ (s : Seat). s.phase ≡ Mark) is c.requires.mark;
-      lists = subst (λ (s : Seat). ListsGrey s c.args.list.now) is
-          (black_lists now c.args.at c.blacken.result c.args.list.now c.requires.lists);
+      lists = subst (λ (s : Seat). ListsGrey s c.args.grey.now) is
+          (black_lists now c.args.at c.blacken.result c.args.grey.now c.requires.lists);
       owes = subst (λ (s : Seat). Owes s c.known_cell-cell.result 0) is
           (black_owes now c.args.at c.sound.ensures.sound c.requires.born mine c.requires.layouts
           c.known_cell-cell.result c.known_cell-cell.ensures.at reads c.blacken.result other c.requires.owed);
@@ -72,8 +72,8 @@ returns-in-Black-clause-paid c =
     let now : Seat = c.args.seat.now in
     let is = after_is now c.sound.new.self c.blacken.new.self c.sound.ensures.same c.args.at c.blacken.result
     c.blacken.ensures.blackened in
-    subst (λ (s : Seat). IsPaid s c.args.list.now) is (record {
-      lists = black_lists now c.args.at c.blacken.result c.args.list.now c.requires.lists;
+    subst (λ (s : Seat). IsPaid s c.args.grey.now) is (record {
+      lists = black_lists now c.args.at c.blacken.result c.args.grey.now c.requires.lists;
       owed = black_owed now c.args.at c.blacken.result (ap number_of c.in-Black.is) ∙ c.requires.owed;
     })
 
@@ -103,9 +103,9 @@ returns-in_default c =
       paid = record { lists = c.shade_slots.ensures.lists; owed = c.shade_slots.ensures.owed };
       steps = all;
       settled = black_settles now c.shade_slots.new.seat c.args.at start all.moves c.shade_slots.ensures.owed;
-      no_more = no_more_on now after c.shade_slots.new.seat c.args.list.now c.args.list.now c.shade_slots.new.list
-          steps.moves.home (subst (λ (s : Seat). AreNoMore now c.args.list.now s c.args.list.now) is
-          (black_no_more now c.args.list.now c.args.at c.blacken.result (omega (arith, inside, counted))))
+      no_more = no_more_on now after c.shade_slots.new.seat c.args.grey.now c.args.grey.now c.shade_slots.new.grey
+          steps.moves.home (subst (λ (s : Seat). AreNoMore now c.args.grey.now s c.args.grey.now) is
+          (black_no_more now c.args.grey.now c.args.at c.blacken.result (omega (arith, inside, counted))))
           c.shade_slots.ensures.no_more;
       black = blackened_later after c.shade_slots.new.seat c.args.at after.table (cycle_in after) is_black
           c.shade_slots.ensures.steps;

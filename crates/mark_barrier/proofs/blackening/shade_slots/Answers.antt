@@ -134,7 +134,7 @@ loop-offset-preserved c =
       steps = steps_after c.args.seat.now seat new c.args.seat.now.table (cycle_in c.args.seat.now) before.steps
           (no_steps seat new cell c.loop-offset.from c.in-Some.offset c.slot.result before.owes least is after.steps
           after.owed);
-      no_more = no_more_on c.args.seat.now seat new c.args.list.now c.loop-offset.list c.shade_target.new.list
+      no_more = no_more_on c.args.seat.now seat new c.args.grey.now c.loop-offset.grey c.shade_target.new.grey
           before.steps.moves.home before.no_more after.no_more;
     }
 

@@ -7,10 +7,10 @@ use Rattle.mark_barrier.proofs.blackening.shade_slots.Given as goal
 
 abbrev pub invariant-loop-offset : goal.invariant-loop-offset
 invariant-loop-offset l = record {
-  lists : ListsGrey l.seat l.list;
+  lists : ListsGrey l.seat l.grey;
   owes : Owes l.seat l.cell l.from;
   steps : StepsTo l.initial.seat l.seat l.initial.seat.table (cycle_in l.initial.seat);
-  no_more : AreNoMore l.initial.seat l.initial.list l.seat l.list;
+  no_more : AreNoMore l.initial.seat l.initial.grey l.seat l.grey;
 }
 
 abbrev pub decreases-loop-offset : goal.decreases-loop-offset

@@ -1,5 +1,5 @@
--- The last cell is taken off the list, and made black.
-use Rattle.mark_barrier.proofs.Scanned.{popped_born, popped_lists, scans_none, scans_on}
+-- The last cell is taken off the lists, and made black.
+use Rattle.mark_barrier.proofs.Scanned.{scans_none, scans_on, taken_off}
 use Rattle.heap_table.specs.Overviews.{overview}
 use Rattle.mark_barrier.proofs.scanning.blacken_listed.Goals as goal
 
@@ -11,15 +11,11 @@ loop-at-init c = record {
 
 pub make_black-requires-clause-lists : goal.make_black-requires-clause-lists
 make_black-requires-clause-lists c =
-    popped_lists c.loop-at.seat c.loop-at.list c.pop.new.self c.in-Some.at c.in-Some.ensures.last c.in-Some.ensures.gone
-    c.pop.ensures.bound
-    c.loop-at.invariant.paid
+    taken_off c.loop-at.seat c.loop-at.grey c.next.new.self c.in-Some.at c.loop-at.invariant.paid.lists
+    c.in-Some.ensures.taken
 
 pub make_black-requires-clause-born : goal.make_black-requires-clause-born
-make_black-requires-clause-born c =
-    popped_born c.loop-at.seat c.loop-at.list c.pop.new.self c.in-Some.at c.in-Some.ensures.last c.in-Some.ensures.gone
-    c.pop.ensures.bound
-    c.loop-at.invariant.paid
+make_black-requires-clause-born c = c.loop-at.invariant.paid.lists.born c.in-Some.at c.in-Some.ensures.taken.was
 
 pub loop-at-preserved : goal.loop-at-preserved
 loop-at-preserved c =

@@ -4,8 +4,8 @@ use Rattle.std.proofs.Common.{inl, inr, arith}
 use Rattle.core_parts.specs.declared.note.Note.{Note}
 use Rattle.marker.specs.Resting.{StaysAt, Turned}
 use Rattle.marker.specs.Turns.{LooksEverywhere}
-use Rattle.marker.proofs.Going.{IsGoing, finds_on, full_round, looks_on, next_is_new, not_begun, round}
-use Rattle.marker.proofs.Going.{visits_on}
+use Rattle.marker.proofs.Going.{IsGoing, finds_on, full_round, looks_on, next_is_new, none_waits_idle, not_begun}
+use Rattle.marker.proofs.Going.{round, visits_on}
 use Rattle.marker.proofs.marking.mark.Goals.{then-turn, else-turn, then-loop-made-test+else-idle-lt-BOARD_WORDS}
 use Rattle.marker.proofs.marking.mark.Goals.{else-loop-made-test}
 use Rattle.marker.proofs.marking.mark.Goals as goal
@@ -83,6 +83,7 @@ returns-then-idle-eq-BOARD_WORDS-clause-marked g c =
       new = r.new;
       is = r.is;
       once = r.once;
+      none_waits = none_waits_idle _ _ _ _ _ _ r;
       stops = (
         omega (arith, r.made_is, c.loop-made.invariant.most),
         r.none_waits (omega (arith, all)),
@@ -105,6 +106,7 @@ returns-else-idle-eq-BOARD_WORDS-clause-marked g c =
       new = r.new;
       is = r.is;
       once = r.once;
+      none_waits = none_waits_idle _ _ _ _ _ _ r;
       stops = (
         ended,
         r.made_is ∙ ended,

@@ -6,9 +6,8 @@ use Rattle.heap_model.specs.Slots.{undefined_word}
 use Rattle.write_barrier.specs.Seats.{Seat, heap_words}
 use Rattle.write_barrier.specs.MutatorState.{Mutator, with_slot}
 use Rattle.write_barrier.specs.Recording.{Touches, touched}
-use Rattle.write_barrier.proofs.Recording.{word_touch}
-use Rattle.mutator.specs.Making.{new_touch}
-use Rattle.mutator.proofs.PutRows.{PutsTwo, counted_after, row_touch, two_counted, two_paths, two_seat, two_young}
+use Rattle.write_barrier.proofs.Recording.{then_touch, word_touch}
+use Rattle.mutator.proofs.PutRows.{PutsTwo, counted_after, two_touch, two_counted, two_paths, two_seat, two_young}
 use Rattle.mutator.proofs.PutWords.{three_in_a_row}
 use Rattle.mutator.proofs.making.fill_counted.Goals as goal
 
@@ -63,7 +62,7 @@ returns-clause-touches c =
     subst (λ (now : Mutator). Touches next now (touched Touch.Wiped (at + 2) (at + 2 + 1)))
     (sym c.write_slot.ensures.written) (word_touch next (at + 2) 0 (omega (arith, counted.1, c.requires.within))) in
     let ends : at + 2 + 1 ≡ at + 3 = omega arith in
-    row_touch (two c) c.write_slot.new.self 3
+    then_touch (two_touch (two c))
     (subst (λ to. Touches next c.write_slot.new.self (touched Touch.Wiped (at + 2) to)) ends third)
 
 pub returns-clause-paths : goal.returns-clause-paths

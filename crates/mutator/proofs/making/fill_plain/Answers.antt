@@ -1,14 +1,21 @@
--- The header, the slot for a property store and the other slots are put one after another.
-use Rattle.std.proofs.Common.{◌≡◌, ◌+◌, ℕ, List, ◌∙◌, ap, subst, arith, replicate, length}
+-- The header, the slots for a property store and a prototype, and the other slots are put one after another.
+use Rattle.std.proofs.Common.{◌≡◌, ◌+◌, ◌∷◌, ℕ, List, sym, ◌∙◌, ap, subst, arith, replicate, length, length-set}
+use Rattle.std.specs.Prelude.{slice_set}
 use Rattle.std.proofs.lemmas.List.{length-replicate}
 use Rattle.tagged_word.specs.Headers.{header_bits}
+use Rattle.tagged_word.specs.Cells.{plain_head, proto_slot}
+use Rattle.page_space.specs.Extents.{marks_start}
 use Rattle.heap_model.specs.Remembered.{Touch}
 use Rattle.heap_model.specs.Slots.{hole_word, undefined_word}
+use Rattle.write_barrier.specs.Seats.{Seat, heap_words}
 use Rattle.write_barrier.specs.MutatorState.{Mutator, with_slot}
-use Rattle.write_barrier.specs.Recording.{Touches, touched}
-use Rattle.mutator.specs.Making.{new_touch}
-use Rattle.mutator.proofs.PutRows.{PutsTwo, counted_after, row_seat, row_touch, two_counted, two_paths, two_young}
-use Rattle.mutator.proofs.PutRows.{others_wiped}
+use Rattle.write_barrier.specs.Recording.{Touches, touched, touched_one}
+use Rattle.write_barrier.specs.Values.{with_range}
+use Rattle.write_barrier.proofs.PutRanges.{with_range-put}
+use Rattle.write_barrier.proofs.Recording.{slot_touch, then_touch}
+use Rattle.mutator.specs.Making.{head_touch}
+use Rattle.mutator.proofs.PutRows.{PutsTwo, counted_after, head_grows, row_seat, two_counted, two_paths, two_touch}
+use Rattle.mutator.proofs.PutRows.{two_young, others_wiped}
 use Rattle.mutator.proofs.making.fill_plain.Goals as goal
 
 -- the header and the slot for a store are put
@@ -23,44 +30,83 @@ two c = record {
   within = omega (arith, c.requires.within);
 }
 
+-- then that for a prototype
+third : (c : goal.After-fill_holes)
+    → c.store-2.new.self ≡ with_slot c.store.new.self (c.args.at + proto_slot) undefined_word
+third c =
+    c.store-2.ensures.stored
+    ∙ ap (λ (one : ℕ). with_slot c.store.new.self (c.args.at + proto_slot) one) c.odd-2.ensures
+
+-- there are as many words, and as many addresses before the marks, as before
+third_counted : (c : goal.After-fill_holes)
+    → (length (heap_words c.store-2.new.self.seat) ≡ marks_start c.store-2.new.self.seat.space)
+    × (marks_start c.store-2.new.self.seat.space ≡ marks_start c.args.main.now.seat.space)
+third_counted c =
+    let next = c.store.new.self in
+    let counted = two_counted (two c) in
+    let space = ap (λ (now : Mutator). marks_start now.seat.space) (third c) in (
+      ap (λ (now : Mutator). length (heap_words now.seat)) (third c)
+          ∙ length-set (heap_words next.seat) (c.args.at + proto_slot) undefined_word ∙ counted.0 ∙ sym space,
+      space ∙ counted.1,
+    )
+
 -- the slots behind them
 abbrev holes : goal.After-fill_holes → List ℕ
 holes c = replicate c.args.cap hole_word
 
 pub returns-clause-filled : goal.returns-clause-filled
 returns-clause-filled c =
-    let main = c.args.main.now in
-    let space = main.seat.space in
+    let at : ℕ = c.args.at in
+    let next : Mutator = c.store.new.self in
+    let table : List ℕ = next.seat.table in
     let long : length (holes c) ≡ c.args.cap = length-replicate c.args.cap hole_word in
-    row_seat (two c) c.fill_holes.new.self (holes c)
+    let counted = two_counted (two c) in
+    let last : c.store-2.new.self.seat
+    ≡ record next.seat { table = slice_set table (at + proto_slot) undefined_word } =
+    ap (λ (now : Mutator). now.seat) (third c) in
+    let behind : at + plain_head ≡ at + proto_slot + 1 = omega arith in
+    row_seat (two c) c.fill_holes.new.self (undefined_word ∷ holes c)
     (omega (
       arith,
       long,
       c.requires.within,
       c.addresses_fit.ensures.heap_counted,
     ))
-    (ap (λ (now : Mutator). now.seat) c.fill_holes.ensures.filled)
+    (ap (λ (now : Mutator). now.seat) c.fill_holes.ensures.filled
+    ∙ ap (λ (seat : Seat). record seat { table = with_range seat.table (at + plain_head) (holes c) }) last
+    ∙ ap (λ (words : List ℕ). record next.seat { table = words })
+    (ap (λ place. with_range (slice_set table (at + proto_slot) undefined_word) place (holes c)) behind
+    ∙ with_range-put table (holes c) (at + proto_slot) undefined_word
+    (omega (arith, counted.0, counted.1, c.requires.within))))
 
 pub returns-clause-touches : goal.returns-clause-touches
 returns-clause-touches c =
-    let at = c.args.at in
-    let cap = c.args.cap in
-    let next = c.store.new.self in
+    let at : ℕ = c.args.at in
+    let cap : ℕ = c.args.cap in
+    let next : Mutator = c.store.new.self in
+    let last : Mutator = c.store-2.new.self in
     let long : length (holes c) ≡ cap = length-replicate cap hole_word in
     let counted = two_counted (two c) in
-    let rest : Touches next c.fill_holes.new.self (touched Touch.Wiped (at + 2) (at + 2 + cap)) =
-    others_wiped (at + 2) (at + 2 + cap) _ (holes c) (omega (arith, long))
-    (omega (arith, counted.0, counted.1, c.requires.within)) c.fill_holes.ensures.filled c.fill_holes.ensures.heap in
-    let ends : at + 2 + cap ≡ at + (2 + cap) = omega arith in
-    row_touch (two c) c.fill_holes.new.self (2 + cap)
-    (subst (λ to. Touches next c.fill_holes.new.self (touched Touch.Wiped (at + 2) to)) ends rest)
+    let counted_last = third_counted c in
+    let slot : Touches next last (touched_one Touch.Stored (at + 2)) =
+    subst (λ (now : Mutator). Touches next now (touched_one Touch.Stored (at + 2))) (sym (third c))
+    (slot_touch next (at + 2) undefined_word counted.0 (omega (arith, counted.1, c.requires.within))) in
+    let head : Touches c.args.main.now last (head_touch plain_head at) =
+    head_grows 2 at (omega arith) (two_touch (two c)) slot in
+    let rest : Touches last c.fill_holes.new.self (touched Touch.Wiped (at + plain_head) (at + plain_head + cap)) =
+    others_wiped (at + plain_head) (at + plain_head + cap) _ (holes c) (omega (arith, long))
+    (omega (arith, counted_last.0, counted_last.1, c.requires.within)) c.fill_holes.ensures.filled
+    c.fill_holes.ensures.heap in
+    let ends : at + plain_head + cap ≡ at + (plain_head + cap) = omega arith in
+    then_touch head
+    (subst (λ to. Touches last c.fill_holes.new.self (touched Touch.Wiped (at + plain_head) to)) ends rest)
 
 pub returns-clause-paths : goal.returns-clause-paths
 returns-clause-paths c =
-    ap (λ (now : Mutator). now.paths) c.fill_holes.ensures.filled
+    ap (λ (now : Mutator). now.paths) c.fill_holes.ensures.filled ∙ ap (λ (now : Mutator). now.paths) (third c)
     ∙ two_paths (two c)
 
 pub returns-clause-young : goal.returns-clause-young
 returns-clause-young c =
-    ap (λ (now : Mutator). now.young) c.fill_holes.ensures.filled
+    ap (λ (now : Mutator). now.young) c.fill_holes.ensures.filled ∙ ap (λ (now : Mutator). now.young) (third c)
     ∙ two_young (two c)

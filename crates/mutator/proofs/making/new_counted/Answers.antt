@@ -56,7 +56,7 @@ returns g c =
       carried = λ graph names shows count.
           making_carried shows (counted_making graph g.C.Counted.which c.args.x) makes
           (counted_made c.args.x is shows c.in_ok-run.ensures.room (omega arith) count)
-          c.in_ok-run.ensures.room (omega arith) c.hold.ensures.holds.fits c.requires.within names;
+          c.in_ok-run.ensures.room c.hold.ensures.holds.fits c.requires.within names;
       binds = binds_made refl makes;
     }
 

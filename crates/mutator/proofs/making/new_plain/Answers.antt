@@ -36,7 +36,7 @@ returns c =
             object = omega arith;
           })
           c.requires.within.1 shaped c.in_ok-run.ensures.room count)
-          c.in_ok-run.ensures.room (omega arith) c.hold.ensures.holds.fits c.requires.within.0 names;
+          c.in_ok-run.ensures.room c.hold.ensures.holds.fits c.requires.within.0 names;
       binds = binds_made (length-empty_plain header c.args.cap) makes;
     }
 

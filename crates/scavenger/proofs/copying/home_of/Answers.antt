@@ -13,7 +13,7 @@ word-word-requires c =
     c.addresses_fit.ensures.heap_counted
 
 pub returns-in-Some-clause-moved : goal.returns-in-Some-clause-moved
-returns-in-Some-clause-moved c start all front state slot place are stood refers left =
+returns-in-Some-clause-moved c start handed all front state slot place are stood refers left =
     home_moves state slot place c.args.at c.in-Some.home stood refers left
     (refers_by (heap_words c.args.main.now.seat) c.args.at c.word-word.result c.in-Some.home c.word-word.ensures.of_heap
     c.in-Some.ensures)

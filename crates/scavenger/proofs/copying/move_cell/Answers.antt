@@ -87,7 +87,7 @@ push_reserved-requires c =
     omega (arith, list_is_short found, c.requires.room)
 
 pub returns-clause-moved : goal.returns-clause-moved
-returns-clause-moved c start all front state slot place are stood refers left =
+returns-clause-moved c start handed all front state slot place are stood refers left =
     found_moves state slot place c.args.at c.args.word c.place_for-to.result c.known_cell_by-cell.result stood refers
     left
     c.requires.read c.requires.unmoved c.known_cell_by-cell.ensures.one (c.place_for-to.ensures all are)

@@ -77,7 +77,8 @@ returns-clause-taken c =
     let takes : CutsFreeCell main new c.args.size run c.known_cell-free.result =
     run_taken c.known_cell-free.result c.take_free.ensures.rest c.in_ok-run.ensures.taken
     (omega (arith, found.enough, size)) c.put_free_cell.ensures.beside c.put_free_cell.ensures.paths
-    c.put_free_cell.ensures.young c.put_free_cell.ensures.heap c.put_free_cell.ensures.touches in (
+    c.put_free_cell.ensures.cycle c.put_free_cell.ensures.young c.put_free_cell.ensures.heap
+    c.put_free_cell.ensures.touches in (
       run,
       found.free,
       refl,

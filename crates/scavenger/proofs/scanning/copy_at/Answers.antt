@@ -14,6 +14,6 @@ known_cell-requires c =
     subst Stands there.stands (copy_stands there.scavenging there.home there.among)
 
 pub returns : goal.returns
-returns c start all progress todo front state home among at =
+returns c start handed all progress todo front state home among at =
     let stands = c.known_cell.ensures.stands in
     is_copy state home among c.known_cell.result stands.is_cell (stands.stands ∙ sym at)

@@ -11,10 +11,11 @@ use Rattle.scavenger.proofs.scanning.scavenge_roots.Goals as goal
 
 pub loop-variable-init : goal.loop-variable-init
 loop-variable-init c = record {
-  scavenging = λ start all are state.
+  scavenging = λ start handed all are state.
       let same = ap (λ (space : Space). roots_start space) state.changes.seat.space in
       let first : roots_start c.args.main.now.seat.space ≡ root_at start.seat.space 0 = omega (arith, same) in
-      subst (λ (root : ℕ). Scavenging start c.args.main.now all c.args.worker.now.progress c.args.worker.now.list.items
+      subst (λ (root : ℕ). Scavenging start handed c.args.main.now all c.args.worker.now.progress
+      c.args.worker.now.list.items
       (at_root root)) first state;
   capacity = refl;
 }
@@ -22,35 +23,35 @@ loop-variable-init c = record {
 pub follow-requires-clause-quiet : goal.follow-requires-clause-quiet
 follow-requires-clause-quiet c =
     let given = c.requires.scavenging in
-    (c.loop-variable.invariant.scavenging given.0 given.1 given.2 given.3).quiet
+    (c.loop-variable.invariant.scavenging given.0 given.1 given.2 given.3 given.4).quiet
 
 pub follow-requires-clause-spaces : goal.follow-requires-clause-spaces
 follow-requires-clause-spaces c =
     let given = c.requires.scavenging in
-    let state = c.loop-variable.invariant.scavenging given.0 given.1 given.2 given.3 in
+    let state = c.loop-variable.invariant.scavenging given.0 given.1 given.2 given.3 given.4 in
     let variable = c.loop-variable.variable in
     let here = root_here c.regions-regions.result c.args.main.now.seat.space given.0.seat.space variable
-    c.variables-variable-end.result c.root_at.result c.regions-regions.ensures.regions given.3.changes.seat.space
+    c.variables-variable-end.result c.root_at.result c.regions-regions.ensures.regions given.4.changes.seat.space
     c.variables-variable-end.ensures c.loop-variable-test.true c.root_at.ensures.at in
     let place : ℕ = root_at given.0.seat.space variable in
     let stood = subst (λ (slot : ℕ). StoodAt state.fixed state.homes slot place) (sym here.1)
     (root_is_live state variable here.0) in (
-      given.1,
-      same_spaces c.args.spaces.now (changes_since given.3.changes state.changes) given.2,
+      given.2,
+      same_spaces c.args.spaces.now (changes_since given.4.changes state.changes) given.3,
       may_follow state c.root_at.result place stood,
     )
 
 pub follow-requires-clause-room : goal.follow-requires-clause-room
 follow-requires-clause-room c =
     let given = c.requires.scavenging in
-    let state = c.loop-variable.invariant.scavenging given.0 given.1 given.2 given.3 in
-    let same = same_young (changes_since given.3.changes state.changes) in
+    let state = c.loop-variable.invariant.scavenging given.0 given.1 given.2 given.3 given.4 in
+    let same = same_young (changes_since given.4.changes state.changes) in
     omega (arith, same, c.requires.room, c.loop-variable.invariant.capacity)
 
 pub loop-variable-preserved : goal.loop-variable-preserved
 loop-variable-preserved c = record {
-  scavenging = λ start all are begun.
-      let state = c.loop-variable.invariant.scavenging start all are begun in
+  scavenging = λ start handed all are begun.
+      let state = c.loop-variable.invariant.scavenging start handed all are begun in
       let variable = c.loop-variable.variable in
       let here = root_here c.regions-regions.result c.args.main.now.seat.space start.seat.space variable
       c.variables-variable-end.result c.root_at.result c.regions-regions.ensures.regions begun.changes.seat.space
@@ -59,14 +60,14 @@ loop-variable-preserved c = record {
       let stood = subst (λ (slot : ℕ). StoodAt state.fixed state.homes slot place) (sym here.1)
       (root_is_live state variable here.0) in
       roots_go_on variable here.1 state
-      (c.follow.ensures.followed start all (at_root place) state place
+      (c.follow.ensures.followed start handed all (at_root place) state place
       (same_spaces c.args.spaces.now (changes_since begun.changes state.changes) are) stood);
   capacity = c.follow.ensures.capacity ∙ c.loop-variable.invariant.capacity;
 }
 
 pub returns-clause-scavenging : goal.returns-clause-scavenging
-returns-clause-scavenging c start all are begun =
-    let state = c.loop-variable.invariant.scavenging start all are begun in
+returns-clause-scavenging c start handed all are begun =
+    let state = c.loop-variable.invariant.scavenging start handed all are begun in
     let kinds = kinds_by_number start.seat.space in
     let same : c.regions-regions.result ≡ start.seat.space =
     c.regions-regions.ensures.regions ∙ begun.changes.seat.space in
@@ -82,5 +83,5 @@ returns-clause-scavenging c start all are begun =
       ends,
       kinds.layouts,
     ) in
-    subst (λ (root : ℕ). Scavenging start c.loop-variable.main all c.loop-variable.worker.progress
+    subst (λ (root : ℕ). Scavenging start handed c.loop-variable.main all c.loop-variable.worker.progress
     c.loop-variable.worker.list.items (at_root root)) last state

@@ -16,13 +16,13 @@ word-requires c =
     slot_before_marks may.scavenging c.args.slot may.place may.stood c.addresses_fit.ensures.heap_counted
 
 pub returns-in_default-clause-followed : goal.returns-in_default-clause-followed
-returns-in_default-clause-followed c start all front state place are stood =
+returns-in_default-clause-followed c start handed all front state place are stood =
     let words = heap_words c.args.main.now.seat in
     let none = refers_nowhere words c.args.slot c.word.result c.word.ensures.of_heap c.in_default.ensures in
     done_already c.args.slot state (λ cell says left. absurd cc)
 
 pub returns-then-not-are_left-clause-followed : goal.returns-then-not-are_left-clause-followed
-returns-then-not-are_left-clause-followed c start all front state place are stood =
+returns-then-not-are_left-clause-followed c start handed all front state place are stood =
     let main = c.args.main.now in
     let refers = refers_by (heap_words main.seat) c.args.slot c.word.result c.in-Some.at c.word.ensures.of_heap
     c.in-Some.ensures in
@@ -57,7 +57,8 @@ store-requires-clause-may_store c =
     let left : IsFromSpace main.seat.space main.young.half c.in-Some.at =
     passed c.are_left.result c.if-not-are_left.false
     (c.are_left.ensures main.seat.space main.young.half c.requires.spaces.0 c.requires.spaces.1) in
-    let moved = c.home_of-home.ensures.moved may.start c.requires.spaces.0 may.front may.scavenging c.args.slot
+    let moved = c.home_of-home.ensures.moved may.start may.handed c.requires.spaces.0 may.front may.scavenging
+    c.args.slot
     may.place c.requires.spaces.1 may.stood refers left in
     quiet_may moved.on.next.quiet
 
@@ -70,7 +71,8 @@ store-requires-clause-within c =
     let left : IsFromSpace main.seat.space main.young.half c.in-Some.at =
     passed c.are_left.result c.if-not-are_left.false
     (c.are_left.ensures main.seat.space main.young.half c.requires.spaces.0 c.requires.spaces.1) in
-    let moved = c.home_of-home.ensures.moved may.start c.requires.spaces.0 may.front may.scavenging c.args.slot
+    let moved = c.home_of-home.ensures.moved may.start may.handed c.requires.spaces.0 may.front may.scavenging
+    c.args.slot
     may.place c.requires.spaces.1 may.stood refers left in
     let counted = c.addresses_fit.ensures.heap_counted in
     let before = slot_before_marks may.scavenging c.args.slot may.place may.stood counted in
@@ -78,13 +80,13 @@ store-requires-clause-within c =
     subst (λ (space : Space). c.args.slot + 0 < marks_start space) (sym same) (omega (arith, before))
 
 pub returns-clause-followed : goal.returns-clause-followed
-returns-clause-followed c start all front state place are stood =
+returns-clause-followed c start handed all front state place are stood =
     let main = c.args.main.now in
     let refers = refers_by (heap_words main.seat) c.args.slot c.word.result c.in-Some.at c.word.ensures.of_heap
     c.in-Some.ensures in
     let left : IsFromSpace main.seat.space main.young.half c.in-Some.at =
     passed c.are_left.result c.if-not-are_left.false (c.are_left.ensures main.seat.space main.young.half all are) in
-    let moved = c.home_of-home.ensures.moved start all front state c.args.slot place are stood refers left in
+    let moved = c.home_of-home.ensures.moved start handed all front state c.args.slot place are stood refers left in
     let before = slot_before_marks state c.args.slot place stood c.addresses_fit.ensures.heap_counted in
     let same = moved.on.next.changes.seat.space ∙ sym state.changes.seat.space in
     let back : c.args.slot + 0 ≡ c.args.slot = omega arith in

@@ -1,5 +1,6 @@
 -- The word is put, and then the header.
 use Rattle.std.proofs.Common.{◌+◌, ◌<◌, ap, subst, ◌∙◌, arith, rules}
+use Rattle.tagged_word.specs.Cells.{plain_head}
 use Rattle.page_space.specs.Extents.{Space, marks_start}
 use Rattle.heap_model.specs.Remembered.{Touch}
 use Rattle.write_barrier.specs.MutatorState.{Mutator}
@@ -18,8 +19,8 @@ returns c =
     let below : c.args.object < marks_start put.seat.space =
     omega (arith, ap (λ (s : Space). marks_start s) space, c.requires.can.within) in
     let touched : Touches mid put (touched_one (slot_touch (own_content c.args.new.value))
-    (c.args.object + (2 + c.args.new.slot))) =
-    subst (λ (how : Touch). Touches mid put (touched_one how (c.args.object + (2 + c.args.new.slot))))
+    (c.args.object + (plain_head + c.args.new.slot))) =
+    subst (λ (how : Touch). Touches mid put (touched_one how (c.args.object + (plain_head + c.args.new.slot))))
     (ap slot_touch c.requires.content) c.put_own.ensures.touches in
     record {
       next = c.step_to-next.result;
@@ -34,5 +35,5 @@ returns c =
       };
       touches = then_wiped c.args.object _
           (subst (λ slot. Touches mid put (touched_one (slot_touch (own_content c.args.new.value))
-          (c.args.object + (2 + slot)))) c.requires.new.slot touched) c.set_shape.ensures.put below;
+          (c.args.object + (plain_head + slot)))) c.requires.new.slot touched) c.set_shape.ensures.put below;
     }

@@ -10,8 +10,8 @@ use Rattle.object_cells.proofs.RestOfWords.{put_rest, filled_still}
 use Rattle.shape_change.proofs.Filled.{laid_space, filled_space}
 use Rattle.shape_change.proofs.set_slot.set_wider.Goals as goal
 
-pub blacken_for-requires-clause-within : goal.blacken_for-requires-clause-within
-blacken_for-requires-clause-within c =
+pub blacken-requires-clause-within : goal.blacken-requires-clause-within
+blacken-requires-clause-within c =
     let there = c.requires.can.there in
     let same =
     laid_space c.args.main.now c.filling_of.new.main c.changed_shape-next.new.main c.in_ok-filling.filling _ _
@@ -25,8 +25,8 @@ set_shape-requires-clause-within c =
     let filling = c.in_ok-filling.filling in
     let there = c.requires.can.there in
     let same = ap (λ (main : Mutator). main.seat.space) c.fill.ensures
-    ∙ filled_space c.blacken_for.new.main (place_at c.args.object c.args.setting.place) filling
-    ∙ ap (λ (main : Mutator). main.seat.space) c.blacken_for.ensures
+    ∙ filled_space c.blacken.new.self (place_at c.args.object c.args.setting.place) filling
+    ∙ ap (λ (main : Mutator). main.seat.space) (c.blacken.ensures.same (search rules))
     ∙ laid_space c.args.main.now c.filling_of.new.main c.changed_shape-next.new.main filling _ _
     c.in_ok-filling.ensures.allocates c.changed_shape-next.ensures.changes in
     subst (λ (space : Space). c.args.object < marks_start space) (sym same)
@@ -42,7 +42,7 @@ returns c =
     let there = c.requires.can.there in
     let at : ℕ = place_at c.args.object c.args.setting.place in
     let put : c.fill.new.main ≡ filled laid at filling =
-    c.fill.ensures ∙ ap (λ (main : Mutator). filled main at filling) c.blacken_for.ensures in
+    c.fill.ensures ∙ ap (λ (main : Mutator). filled main at filling) (c.blacken.ensures.same (search rules)) in
     let still = filled_still old between laid at filling c.in_ok-filling.ensures.allocates
     c.changed_shape-next.ensures.changes.seat c.requires.can.within c.in_ok-filling.ensures.before_marks in
     let stays = subst (λ (main : Mutator). RestStays old.seat main.seat) (sym put) still in

@@ -14,7 +14,7 @@ is_path_of-requires c =
     let words = words_of_cell heap cell in
     plain_shape heap cell words c.requires.plain (c.requires.sound cell words c.requires.stands)
 
--- it has two words and more
+-- it has three words and more
 pub word_of-store-requires-clause-within : goal.word_of-store-requires-clause-within
 word_of-store-requires-clause-within c =
     omega (arith, words_are_size c.requires.stands, words_by_kind kind.Plain c.requires.stands c.requires.plain)

@@ -10,7 +10,7 @@ use Rattle.table_tests.proofs.Heads.{no_head_of, of_reference}
 use Rattle.table_tests.proofs.gated.refer.Goals as goal
 
 -- the cells begin two words before the slot, or behind it
-beside : (start : ℕ) → Contains three_starts start → (2 < start) ⊎ (start + 2 ≤ 2)
+beside : (start : ℕ) → Contains three_starts start → (3 < start) ⊎ (start + 2 ≤ 3)
 beside start (zero, l, e) = inr (omega (arith, e))
 beside start (suc zero, l, e) = inl (omega (arith, e))
 beside start (suc (suc zero), l, e) = inl (omega (arith, e))
@@ -22,10 +22,10 @@ store_slot-requires-clause-may c =
     record {
       place = omega (arith, c.requires.page, c.counts-counts.ensures.words, c.counts-counts.ensures.old);
       no_head = λ start free.
-          no_head_of start 2 (cell_at main.old main.words main.layouts start)
+          no_head_of start 3 (cell_at main.old main.words main.layouts start)
           (beside start
           (subst (λ (all : List ℕ). Contains all start) c.requires.starts (free_is main.view start free).0));
-      slot_word = record { class = Ref 1026; fits = search rules; bits = refl; allowed = refl };
-      born = of_reference main.old 4105 1026 (Contains main.view.born) refl
-          (subst (λ (all : List ℕ). Contains all 1026) (sym c.requires.born) (2, omega arith, refl));
+      slot_word = record { class = Ref 1027; fits = search rules; bits = refl; allowed = refl };
+      born = of_reference main.old 4109 1027 (Contains main.view.born) refl
+          (subst (λ (all : List ℕ). Contains all 1027) (sym c.requires.born) (2, omega arith, refl));
     }

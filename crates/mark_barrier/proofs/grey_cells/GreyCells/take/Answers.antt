@@ -1,7 +1,6 @@
 -- The cell that was on the board is listed.
 use Rattle.std.proofs.Common.{◌≡◌, ℕ, true, Contains, IfSome, Some, slice_index, refl, sym, ap, subst, ◌∙◌, arith}
 use Rattle.tagged_word.specs.Readings.{reference_in}
-use Rattle.cell_list.specs.Listing.{Listing}
 use Rattle.mark_laws.proofs.MainStays.{born_old}
 use Rattle.mark_laws.proofs.Slots.{some_at}
 use Rattle.mark_world.specs.declared.event.Event.TheVariants as event
@@ -9,7 +8,9 @@ use Rattle.shared_table.specs.Worlds.{world_at_home}
 use Rattle.heap_table.specs.Overviews.{cycle_in, overview, stepped}
 use Rattle.heap_table.specs.Seats.{Seat}
 use Rattle.mark_barrier.specs.Paid.{IsPaid, ListsGrey, StepsTo, Takes}
-use Rattle.mark_barrier.proofs.Listed.{none_taken, taken_paid}
+use Rattle.mark_barrier.specs.Model.{waiting_in}
+use Rattle.mark_barrier.specs.Waiting.{Waiting}
+use Rattle.mark_barrier.proofs.Listed.{adds_listed, none_taken, taken_paid}
 use Rattle.mark_barrier.proofs.Steps.{take_steps}
 use Rattle.mark_barrier.proofs.grey_cells.GreyCells.take.Goals as goal
 
@@ -34,8 +35,8 @@ add-requires c =
     let born = found_born now c.sound.new.self c.take_board.result c.in-Some.at c.sound.ensures.same is
     c.take_board.ensures.born in
     let old = born_old (world_at_home (overview now)) c.sound.ensures.sound c.in-Some.at born in
-    let bound = ap (λ (l : Listing). l.bound) c.self.view_is in
-    omega (arith, old, bound, c.requires.paid.lists.bound)
+    let bound = ap (λ (w : Waiting). w.list.bound) c.self.view_is in
+    omega (arith, old, bound, c.requires.paid.lists.room.list)
 
 pub returns-in-Some-clause-paid : goal.returns-in-Some-clause-paid
 returns-in-Some-clause-paid c =
@@ -43,12 +44,14 @@ returns-in-Some-clause-paid c =
     let is : reference_in c.take_board.result ≡ Some c.in-Some.at = sym c.address.ensures ∙ c.in-Some.is in
     let born = found_born now c.sound.new.self c.take_board.result c.in-Some.at c.sound.ensures.same is
     c.take_board.ensures.born in
-    subst (λ (s : Seat). IsPaid s c.add.new.self)
+    let after : Waiting = record { list = c.add.new.self; passed = c.self.inside.passed } in
+    subst (λ (s : Seat). IsPaid s after)
     (taken_is now c.sound.new.self c.take_board.new.self c.args.place c.take_board.result c.sound.ensures.same
     c.take_board.ensures.taken)
-    (taken_paid now c.self.inside.list c.add.new.self c.in-Some.at
-    (subst (ListsGrey now) (sym c.self.view_is) c.requires.paid.lists) c.add.ensures.bound c.add.ensures.members
-    c.args.place c.take_board.result is c.requires.paid.owed born)
+    (taken_paid now (waiting_in c.self.inside) after c.in-Some.at
+    (subst (ListsGrey now) (sym c.self.view_is) c.requires.paid.lists)
+    (adds_listed c.self.inside.list c.add.new.self c.self.inside.passed c.in-Some.at c.add.ensures.bound
+    c.add.ensures.members) c.args.place c.take_board.result is c.requires.paid.owed born)
 
 pub returns-in_default-clause-paid : goal.returns-in_default-clause-paid
 returns-in_default-clause-paid c =

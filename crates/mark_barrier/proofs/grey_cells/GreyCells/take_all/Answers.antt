@@ -1,9 +1,10 @@
 -- One place more is taken from at each turn.
-use Rattle.std.proofs.Common.{◌≡◌, ◌∙◌, length, refl, sym, subst, arith}
-use Rattle.page_space.specs.Extents.{board_words}
+use Rattle.std.proofs.Common.{◌≡◌, ◌∙◌, length, sym, subst, arith}
+use Rattle.page_space.specs.Extents.{Space, board_words, eden_start}
 use Rattle.heap_table.specs.Overviews.{cycle_in, overview}
 use Rattle.heap_table.specs.Seats.{Seat}
 use Rattle.mark_barrier.specs.Paid.{IsPaid, StepsTo}
+use Rattle.mark_barrier.specs.Waiting.{HasRoom}
 use Rattle.mark_barrier.proofs.Dropped.{all_emptied, emptied_more}
 use Rattle.mark_barrier.proofs.Steps.{same_steps, steps_after}
 use Rattle.mark_barrier.proofs.grey_cells.GreyCells.take_all.Goals as goal
@@ -14,7 +15,6 @@ loop-place-init c =
     let same = sym c.whole.ensures.same in
     record {
       paid = subst (λ (s : Seat). IsPaid s c.args.self.now) same c.requires.paid;
-      bound = refl;
       steps = subst (λ (s : Seat). StepsTo now s now.table (cycle_in now)) same
           (same_steps now (c.layouts_fit.ensures.shared c.requires.mark));
       long = subst (λ (s : Seat). length (overview s).board ≡ board_words) same
@@ -32,12 +32,16 @@ loop-place-preserved c =
     let after = c.take.ensures in
     record {
       paid = after.paid;
-      bound = c.take.ensures.bound ∙ before.bound;
       steps = steps_after now c.loop-place.seat c.take.new.seat now.table (cycle_in now) before.steps after.steps;
       long = after.steps.board.count ∙ before.long;
       none = emptied_more (overview c.loop-place.seat).board (overview c.take.new.seat).board c.loop-place.place
           (omega (arith, before.long, c.loop-place-test.true)) after.takes.board before.none;
     }
+
+pub returns-clause-room : goal.returns-clause-room
+returns-clause-room c =
+    subst (λ (s : Space). HasRoom c.loop-place.self (eden_start s)) c.loop-place.invariant.steps.moves.space
+    c.loop-place.invariant.paid.lists.room
 
 pub returns-clause-empty : goal.returns-clause-empty
 returns-clause-empty c =

@@ -8,7 +8,6 @@ use Rattle.mark_barrier.proofs.grey_cells.GreyCells.take_all.Given as goal
 abbrev pub invariant-loop-place : goal.invariant-loop-place
 invariant-loop-place l = record {
   paid : IsPaid l.seat l.self;
-  bound : l.self.bound ≡ l.fn.self.bound;
   steps : StepsTo l.fn.seat l.seat l.fn.seat.table (cycle_in l.fn.seat);
   long : length (overview l.seat).board ≡ board_words;
   none : (k : ℕ) → k < l.place → slice_index (overview l.seat).board k ≡ 0;

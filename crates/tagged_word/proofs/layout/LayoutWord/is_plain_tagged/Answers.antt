@@ -1,11 +1,13 @@
 use Rattle.std.proofs.Common.{arith}
-use Rattle.tagged_word.proofs.Members.{rest_in, in_later}
-use Rattle.tagged_word.specs.Cells.{in_object_offsets}
+use Rattle.tagged_word.proofs.Offsets.{IsPlainSlot, plain_slot_is, plain_has_own, in_object_in}
 use Rattle.tagged_word.proofs.layout.LayoutWord.is_plain_tagged.Goals as goal
 
 pub returns : goal.returns
 returns c = (
-  (λ t. rest_in 1 (in_object_offsets c.args.self) c.args.offset (c.is_in_object_tagged.ensures.0 t)),
-  λ m. c.is_in_object_tagged.ensures.1
-      (in_later 1 (in_object_offsets c.args.self) c.args.offset (λ e. absurd (omega (arith, e))) m),
+  (λ t. plain_has_own c.args.self c.args.offset (c.is_in_object_tagged.ensures.0 t)),
+  λ m. elim (plain_slot_is c.args.self c.args.offset m) [
+    | IsPlainSlot.store e ↦ absurd (omega (arith, e))
+    | IsPlainSlot.proto e ↦ absurd (omega (arith, e))
+    | IsPlainSlot.own own ↦ c.is_in_object_tagged.ensures.1 (in_object_in c.args.self c.args.offset own)
+  ],
 )

@@ -28,7 +28,7 @@ invariant_of-main c =
       recorded = c.in_ok-remembered.ensures
           ∙ ap none_of c.sizes-pages.ensures;
       listed = c.in_ok-grey.ensures.listed;
-      lists = c.in_ok-grey.ensures.bound;
+      lists = c.in_ok-grey.ensures.room;
       empty = c.in_ok-grey.ensures.empty;
     })
 
@@ -44,7 +44,7 @@ start-requires c =
       recorded = c.in_ok-remembered.ensures
           ∙ ap none_of c.sizes-pages.ensures;
       listed = c.in_ok-grey.ensures.listed;
-      lists = c.in_ok-grey.ensures.bound;
+      lists = c.in_ok-grey.ensures.room;
       empty = c.in_ok-grey.ensures.empty;
     })
 

@@ -1,0 +1,15 @@
+-- The cell is passed over, where it is black.
+use Rattle.std.proofs.Common.{inl, inr, refl, sym, subst, Contains}
+use Rattle.mark_barrier.specs.Waiting.{Waiting}
+use Rattle.mark_barrier.proofs.grey_cells.GreyCells.passes.Goals as goal
+
+pub returns-in-Black-clause-told : goal.returns-in-Black-clause-told
+returns-in-Black-clause-told c = (λ _. (c.add.ensures.members c.args.at).1 (inr refl), λ _. refl)
+
+pub returns-in-Black-clause-others : goal.returns-in-Black-clause-others
+returns-in-Black-clause-others c one other = (
+  λ on. subst (λ (w : Waiting). Contains w.passed.addresses one) c.self.view_is
+      (elim ((c.add.ensures.members one).0 on) [ inl was ↦ was | inr is ↦ absurd (other is) ]),
+  λ on. (c.add.ensures.members one).1
+      (inl (subst (λ (w : Waiting). Contains w.passed.addresses one) (sym c.self.view_is) on)),
+)
