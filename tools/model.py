@@ -20,6 +20,7 @@ import importlib.util
 import os
 import sys
 from functools import partial
+from itertools import islice
 from pathlib import Path
 from typing import NamedTuple
 
@@ -33,6 +34,7 @@ LINES_MOST = 20_000_000
 FIELDS_MOST = 64
 PATHS_MOST = 8192
 ELEMENTS_MOST = 1000
+PROTOTYPES_MOST = 64
 
 
 def loaded(path):
@@ -152,8 +154,9 @@ class Machine:
 
     def do_get(self, y, x, name):
         plain, = self.read(Plain, x)
-        place = plain.place(name)
-        self.bind(y, None if place is None else plain.fields[place].value)
+        fields = (it.field(name) for it in islice(plain.chain(), 1 + PROTOTYPES_MOST))
+        first = next((it for it in fields if it), None)
+        self.bind(y, first.value if first else None)
 
     def do_del(self, x, name):
         plain, = self.read(Plain, x)
@@ -165,6 +168,14 @@ class Machine:
         # A wide field that moves from the store into the object stands raw there.
         for field in plain.fields[:plain.cap]:
             field.box = None if field.width == WIDE else field.box
+        self.heap.watch(plain)
+
+    def do_proto(self, x, v):
+        plain, value = self.read(Plain, x, v)
+        proto = None if value is None else found(value, Plain, Plain.fault)
+        if proto and plain in proto.chain():
+            raise Fault("ring")
+        plain.proto = proto
         self.heap.watch(plain)
 
     def do_push(self, x, v):

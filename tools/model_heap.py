@@ -104,13 +104,16 @@ class Plain(Object):
     def __init__(self, number, cap):
         super().__init__(number, PLAIN_HEAD + cap)
         self.cap, self.fields = cap, []
+        # The plain object that is its prototype, if it has one.
+        self.proto = None
 
     def held(self):
         return self.fields
 
     def own_slots(self):
         inside = [it for it in self.fields[:self.cap] if it.width != WIDE]
-        return super().own_slots() + [cell for it in inside for cell in it.target()]
+        proto = [self.proto.own] if self.proto else []
+        return super().own_slots() + proto + [cell for it in inside for cell in it.target()]
 
     def store_slots(self):
         """What the slots of its store refer to."""
@@ -119,6 +122,17 @@ class Plain(Object):
     def place(self, name):
         """Which of its fields has the name."""
         return next((place for place, it in enumerate(self.fields) if it.name == name), None)
+
+    def field(self, name):
+        """Its field of the name, if it has one."""
+        return next((it for it in self.fields if it.name == name), None)
+
+    def chain(self):
+        """The object itself, and those that follow it by prototypes."""
+        one = self
+        while one:
+            yield one
+            one = one.proto
 
     def path(self):
         """The names and representations of its fields."""
@@ -297,6 +311,8 @@ class Heap:
                 continue
             found[one] = None
             left += waiting.pop(one, ())
+            if isinstance(one, Plain):
+                left.append(one.proto)
             if not isinstance(one, WeakMap):
                 left += [it.value for it in one.held()]
                 continue

@@ -111,6 +111,8 @@ OPERANDS = {
     "alike": (X, X), "shape": (X,), "scavenge": (), "mark": (), "finish": (), "gc": (), "census": (),
     "repeat": (TURNS_MOST,), "end": (),
 }
+# The commands that a script of each version may have.
+VERSIONS = {1: OPERANDS, 2: {**OPERANDS, "proto": (X, V)}}
 NAME = re.compile(rb"[A-Za-z_][A-Za-z0-9_]{0,31}")
 INTEGER = re.compile(rb"0|-?[1-9][0-9]{0,18}")
 
@@ -127,11 +129,24 @@ def is_name(token):
     return bool(NAME.fullmatch(token)) and token != b"undefined"
 
 
+def version_of(number, tokens):
+    """The version that the first line with tokens gives a script: that of a line `version n`, and else 1."""
+    if tokens[0] != b"version":
+        return 1
+    if len(tokens) != 2:
+        raise Refused(number, "count")
+    if integer_of(tokens[1]) not in VERSIONS:
+        raise Refused(number, "integer")
+    return integer_of(tokens[1])
+
+
 class Reader:
     """Reads a source line by line. Variables are numbered in the order in which they are named."""
 
     def __init__(self):
         self.lines, self.opened = [], []
+        # The version of the script, once its first line with tokens was read.
+        self.version = None
         self.variables, self.fields = {}, {}
         self.past_names = None
 
@@ -163,12 +178,16 @@ class Reader:
         tokens = re.findall(rb"[^ \t\r]+", line.partition(b"#")[0])
         if not tokens:
             return
-        command = tokens[0].decode("latin-1")
-        if command not in OPERANDS:
+        if self.version is None:
+            self.version = version_of(number, tokens)
+            if tokens[0] == b"version":
+                return
+        command, commands = tokens[0].decode("latin-1"), VERSIONS[self.version]
+        if command not in commands:
             raise Refused(number, "command")
-        if len(tokens) - 1 != len(OPERANDS[command]):
+        if len(tokens) - 1 != len(commands[command]):
             raise Refused(number, "count")
-        operands = [self.operand(number, kind, token) for kind, token in zip(OPERANDS[command], tokens[1:])]
+        operands = [self.operand(number, kind, token) for kind, token in zip(commands[command], tokens[1:])]
         self.nest(number, command, operands)
         self.lines.append(Line(number, command, operands))
 

@@ -2,4 +2,3 @@ pub mod Flags
 pub mod Exchanges
 pub mod Pushes
 pub mod Joins
-pub mod Removed

@@ -198,34 +198,6 @@ impl CellList {
         }
     }
 
-    /// The place of a listed address.
-    fn place_of(&self, at: u32) -> usize
-        requires { Contains self.now.addresses at }
-        ensures { slice_get self.now.addresses result ≡ Some at }
-    {
-        for place in 0..self.len() {
-            if self.get(place) == at {
-                return place;
-            }
-        }
-        unreachable!()
-    }
-
-    /// Takes the address off the list, if it is listed. The time goes by how many are listed.
-    pub fn remove(&mut self, at: u32)
-        requires { at < self.old.bound }
-        ensures bound { self.new.bound ≡ self.old.bound }
-        ensures members { (other : ℕ) → Contains self.new.addresses other ↔
-            (Contains self.old.addresses other × (other ≢ at)) }
-        ensures few { length self.new.addresses ≤ length self.old.addresses }
-    {
-        if self.contains(at) {
-            let place = self.place_of(at);
-            self.bring(place);
-            self.pop();
-        }
-    }
-
     /// No address is listed any more. The time goes by how many there were, if these are few among the
     /// flags; else the flags go at once, and later pushes write them anew, a stretch at a time.
     pub fn clear(&mut self)

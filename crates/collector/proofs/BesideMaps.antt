@@ -1,9 +1,10 @@
 -- Which words are neither the count of a weak map nor a word of a pair of its table: those of any other cell, and those
 -- behind all cells.
-use Rattle.std.proofs.Common.{◌≡◌, ◌≢◌, ℕ, ◌+◌, ◌*◌, ◌<◌, ◌≤◌, inl, inr, List, unwrap_or, sym, ◌∙◌, ap, subst, arith}
-use Rattle.std.proofs.lemmas.Bool.{cases_lt}
+use Rattle.std.proofs.Common.{◌≡◌, ◌≢◌, ℕ, ◌+◌, ◌*◌, ◌<◌, ◌≤◌, inl, inr, List, Contains, unwrap_or, sym, ◌∙◌, ap}
+use Rattle.std.proofs.Common.{subst, arith}
+use Rattle.std.proofs.lemmas.Bool.{cases_lt, false≢true}
 use Rattle.tagged_word.specs.declared.layout.Kind.TheVariants as kind
-use Rattle.tagged_word.specs.Cells.{store_head, store_slot}
+use Rattle.tagged_word.specs.Cells.{store_head, store_slot, is_object_kind}
 use Rattle.tagged_word.proofs.Readings.{reference_to}
 use Rattle.page_space.specs.Sizes.{AreWithin}
 use Rattle.page_space.specs.Extents.{roots_start}
@@ -59,10 +60,12 @@ module _ {heap : Heap} (whole : Whole heap) (within : AreWithin heap.space.sizes
         size = omega (arith, found.size, capacity);
       }
 
-  -- a word of a cell that is no table is none of a pair
+  -- a word of a cell is none of a pair of a weak map, if the cell is not the map's table
   no_pair_word : {map : ℕ} {cell : Cell} {words : List ℕ} (word : ℕ) → IsWeakCellAt heap map → HasCell heap cell words
-      → IsOfCell cell word → (cell.layout.kind ≡ kind.Table → ⊥) → IsNoPairWord heap map word
-  no_pair_word word there has of_cell no_table table refers =
+      → IsOfCell cell word
+      → (cell.layout.kind ≡ kind.Table → word_at heap (map + store_slot) ≡ reference_word cell.at → ⊥)
+      → IsNoPairWord heap map word
+  no_pair_word {map} word there has of_cell spared table refers =
       let one = table_cell table there refers in
       elim (cases_lt word (table + store_head)) [
         | inl before ↦ inl before
@@ -70,7 +73,8 @@ module _ {heap : Heap} (whole : Whole heap) (within : AreWithin heap.space.sizes
           | inl below ↦
               let same = cells_apart word whole.rows has one.has of_cell
               (record { from = omega (arith, from, one.stands); below = below }) in
-              absurd (no_table (ap (λ (c : Cell). c.layout.kind) same ∙ one.of_kind))
+              absurd (spared (ap (λ (c : Cell). c.layout.kind) same ∙ one.of_kind)
+              (refers ∙ ap reference_word (sym one.stands ∙ ap (λ (c : Cell). c.at) (sym same))))
           | inr behind ↦ inr (omega (arith, behind, one.stands, one.size))
         ]
       ]
@@ -91,8 +95,21 @@ module _ {heap : Heap} (whole : Whole heap) (within : AreWithin heap.space.sizes
   pub cell_beside : {cell : Cell} {words : List ℕ} (maps : List ℕ) (word : ℕ) → AreMaps heap maps
       → HasCell heap cell words → IsOfCell cell word → (cell.layout.kind ≡ kind.Table → ⊥)
       → (cell.layout.kind ≡ kind.Weak → word ≢ cell.at + count_offset) → IsBesideMaps heap maps word
-  cell_beside maps word are has of_cell no_table spared map among =
-      (no_count word (are map among) has of_cell spared, no_pair_word word (are map among) has of_cell no_table)
+  cell_beside maps word are has of_cell no_table spared map among = (
+    no_count word (are map among) has of_cell spared,
+    no_pair_word word (are map among) has of_cell (λ is_table refers. no_table is_table),
+  )
+
+  -- and so is a word of a table to which no map refers
+  pub table_beside : {cell : Cell} {words : List ℕ} (maps : List ℕ) (word : ℕ) → AreMaps heap maps
+      → HasCell heap cell words → IsOfCell cell word → cell.layout.kind ≡ kind.Table
+      → ((map : ℕ) → Contains maps map → word_at heap (map + store_slot) ≡ reference_word cell.at → ⊥)
+      → IsBesideMaps heap maps word
+  table_beside maps word are has of_cell is spared map among = (
+    no_count word (are map among) has of_cell (λ weak.
+        absurd (false≢true (ap is_object_kind (sym is ∙ weak)))),
+    no_pair_word word (are map among) has of_cell (λ is_table refers. spared map among refers),
+  )
 
   -- and so is a word behind all cells
   pub behind_cells : (maps : List ℕ) (word : ℕ) → AreMaps heap maps → roots_start heap.space ≤ word

@@ -1,17 +1,19 @@
 -- What a full collection leaves is what a collection has to leave that ends a cycle of marking.
 use Rattle.std.proofs.Common.{◌≡◌, ℕ, ◌≤◌, ◌⊎◌, Bool, true, false, List, length, IsTrue, inl, inr}
-use Rattle.std.proofs.Common.{nat_lt, refl, ap, subst, arith}
+use Rattle.std.proofs.Common.{nat_lt, refl, sym, ap, subst, arith}
 use Rattle.std.proofs.lemmas.Bool.Decides.{nat_tests}
 use Rattle.tagged_word.specs.Cells.{is_free_kind}
 use Rattle.object_graph.specs.Graphs.{Graph}
 use Rattle.object_graph.specs.Reach.{is_marked, reach}
 use Rattle.heap_model.specs.Types.{Cell}
 use Rattle.heap_model.specs.Heaps.{Heap, HasCell}
+use Rattle.heap_model.specs.Wholeness.{IsOwnedKind}
 use Rattle.live_cells.specs.Exact.{Exact}
 use Rattle.live_cells.specs.Laws.{BelongsToReached}
 use Rattle.graph_laws.specs.ReachAfter.{StaysLost}
 use Rattle.collector.specs.Born.{MayStand, ExactIsBorn}
 use Rattle.collector.proofs.BornFronts.{dead_fills, copies_take_fronts}
+use Rattle.collector.proofs.KeptPairs.{exact_keys}
 use Rattle.collector.proofs.LiveLists.{used_is_live}
 
 -- what can be reached could be reached before, or was made since
@@ -29,7 +31,7 @@ packed_stands old exact has false is = MayStand.reached (used_is_live exact has 
 
 -- so a full collection leaves all that is to be left, and no other cell that is not free
 pub exact_is_born : ExactIsBorn
-exact_is_born opening old new rows graph stays leaves =
+exact_is_born opening old new rows graph stays shown leaves =
     let keeps = leaves.exact.keeps in
     record {
       space = leaves.space;
@@ -43,6 +45,9 @@ exact_is_born opening old new rows graph stays leaves =
       pairs = λ map before after had has lost.
           absurd (lost (subst (BelongsToReached new graph) has.stands
           (used_is_live leaves.exact has.has (ap is_free_kind has.of_kind))));
+      tables = λ cell before after had has is unnamed.
+          absurd (unnamed (keeps.named cell after has (subst IsOwnedKind (sym is) tt)));
+      keys = λ map key has. exact_keys shown keeps map key has;
       stands = λ cell words has. packed_stands old leaves.exact has (is_free_kind cell.layout.kind) refl;
       filled = dead_fills keeps.shows.whole.rows leaves.dead;
       free = leaves.free;

@@ -17,12 +17,14 @@ pub mod TakenPairs
 pub mod ClearedHeap
 pub mod SweptObjects
 mod MarkedWords
+mod MarkedTables
 pub mod SweptMarked
 pub mod Collected
 pub mod CollectedHeaps
 mod LiveLists
 pub mod FilledHeaps
 mod BornFronts
+mod KeptPairs
 pub mod BornHeaps
 pub mod SweptBorn
 pub mod LastMarkings

@@ -1,7 +1,7 @@
 -- What a sweep of marked cells leaves is what the end of a cycle has to leave.
 use Rattle.std.proofs.Common.{◌≡◌, ◌∙◌, ℕ, zero, suc, ◌+◌, ◌<◌, ◌≤◌, ◌⊎◌, Bool, true, false, inl, inr, List, Contains}
 use Rattle.std.proofs.Common.{IsTrue, refl, sym, ap, subst, arith}
-use Rattle.std.proofs.lemmas.Bool.{cases_lt, false_from_ne_true}
+use Rattle.std.proofs.lemmas.Bool.{cases_lt}
 use Rattle.tagged_word.specs.Cells.{is_free_kind}
 use Rattle.page_space.specs.Extents.{Space, eden_start}
 use Rattle.nursery.specs.Young.{Young}
@@ -9,7 +9,6 @@ use Rattle.object_graph.specs.Graphs.{Graph}
 use Rattle.heap_model.specs.Types.{Cell}
 use Rattle.heap_model.specs.Heaps.{HasCell}
 use Rattle.heap_model.specs.Kinds.{Pair}
-use Rattle.heap_model.proofs.StaysCollectable.{object_not_free}
 use Rattle.heap_moves.proofs.MovedWords.{contains_or_not}
 use Rattle.live_cells.specs.Exact.{IsWordOf}
 use Rattle.write_barrier.specs.MutatorState.{Mutator, heap_of}
@@ -21,7 +20,8 @@ use Rattle.collector.specs.Born.{MayStand, AreSomePairsOf}
 use Rattle.collector.specs.Images.{IsOfSomeCell}
 use Rattle.collector.specs.LastSweep.{SweptIsBorn}
 use Rattle.collector.specs.MarkSwept.{WasMarked, SweepsMarked}
-use Rattle.collector.proofs.SweptMarked.{with_marked_word}
+use Rattle.collector.proofs.KeptPairs.{place_stood, swept_keys}
+use Rattle.collector.proofs.SweptObjects.{with_marked_word}
 
 module _ {old new : Mutator} {marked : List ℕ} {graph : Graph} (sweeps : SweepsMarked old new marked graph) where
   -- where a cell has a word of a marked cell, it stood there
@@ -109,21 +109,10 @@ module _ {old new : Mutator} {marked : List ℕ} {graph : Graph} (sweeps : Sweep
 
 -- so it is
 pub swept_is_born : SweptIsBorn
-swept_is_born opening old new marked graph sweeps born no_dead = record {
+swept_is_born opening old new marked graph shown sweeps born no_dead = record {
   space = sweeps.seat.space;
   shows = sweeps.shows.shows;
-  born = λ number at place.
-      let kind_used = false_from_ne_true (is_free_kind place.cell.layout.kind)
-      (object_not_free place.cell.layout.kind place.object) in
-      let was = sweeps.used place.cell place.words place.has kind_used in
-      born number at (record {
-        cell = place.cell;
-        words = was.words;
-        has = was.had;
-        stands = place.stands;
-        object = place.object;
-        carries = place.carries;
-      }) (subst (Contains marked) place.stands was.among);
+  born = λ number at place. let stood = place_stood sweeps number at place in born number at stood.0 stood.1;
   no_dead_word = λ cell words has used of_page lost at word dead.
       let was = sweeps.used cell words has used in
       no_dead cell was.words at was.had used
@@ -132,6 +121,10 @@ swept_is_born opening old new marked graph sweeps born no_dead = record {
       let was = sweeps.used cell after has used in
       let kept = sweeps.others cell before had was.among no_map no_table in sym has.words_are ∙ kept.words_are;
   pairs = λ map before after had has lost. own_pairs sweeps map before after had has;
+  tables = λ cell before after had has is unnamed.
+      let was = sweeps.used cell after has (ap is_free_kind is) in
+      let kept = sweeps.tables cell before had was.among is unnamed in sym has.words_are ∙ kept.words_are;
+  keys = λ map key has. swept_keys sweeps shown.whole map key has;
   stands = λ cell words has. may_stand sweeps cell words has (is_free_kind cell.layout.kind) refl;
   filled = sweeps.filled;
   free = sweeps.shows.free;

@@ -9,16 +9,14 @@ use Rattle.nursery.specs.Young.{Young, no_run, other_half, with_granted}
 use Rattle.object_graph.specs.Graphs.{Graph}
 use Rattle.write_barrier.specs.Seats.{RestStays, heap_words}
 use Rattle.write_barrier.specs.Staying.{rest_stays_again}
-use Rattle.heap_model.specs.Types.{Cell, Run}
+use Rattle.heap_model.specs.Types.{Cell}
 use Rattle.heap_model.specs.Heaps.{Heap, HasCell, words_of_cell}
 use Rattle.heap_model.specs.Kinds.{Pair}
 use Rattle.heap_model.specs.Rooms.{RoomsAreNoFuller}
-use Rattle.heap_model.specs.Wholeness.{HasRows}
 use Rattle.heap_model.specs.Slots.{IsWeakCellAt}
 use Rattle.heap_model.specs.Showing.{Shows}
 use Rattle.heap_model.specs.Collectable.{IsCollectable}
 use Rattle.heap_model.specs.Remembered.{AreRemembered}
-use Rattle.heap_model.proofs.CellsApart.{cells_apart}
 use Rattle.heap_model.proofs.RowCovers.{stretch_alike}
 use Rattle.heap_model.proofs.RememberedSlots.{ends_in_page}
 use Rattle.heap_moves.specs.Standing.{Stays}
@@ -33,13 +31,15 @@ use Rattle.ephemeron_clear.specs.Clearing.{Clears}
 use Rattle.sweeper.specs.Swept.{Sweeps, IsOfMarked, IsCellWord, place_if_marked}
 use Rattle.collector.specs.Born.{FreeIsRun}
 use Rattle.collector.specs.MarkSwept.{Ungrants, MarkedCellsStay, MarkedWordsStay, IsBesideMarkedMaps}
-use Rattle.collector.specs.MarkSwept.{LeavesMarkedPairs, WasMarked, SweepsMarked}
+use Rattle.collector.specs.MarkSwept.{MarkedTablesStay, LeavesMarkedPairs, WasMarked, SweepsMarked}
 use Rattle.collector.proofs.BesideMaps.{cell_beside}
 use Rattle.collector.proofs.MarkedWords.{cell_is_kept, pairs_are_kept}
-use Rattle.collector.proofs.Ungranted.{heap_stays, ungranted_remembered}
+use Rattle.collector.proofs.MarkedTables.{marked_tables_stay}
+use Rattle.collector.proofs.Ungranted.{none_avoids, heap_stays, ungranted_remembered}
 use Rattle.collector.proofs.ClearedHeap.{IsMarked, are_maps, roots_are_marked, reached_is_marked, marked_is_used}
 use Rattle.collector.proofs.ClearedHeap.{sweepable, still_collectable, still_shown}
-use Rattle.collector.proofs.SweptObjects.{SweptAfter, marked_cells_stay, used_were_marked, rooms_no_fuller}
+use Rattle.collector.proofs.SweptObjects.{SweptAfter, marked_cells_stay, used_were_marked, with_marked_word}
+use Rattle.collector.proofs.SweptObjects.{rooms_no_fuller}
 
 -- From a heap that shows a graph, nothing was granted any more; of cells that were marked, from any starts, dead
 -- entries were cleared; and what was not marked was made free.
@@ -56,24 +56,6 @@ pub bare_shows : {old bare : Mutator} {graph : Graph} → MainShows old graph �
     → Shows (heap_of bare) graph
 bare_shows {graph = graph} shown ungrants =
     subst (λ (heap : Heap). Shows heap graph) (sym (heap_stays ungrants)) shown.shows
-
--- where marked cells stay, a cell that has a word of one of them is that cell
-pub with_marked_word : {old new : Heap} {marked : List ℕ} {cell : Cell} {words : List ℕ}
-    → MarkedCellsStay old new marked
-    → HasRows new → (at : ℕ) → HasCell new cell words → IsWordOf cell at → IsOfMarked old marked at
-    → WasMarked old marked cell
-with_marked_word {old} {marked = marked} stay rows at has word is =
-    let same = cells_apart at rows (stay is.cell is.words is.has is.among).1 has
-    (record { from = is.from; below = is.below }) (record { from = word.from; below = word.below }) in
-    record {
-      words = is.words;
-      had = subst (λ (one : Cell). HasCell old one is.words) same is.has;
-      among = subst (λ (one : Cell). Contains marked one.at) same is.among;
-    }
-
--- where no word is granted, no free run begins in what is
-none_avoids : (rows : List (List Run)) → AvoidsFree no_run rows
-none_avoids rows row one there among above below = omega (arith, below)
 
 module _ {old bare cleared new : Mutator} {graph : Graph} {given maps marked : List ℕ}
     (steps : Steps old bare cleared new graph given maps marked) where
@@ -160,6 +142,13 @@ module _ {old bare cleared new : Mutator} {graph : Graph} {given maps marked : L
       (record { from = from; below = below }) no_table (λ weak. absurd (no_map weak)))) in
       cell_is_kept steps.sweeps cell words
       (subst (HasCell (heap_of cleared) cell) (same ∙ has.words_are) (takes.cells.stays cell words has)) among
+
+  -- so has a table that no object names in the end
+  tables_stay : MarkedTablesStay (heap_of bare) (heap_of new) marked
+  tables_stay =
+      marked_tables_stay steps.is_marked.shows.whole steps.within (are_maps steps.is_marked) (λ map listed.
+      (steps.is_marked.live map).1 ((steps.is_marked.told map).0 listed).0) steps.clears.takes steps.sweeps
+      (marked_cells_stay after)
 
   -- of the pairs of marked weak maps those with marked keys are left
   pairs_are_left : (map : ℕ) (before : List Pair) → Contains marked map → HasPairsAt (heap_of bare) map before
@@ -293,6 +282,7 @@ module _ {old bare cleared new : Mutator} {graph : Graph} {given maps marked : L
     pairs = subst (λ (heap : Heap). (map : ℕ) (before : List Pair) → Contains marked map → HasPairsAt heap map before
         → LeavesMarkedPairs (heap_of new) map marked before) same_heap pairs_are_left;
     others = subst (λ (heap : Heap). MarkedWordsStay heap (heap_of new) marked) same_heap other_words_stay;
+    tables = subst (λ (heap : Heap). MarkedTablesStay heap (heap_of new) marked) same_heap tables_stay;
     of_cells = subst (λ (heap : Heap). (at : ℕ) → IsCellWord (heap_of new) at → IsCellWord heap at) same_heap
         cell_words_were;
     swept = subst (λ (heap : Heap). (at : ℕ) → at < eden_start heap.space

@@ -13,17 +13,20 @@ use Rattle.heap_model.specs.Slots.{IsPlace, IsWeakCellAt}
 use Rattle.heap_model.specs.Needs.{capacity_at, count_at}
 use Rattle.heap_model.specs.Rooms.{Room, room_at, IsNoFuller, RoomsAreNoFuller}
 use Rattle.heap_model.specs.Showing.{Shows}
+use Rattle.heap_model.specs.Wholeness.{HasRows}
+use Rattle.heap_model.proofs.CellsApart.{cells_apart}
 use Rattle.heap_moves.specs.Moved.{IsMoved}
 use Rattle.heap_moves.specs.Laws.{IsPlaceMoved}
 use Rattle.heap_moves.specs.Standing.{Stays}
 use Rattle.heap_moves.proofs.AllStands.{whole_for}
 use Rattle.heap_moves.proofs.MovedCells.{origin, place_before, place_moved}
 use Rattle.heap_moves.proofs.MovedRooms.{moves_keep_room}
+use Rattle.live_cells.specs.Exact.{IsWordOf}
 use Rattle.live_cells.specs.Keeping.{StayInPlace}
 use Rattle.live_cells.proofs.ReachedMarked.{shown_place}
 use Rattle.write_barrier.specs.MutatorState.{Mutator, heap_of}
 use Rattle.ephemeron_clear.specs.Clearing.{MarksReached, TakesUnmarked}
-use Rattle.sweeper.specs.Swept.{place_if_marked}
+use Rattle.sweeper.specs.Swept.{IsOfMarked, place_if_marked}
 use Rattle.sweeper.proofs.KeptPlaces.{place_is_kept, place_of_marked}
 use Rattle.collector.specs.MarkSwept.{MarkedCellsStay, WasMarked}
 
@@ -35,6 +38,20 @@ marked_stay marked = record {
       let kept = place_is_kept marked at now is in
       (sym kept.same, kept.among);
 }
+
+-- where marked cells stay, a cell that has a word of one of them is that cell
+pub with_marked_word : {old new : Heap} {marked : List ℕ} {cell : Cell} {words : List ℕ}
+    → MarkedCellsStay old new marked
+    → HasRows new → (at : ℕ) → HasCell new cell words → IsWordOf cell at → IsOfMarked old marked at
+    → WasMarked old marked cell
+with_marked_word {old} {marked = marked} stay rows at has word is =
+    let same = cells_apart at rows (stay is.cell is.words is.has is.among).1 has
+    (record { from = is.from; below = is.below }) (record { from = word.from; below = word.below }) in
+    record {
+      words = is.words;
+      had = subst (λ (one : Cell). HasCell old one is.words) same is.has;
+      among = subst (λ (one : Cell). Contains marked one.at) same is.among;
+    }
 
 -- Pairs were taken out of the tables of weak maps of a heap, and of what was left the marked cells stay in their
 -- places.

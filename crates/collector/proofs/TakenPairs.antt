@@ -47,7 +47,7 @@ pair_filled at key there key_is = record {
 }
 
 -- a filled pair of a map is one of the map
-pair_of_pairs : {heap : Heap} {map : ℕ} {pairs : List Pair} {pair : Pair} (at : ℕ) → HasPairsAt heap map pairs
+pub pair_of_pairs : {heap : Heap} {map : ℕ} {pairs : List Pair} {pair : Pair} (at : ℕ) → HasPairsAt heap map pairs
     → IsFilledAt pairs at pair → IsPairOfMap heap map pair
 pair_of_pairs {pairs = pairs} at has filled = record {
   cell = has.cell;

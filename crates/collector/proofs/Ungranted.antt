@@ -1,12 +1,14 @@
 -- Where nothing is granted any more, the heap is as it was, and so is what is recorded.
-use Rattle.std.proofs.Common.{◌≡◌, ◌<◌, inl, inr, sym, subst, arith}
+use Rattle.std.proofs.Common.{◌≡◌, ◌<◌, inl, inr, List, sym, subst, arith}
 use Rattle.std.proofs.lemmas.Bool.{cases_lt}
 use Rattle.page_space.specs.Extents.{eden_start}
 use Rattle.write_barrier.specs.Seats.{heap_words}
+use Rattle.nursery.specs.Young.{no_run}
+use Rattle.heap_model.specs.Types.{Run}
 use Rattle.heap_model.specs.Heaps.{Heap}
 use Rattle.heap_model.specs.Remembered.{Touch, IsRecordedBy, AreRemembered}
 use Rattle.heap_model.proofs.RememberedSlots.{page_slot_below}
-use Rattle.write_barrier.specs.MutatorState.{Mutator, heap_of}
+use Rattle.write_barrier.specs.MutatorState.{Mutator, heap_of, AvoidsFree}
 use Rattle.write_barrier.specs.Recording.{Touches, touched, untouched}
 use Rattle.write_barrier.proofs.TouchedRanges.{touched_outside}
 use Rattle.collector.specs.MarkSwept.{Ungrants}
@@ -24,6 +26,10 @@ none_touched {old} {new} touches = record {
     beyond = touches.records.beyond;
   };
 }
+
+-- where no word is granted, no free run begins in what is
+pub none_avoids : (rows : List (List Run)) → AvoidsFree no_run rows
+none_avoids rows row one there among above below = omega (arith, below)
 
 module _ {old new : Mutator} (ungrants : Ungrants old new) where
   -- the heap is as it was

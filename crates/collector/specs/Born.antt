@@ -15,8 +15,9 @@ use Rattle.heap_model.specs.Kinds.{Pair}
 use Rattle.heap_model.specs.Collectable.{AreFreeRuns}
 use Rattle.heap_model.specs.Rooms.{RoomsAreNoFuller}
 use Rattle.heap_model.specs.Showing.{Shows}
-use Rattle.heap_model.specs.Slots.{IsPlace}
-use Rattle.live_cells.specs.Exact.{IsWordOf}
+use Rattle.heap_model.specs.Slots.{IsPlace, RefersToPlace}
+use Rattle.live_cells.specs.Cleared.{IsPairOfMap}
+use Rattle.live_cells.specs.Exact.{IsNamedByObject, IsWordOf}
 use Rattle.live_cells.specs.Laws.{BelongsToReached}
 use Rattle.live_cells.specs.Live.{IsLive, IsRootTarget}
 use Rattle.weak_pairs.specs.Pairs.{HasPairsAt, IsFilledAt}
@@ -81,6 +82,14 @@ pub record AreSomePairsOf (before after : List Pair) : Type 0 where
   pub apart : (at other : ℕ) (pair another : Pair) → IsFilledAt after at pair → IsFilledAt after other another
       → origin at ≡ origin other → at ≡ other
 
+-- A weak map of this number stands in the heap, and a pair of its table has the object of the other number as its key.
+pub record HasPairOf (heap : Heap) (map key : ℕ) : Type 0 where
+  pub at : ℕ
+  pub place : IsPlace heap map at
+  pub pair : Pair
+  pub is : IsPairOfMap heap at pair
+  pub of_key : RefersToPlace heap pair.key key
+
 -- What a collection leaves that ends a cycle, of a heap that shows a graph, and whose pages have these free runs then.
 pub record LeavesBorn (opening : Opening) (old new : Heap) (rows : List (List Run)) (graph : Graph) : Type 0 where
   pub space : new.space ≡ old.space
@@ -102,6 +111,11 @@ pub record LeavesBorn (opening : Opening) (old new : Heap) (rows : List (List Ru
   -- many places
   pub pairs : (map : ℕ) (before after : List Pair) → HasPairsAt old map before → HasPairsAt new map after
       → (BelongsToReached new graph map → ⊥) → AreSomePairsOf before after
+  -- a weak table that is kept, and that no object names, has the words that it had
+  pub tables : (cell : Cell) (before after : List ℕ) → HasCell old cell before → HasCell new cell after
+      → cell.layout.kind ≡ kind.Table → (IsNamedByObject new cell.at → ⊥) → after ≡ before
+  -- a weak map has no pair of a key that it had none of
+  pub keys : (map key : ℕ) → HasPairOf new map key → HasPairOf old map key
   -- no cell is made that nothing needs; and of the young generation only words of cells that were not live become free
   pub stands : (cell : Cell) (words : List ℕ) → HasCell new cell words → MayStand old new graph cell
   -- what is free in pages is in free runs; these are single free cells that neither overlap nor touch
@@ -122,4 +136,4 @@ pub record LeavesBorn (opening : Opening) (old new : Heap) (rows : List (List Ru
 abbrev pub ExactIsBorn : Type 0
 ExactIsBorn =
     (opening : Opening) (old new : Heap) (rows : List (List Run)) (graph : Graph) → StaysLost opening.graph graph
-    → LeavesExact old new rows graph → LeavesBorn opening old new rows graph
+    → Shows old graph → LeavesExact old new rows graph → LeavesBorn opening old new rows graph

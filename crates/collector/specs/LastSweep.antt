@@ -7,6 +7,7 @@ use Rattle.object_graph.specs.Reach.{is_marked, reach}
 use Rattle.heap_model.specs.Types.{Cell}
 use Rattle.heap_model.specs.Heaps.{Heap, HasCell}
 use Rattle.heap_model.specs.Slots.{IsPlace}
+use Rattle.heap_model.specs.Showing.{Shows}
 use Rattle.live_cells.specs.Exact.{IsWordOf}
 use Rattle.live_cells.specs.Laws.{BelongsToReached}
 use Rattle.mark_world.specs.Cycles.{Cycle}
@@ -38,8 +39,9 @@ MarksNoDeadWord opening old new marked graph =
 -- table that its map outgrew.
 abbrev pub SweptIsBorn : Type 0
 SweptIsBorn =
-    (opening : Opening) (old new : Mutator) (marked : List ℕ) (graph : Graph) → SweepsMarked old new marked graph
-    → MarksBorn opening (heap_of old) marked → MarksNoDeadWord opening (heap_of old) (heap_of new) marked graph
+    (opening : Opening) (old new : Mutator) (marked : List ℕ) (graph : Graph) → Shows (heap_of old) graph
+    → SweepsMarked old new marked graph → MarksBorn opening (heap_of old) marked
+    → MarksNoDeadWord opening (heap_of old) (heap_of new) marked graph
     → LeavesBorn opening (heap_of old) (heap_of new) new.free graph
 
 -- A cycle that is open opened with this opening. It has the numbers of the objects that could be reached then, how many

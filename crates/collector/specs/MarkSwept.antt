@@ -13,7 +13,7 @@ use Rattle.heap_model.specs.Heaps.{Heap, HasCell}
 use Rattle.heap_model.specs.Kinds.{Pair, count_offset}
 use Rattle.heap_model.specs.Rooms.{RoomsAreNoFuller}
 use Rattle.heap_model.specs.Slots.{IsWeakCellAt}
-use Rattle.live_cells.specs.Exact.{KeepsNoOther}
+use Rattle.live_cells.specs.Exact.{KeepsNoOther, IsNamedByObject}
 use Rattle.live_cells.specs.Fitting.{DeadIsFree}
 use Rattle.live_cells.specs.Live.{IsLive, IsRootTarget, IsStart, AreNoTables, AreLiveFrom}
 use Rattle.write_barrier.specs.MutatorState.{Mutator, heap_of, MainShows}
@@ -86,6 +86,12 @@ MarkedWordsStay old new marked =
     (cell : Cell) (words : List ℕ) → HasCell old cell words → Contains marked cell.at
     → cell.layout.kind ≢ kind.Weak → cell.layout.kind ≢ kind.Table → HasCell new cell words
 
+-- each marked weak table that no object names in the end has the words that it had
+abbrev pub MarkedTablesStay : Heap → Heap → List ℕ → Type 0
+MarkedTablesStay old new marked =
+    (cell : Cell) (words : List ℕ) → HasCell old cell words → Contains marked cell.at
+    → cell.layout.kind ≡ kind.Table → (IsNamedByObject new cell.at → ⊥) → HasCell new cell words
+
 -- the word is neither the count of a marked weak map nor a word of a pair of its table
 abbrev pub IsBesideMarkedMaps : Heap → List ℕ → ℕ → Type 0
 IsBesideMarkedMaps heap marked word =
@@ -123,6 +129,8 @@ pub record SweepsMarked (old new : Mutator) (marked : List ℕ) (graph : Graph) 
       → LeavesMarkedPairs (heap_of new) map marked before
   -- so a marked cell that is neither a weak map nor a weak table has the words that it had
   pub others : MarkedWordsStay (heap_of old) (heap_of new) marked
+  -- and so has a marked weak table that no object names
+  pub tables : MarkedTablesStay (heap_of old) (heap_of new) marked
   -- free runs have just the words of pages that no marked cell had, in a row for each page; so they have the words of
   -- free cells of pages
   pub swept : (at : ℕ) → at < eden_start old.seat.space

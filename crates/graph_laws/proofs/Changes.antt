@@ -17,10 +17,36 @@ use Rattle.object_graph.specs.Paths.{path_of, with_path, missing}
 use Rattle.object_graph.specs.Objects.{field_value, without_field}
 use Rattle.object_graph.specs.Graphs.{Graph, PlainObject, ListObject, WeakObject, make, plain_at, list_at, weak_at}
 use Rattle.object_graph.specs.Meaning.{Limits, refill, relist, reweave, meaning}
+use Rattle.object_graph.specs.Prototypes.{proto_in, with_proto}
 use Rattle.object_graph.proofs.Leads.{Leads, each, if_not, if_there}
-use Rattle.graph_laws.specs.Laws.{changes, MayChange, SameKind}
+use Rattle.graph_laws.specs.Laws.{changes, MayChange, SameKind, GivesProtos}
 use Rattle.object_graph.proofs.AddedPaths.{with_path-is}
 use Rattle.graph_laws.proofs.FoundObjects.{plain_at-is, list_at-is, weak_at-is}
+
+-- the object with another prototype, if it is a plain one
+abbrev pub with_other : Option ℕ → Object → Object
+with_other other (Plain cap proto fields) = Plain cap other fields
+with_other other (ListOf elements) = ListOf elements
+with_other other (Weak entries) = Weak entries
+
+-- a command that gives no prototype leaves that of the object, and one that gives a prototype leaves all else
+pub record LeavesRest (command : Command) (old new : Object) : Type 0 where
+  pub proto : ¬ GivesProtos command → proto_in new ≡ proto_in old
+  pub fields : GivesProtos command → (other : Option ℕ) × (new ≡ with_other other old)
+
+-- a command that gives no prototype leaves the rest where it leaves the prototype
+leaves_proto : (command : Command) (old new : Object) → ¬ GivesProtos command → proto_in new ≡ proto_in old
+    → LeavesRest command old new
+leaves_proto command old new none same = record { proto = λ no. same; fields = λ gives. absurd (none gives) }
+
+-- a command that gives a prototype leaves the rest where it leaves all but the prototype
+leaves_fields : (command : Command) (old : Object) (other : Option ℕ) → GivesProtos command
+    → LeavesRest command old (with_other other old)
+leaves_fields command old other gives = record { proto = λ no. absurd (no gives); fields = λ given. (other, refl) }
+
+-- a command of another kind than those that give a prototype gives none
+gives_none : ⊥ → ⊥
+gives_none gives = gives
 
 -- the command binds and unbinds variables, makes an object, or puts one in the place of another of its kind
 pub data Changes (graph : Graph) (command : Command) : Graph → Type 0 where
@@ -28,7 +54,7 @@ pub data Changes (graph : Graph) (command : Command) : Graph → Type 0 where
   makes : (x : ℕ) (object : Object) → Changes graph command (make graph x object)
   puts : (number : ℕ) (old new : Object) (paths : List Path)
       → MayChange graph command number → slice_get graph.objects number ≡ Some old → SameKind old new
-      → take (length graph.paths) paths ≡ graph.paths
+      → LeavesRest command old new → take (length graph.paths) paths ≡ graph.paths
       → Changes graph command (record graph { objects = set graph.objects number new; paths = paths })
 
 -- the paths are their own first ones
@@ -54,38 +80,54 @@ rewrites : (graph : Graph) (command : Command) (x : ℕ) (target : Value) (numbe
     (old new : Object) (paths : List Path)
     → changes command ≡ Some x → get graph.bindings x ≡ Some target
     → (target ≡ Ref number) × (slice_get graph.objects number ≡ Some old)
-    → SameKind old new → take (length graph.paths) paths ≡ graph.paths
+    → SameKind old new → LeavesRest command old new → take (length graph.paths) paths ≡ graph.paths
     → Changes graph command (record graph { objects = set graph.objects number new; paths = paths })
-rewrites graph command x target number old new paths changed bound is same added =
-    puts number old new paths (may_change graph command x target number changed bound is.0) is.1 same added
+rewrites graph command x target number old new paths changed bound is same leaves added =
+    puts number old new paths (may_change graph command x target number changed bound is.0) is.1 same leaves added
 
 -- a list gets other elements
-relists : (graph : Graph) (command : Command) (x : ℕ) (target : Value) (list : ListObject) (elements : List Value)
+relists : (graph : Graph) (command : Command) (x : ℕ) (none : ¬ GivesProtos command) (target : Value)
+    (list : ListObject) (elements : List Value)
     → changes command ≡ Some x → get graph.bindings x ≡ Some target → list_at graph.objects target ≡ Some list
     → Changes graph command (relist graph list elements)
-relists graph command x target list elements changed bound at =
+relists graph command x none target list elements changed bound at =
     rewrites graph command x target list.number (ListOf list.elements) (ListOf elements) graph.paths changed bound
-    (list_at-is graph.objects target list at) tt (same_paths graph.paths)
+    (list_at-is graph.objects target list at) tt
+    (leaves_proto command (ListOf list.elements) (ListOf elements) none refl) (same_paths graph.paths)
 
 -- a weak map gets other entries
-reweaves : (graph : Graph) (command : Command) (x : ℕ) (target : Value) (weak : WeakObject) (entries : List Entry)
+reweaves : (graph : Graph) (command : Command) (x : ℕ) (none : ¬ GivesProtos command) (target : Value)
+    (weak : WeakObject) (entries : List Entry)
     → changes command ≡ Some x → get graph.bindings x ≡ Some target → weak_at graph.objects target ≡ Some weak
     → Changes graph command (reweave graph weak entries)
-reweaves graph command x target weak entries changed bound at =
+reweaves graph command x none target weak entries changed bound at =
     rewrites graph command x target weak.number (Weak weak.entries) (Weak entries) graph.paths changed bound
-    (weak_at-is graph.objects target weak at) tt (same_paths graph.paths)
+    (weak_at-is graph.objects target weak at) tt
+    (leaves_proto command (Weak weak.entries) (Weak entries) none refl) (same_paths graph.paths)
 
 -- a plain object gets other fields, and paths are added
-refills : (limits : Limits) (graph : Graph) (command : Command) (x : ℕ) (target : Value) (plain : PlainObject)
-    (fields : List Field) (paths : List Path)
+refills : (limits : Limits) (graph : Graph) (command : Command) (x : ℕ) (none : ¬ GivesProtos command)
+    (target : Value) (plain : PlainObject) (fields : List Field) (paths : List Path)
     → changes command ≡ Some x → get graph.bindings x ≡ Some target → plain_at graph.objects target ≡ Some plain
     → with_path limits.paths graph.paths (path_of plain.cap fields) ≡ Some paths
     → Changes graph command (refill graph plain fields paths)
-refills limits graph command x target plain fields paths changed bound at added =
+refills limits graph command x none target plain fields paths changed bound at added =
     rewrites graph command x target plain.number (Plain plain.cap plain.proto plain.fields)
     (Plain plain.cap plain.proto fields) paths changed bound
     (plain_at-is graph.objects target plain at) refl
+    (leaves_proto command (Plain plain.cap plain.proto plain.fields) (Plain plain.cap plain.proto fields) none refl)
     (more_paths limits.paths graph.paths paths (path_of plain.cap fields) added)
+
+-- a plain object gets another prototype, or none
+reprotos : (graph : Graph) (command : Command) (x : ℕ) (gives : GivesProtos command) (target : Value)
+    (plain : PlainObject) (proto : Option ℕ)
+    → changes command ≡ Some x → get graph.bindings x ≡ Some target → plain_at graph.objects target ≡ Some plain
+    → Changes graph command (with_proto graph plain proto)
+reprotos graph command x gives target plain proto changed bound at =
+    rewrites graph command x target plain.number (Plain plain.cap plain.proto plain.fields)
+    (Plain plain.cap proto plain.fields) graph.paths changed bound
+    (plain_at-is graph.objects target plain at) refl
+    (leaves_fields command (Plain plain.cap plain.proto plain.fields) proto gives) (same_paths graph.paths)
 
 -- the graph stays as it was
 stays : (graph : Graph) (command : Command) → Changes graph command graph
@@ -101,7 +143,7 @@ changed limits names graph (command.LetValue x v) = search (each, binds)
 changed limits names graph (command.DropVar x) = search (each, binds)
 changed limits names graph (command.Add x v) = search (each, if_not, binds) depth 12
 changed limits names graph (command.Set x f v) =
-    search (each, if_not, refills limits graph (command.Set x f v) x) depth 12
+    search (each, if_not, refills limits graph (command.Set x f v) x gives_none) depth 12
 changed limits names graph (command.Get y x f) = search (each, binds)
 changed limits names graph (command.Del x f) =
     let gone = λ (plain : PlainObject). without_field plain.fields f in
@@ -110,16 +152,19 @@ changed limits names graph (command.Del x f) =
     if_there (Changes graph (command.Del x f)) limits graph plain (field_value plain.fields f) (gone plain)
     (stays graph (command.Del x f))
     (each _ _ (with_path limits.paths graph.paths (path_of plain.cap (gone plain))) _ (λ paths added.
-    refills limits graph (command.Del x f) x target plain (gone plain) paths refl bound at added))))
-changed limits names graph (command.Push x v) = search (each, if_not, relists graph (command.Push x v) x) depth 12
-changed limits names graph (command.Put x i v) = search (each, relists graph (command.Put x i v) x) depth 12
+    refills limits graph (command.Del x f) x gives_none target plain (gone plain) paths refl bound at added))))
+changed limits names graph (command.Proto x v) =
+    search (each, if_not, reprotos graph (command.Proto x v) x tt) depth 14
+changed limits names graph (command.Push x v) =
+    search (each, if_not, relists graph (command.Push x v) x gives_none) depth 12
+changed limits names graph (command.Put x i v) = search (each, relists graph (command.Put x i v) x gives_none) depth 12
 changed limits names graph (command.At y x i) = search (each, binds) depth 12
-changed limits names graph (command.Shift x n) = search (each, relists graph (command.Shift x n) x) depth 12
-changed limits names graph (command.Trunc x n) = search (each, relists graph (command.Trunc x n) x) depth 12
+changed limits names graph (command.Shift x n) = search (each, relists graph (command.Shift x n) x gives_none) depth 12
+changed limits names graph (command.Trunc x n) = search (each, relists graph (command.Trunc x n) x gives_none) depth 12
 changed limits names graph (command.WPut m k v) =
-    search (each, if_not, reweaves graph (command.WPut m k v) m) depth 12
+    search (each, if_not, reweaves graph (command.WPut m k v) m gives_none) depth 12
 changed limits names graph (command.WGet y m k) = search (each, binds) depth 12
-changed limits names graph (command.WDel m k) = search (each, reweaves graph (command.WDel m k) m) depth 12
+changed limits names graph (command.WDel m k) = search (each, reweaves graph (command.WDel m k) m gives_none) depth 12
 changed limits names graph (command.Print v) = search (each, stays)
 changed limits names graph (command.Same a b) = search (each, stays)
 changed limits names graph (command.Alike x y) = search (each, stays) depth 12

@@ -12,8 +12,10 @@ use Rattle.graph_laws.specs.GraphLaws.{HasFieldLimit, FitsCommand, GraphsStay}
 use Rattle.object_graph.proofs.DistinctLists.{nil-distinct}
 use Rattle.object_graph.proofs.FirstPaths.{has_empty}
 use Rattle.graph_laws.proofs.Held.{operand_held, key_held, sum_held, element_held}
-use Rattle.graph_laws.proofs.HeldParts.{field_held, entry_held, with_field_held, without_field_held, with_entry_held}
+use Rattle.graph_laws.proofs.HeldParts.{entry_held, with_field_held, without_field_held, with_entry_held}
 use Rattle.graph_laws.proofs.HeldParts.{without_entry_held}
+use Rattle.graph_laws.proofs.FieldsAlong.{along_held}
+use Rattle.graph_laws.proofs.NewProtos.{reproto_held}
 use Rattle.graph_laws.proofs.HeldElements.{push_held, put_held, drop_held, take_held}
 use Rattle.graph_laws.proofs.MadeGraphs.{binds, unbinds, makes, reshapes, relists, reweaves, cap_held, fields_held}
 use Rattle.graph_laws.proofs.MadeGraphs.{elements_held, entries_held}
@@ -45,9 +47,10 @@ leads limits names graph (command.Set x f v) limited fits is =
       with_field_few,
       operand_held,
     ) depth 14
-leads limits names graph (command.Get y x f) limited fits is = search (each, binds, field_held, fields_held) depth 12
+leads limits names graph (command.Get y x f) limited fits is = search (each, binds, along_held) depth 12
 leads limits names graph (command.Del x f) limited fits is =
     search (each, if_there, reshapes, cap_held, fields_held, fields_few, without_field_held, without_field_few) depth 14
+leads limits names graph (command.Proto x v) limited fits is = search (each, if_fails, reproto_held) depth 14
 leads limits names graph (command.Push x v) limited fits is =
     search (each, if_fails, relists, push_held, elements_held, operand_held) depth 12
 leads limits names graph (command.Put x i v) limited fits is =

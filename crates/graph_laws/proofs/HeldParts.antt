@@ -22,11 +22,6 @@ field_value_all P (field ∷ fields) name none all =
     (λ same. All-head (λ f. P f.value) field fields all)
     (λ other. field_value_all P fields name none (All-tail (λ f. P f.value) field fields all))
 
--- a field that is read is a value over the objects that fields refer to
-pub field_held : (count : ℕ) (fields : List Field) (name : ℕ) → AreFields count fields
-    → IsValue count (unwrap_or (field_value fields name) Undefined)
-field_held count fields name are = field_value_all (IsValue count) fields name tt are.values
-
 -- the value of an entry has what the values of all entries of its key and `undefined` have
 pub entry_value_all : (P : Value → Type 0) (entries : List Entry) (key : ℕ) → P Undefined
     → All (λ e. e.key ≡ key → P e.value) entries → P (unwrap_or (entry_value entries key) Undefined)

@@ -12,12 +12,14 @@ use Rattle.object_graph.specs.declared.object.Field.{Field}
 use Rattle.object_graph.specs.declared.object.Entry.{Entry}
 use Rattle.object_graph.specs.declared.object.Object.{Object}
 use Rattle.object_graph.specs.declared.object.Object.TheVariants.{Plain, List as ListOf, Weak}
-use Rattle.object_graph.specs.Objects.{field_value, with_field, entry_value, with_entry}
+use Rattle.object_graph.specs.Objects.{with_field, entry_value, with_entry}
 use Rattle.object_graph.specs.Graphs.{Graph, PlainObject, ListObject, WeakObject, value_of, object_in, plain_at}
 use Rattle.object_graph.specs.Graphs.{list_at, weak_at}
+use Rattle.object_graph.specs.Prototypes.{proto_for}
 use Rattle.graph_laws.proofs.FoundObjects.{plain_at-is, list_at-is, weak_at-is}
+use Rattle.graph_laws.proofs.FoundProtos.{IsGiven, none_given, one_given, proto_for-is}
 use Rattle.graph_laws.proofs.Held.{element_all}
-use Rattle.graph_laws.proofs.HeldParts.{field_value_all, with_field_values, entry_value_all, with_entry_all}
+use Rattle.graph_laws.proofs.HeldParts.{with_field_values, entry_value_all, with_entry_all}
 
 -- if the value is an object, it is inside
 abbrev pub IsInside : (ℕ → Bool) → Value → Type 0
@@ -110,10 +112,17 @@ entries_inside inside graph x target weak stays bound at =
     object_inside inside graph x target weak.number (Weak weak.entries) stays bound
     (weak_at-is graph.objects target weak at)
 
--- a field that is read is inside where all are
-pub field_inside : (inside : ℕ → Bool) (fields : List Field) (name : ℕ) → FieldsInside inside fields
-    → IsInside inside (unwrap_or (field_value fields name) Undefined)
-field_inside inside fields name all = field_value_all (IsInside inside) fields name tt all
+-- what a value inside gives as a prototype is inside
+by_given : (inside : ℕ → Bool) (objects : List Object) (value : Value) (proto : Option ℕ)
+    → IsInside inside value → IsGiven objects value proto → ProtoInside inside proto
+by_given inside objects value proto is none_given = tt
+by_given inside objects value proto is (one_given plain at) = is
+
+-- so the prototype that a value inside gives is inside
+pub given_inside : (inside : ℕ → Bool) (objects : List Object) (value : Value) (proto : Option ℕ)
+    → IsInside inside value → proto_for objects value ≡ Some proto → ProtoInside inside proto
+given_inside inside objects value proto is gives =
+    by_given inside objects value proto is (proto_for-is objects value proto gives)
 
 -- an element that is read is inside where all are
 pub element_inside : (inside : ℕ → Bool) (elements : List Value) (place : Option ℕ) (value : Value)

@@ -1,5 +1,5 @@
 -- A graph that stays inside a set of objects does so after each command, where an object that is made is in the set.
-use Rattle.std.proofs.Common.{◌≡◌, ℕ, suc, zero, Bool, true, List, [], ◌∷◌, ◌++◌, length, set, Some, None, refl}
+use Rattle.std.proofs.Common.{◌≡◌, ℕ, suc, zero, Bool, true, List, [], ◌∷◌, ◌++◌, length, set, Option, Some, None, refl}
 use Rattle.std.proofs.Common.{ap, subst, ◌⊎◌, inl, inr}
 use Rattle.std.specs.Prelude.{All, slice_get, is_some, IsTrue}
 use Rattle.std.specs.FinMap.{remove}
@@ -18,14 +18,16 @@ use Rattle.object_graph.specs.Objects.{without_field, without_entry}
 use Rattle.object_graph.specs.Paths.{path_of, with_path}
 use Rattle.object_graph.specs.Graphs.{Graph, PlainObject, ListObject, WeakObject, bind, make}
 use Rattle.object_graph.specs.Meaning.{Limits, relist, reweave, reshape, meaning}
+use Rattle.object_graph.specs.Prototypes.{with_proto}
 use Rattle.object_graph.proofs.Leads.{Leads, each, if_not, if_there}
 use Rattle.graph_laws.specs.ReachAfter.{made_for}
 use Rattle.graph_laws.proofs.Held.{insert_all, remove_all}
 use Rattle.graph_laws.proofs.HeldParts.{without_field_values, without_entry_all}
 use Rattle.graph_laws.proofs.Inside.{IsInside, ProtoInside, FieldsInside, EntryInside, ObjectInside, StaysInside}
 use Rattle.graph_laws.proofs.Inside.{operand_inside, key_inside, proto_inside, fields_inside, elements_inside}
-use Rattle.graph_laws.proofs.Inside.{entries_inside, field_inside, element_inside, entry_inside, with_field_inside}
-use Rattle.graph_laws.proofs.Inside.{with_entry_inside}
+use Rattle.graph_laws.proofs.Inside.{entries_inside, element_inside, entry_inside, with_field_inside}
+use Rattle.graph_laws.proofs.Inside.{with_entry_inside, given_inside}
+use Rattle.graph_laws.proofs.FieldsAlong.{along_inside}
 
 -- after one was added at the end, an element is that one, at its place, or it was there
 pub pushed : {X : Type 0} (xs : List X) (added : X) (i : ℕ) (x : X) → slice_get (xs ++ added ∷ []) i ≡ Some x
@@ -92,6 +94,13 @@ reshapes inside limits graph plain fields stays leads all =
     each (StaysInside inside) _ (with_path limits.paths graph.paths (path_of plain.cap fields)) _ (λ paths added.
     puts inside graph plain.number (Plain plain.cap plain.proto fields) paths stays (leads, all))
 
+-- and where a plain object gets another prototype, which is inside, or none
+reprotos : (inside : ℕ → Bool) (graph : Graph) (plain : PlainObject) (proto : Option ℕ)
+    → StaysInside inside graph → ProtoInside inside proto → FieldsInside inside plain.fields
+    → StaysInside inside (with_proto graph plain proto)
+reprotos inside graph plain proto stays leads all =
+    puts inside graph plain.number (Plain plain.cap proto plain.fields) graph.paths stays (leads, all)
+
 -- and where a list gets other elements, all inside
 relists : (inside : ℕ → Bool) (graph : Graph) (list : ListObject) (elements : List Value)
     → StaysInside inside graph → All (IsInside inside) elements → StaysInside inside (relist graph list elements)
@@ -135,9 +144,11 @@ leads inside limits names graph (command.Set x f v) known is =
       operand_inside,
     ) depth 14
 leads inside limits names graph (command.Get y x f) known is =
-    search (each, binds, field_inside, fields_inside inside graph x) depth 12
+    search (each, binds, along_inside inside graph x) depth 12
 leads inside limits names graph (command.Del x f) known is =
     search (each, if_there, reshapes, proto_inside inside graph x, fields_inside inside graph x, fewer_fields) depth 14
+leads inside limits names graph (command.Proto x v) known is =
+    search (each, if_not, reprotos, given_inside, operand_inside, fields_inside inside graph x) depth 14
 leads inside limits names graph (command.Push x v) known is =
     search (each, if_not, relists, All-push, elements_inside inside graph x, operand_inside) depth 12
 leads inside limits names graph (command.Put x i v) known is =

@@ -1,5 +1,6 @@
 -- Prototypes stay in order where objects keep theirs.
-use Rattle.std.proofs.Common.{◌≡◌, ℕ, zero, suc, List, [], ◌∷◌, ◌++◌, set, Option, Some, None, refl, sym, ap, ◌∙◌}
+use Rattle.std.proofs.Common.{◌≡◌, ℕ, zero, suc, ◌<◌, List, [], ◌∷◌, ◌++◌, length, set, Option, Some, None}
+use Rattle.std.proofs.Common.{refl, sym, ap, ◌∙◌, arith}
 use Rattle.std.specs.Prelude.{slice_get, option_and_then}
 use Rattle.std.proofs.lemmas.Option.{none-some, same_Some}
 use Rattle.object_graph.specs.declared.object.Object.{Object}
@@ -36,6 +37,13 @@ proto_push [] object bare (suc n) = refl
 proto_push (first ∷ objects) object bare zero = refl
 proto_push (first ∷ objects) object bare (suc n) = proto_push objects object bare n
 
+-- an object more leaves the prototypes of those that were there
+pub proto_before : (objects : List Object) (added : Object) (n : ℕ) → n < length objects
+    → proto_of (objects ++ added ∷ []) n ≡ proto_of objects n
+proto_before [] added n within = absurd (omega (arith, within))
+proto_before (first ∷ objects) added zero within = refl
+proto_before (first ∷ objects) added (suc n) within = proto_before objects added n (omega (arith, within))
+
 -- what was plain is plain with an object more
 plain_push : (objects : List Object) (object : Object) (m n : ℕ) (plain : PlainObject)
     → option_and_then (as_plain m) (slice_get objects n) ≡ Some plain
@@ -51,14 +59,18 @@ protos_push objects object bare are =
     protos_kept objects (objects ++ object ∷ []) (proto_push objects object bare)
     (λ n is. (is.0, plain_push objects object n n is.0 is.1)) are
 
+-- the one object is plain where the other is
+abbrev pub StaysPlain : Object → Object → Type 0
+StaysPlain old new =
+    (m : ℕ) (was : PlainObject) → as_plain m old ≡ Some was → (is : PlainObject) × (as_plain m new ≡ Some is)
+
 -- the one object has the prototype of the other, and is plain where that is
 pub record KeepsProto (old new : Object) : Type 0 where
   pub same : proto_in new ≡ proto_in old
-  pub plain : (m : ℕ) (was : PlainObject) → as_plain m old ≡ Some was
-      → (is : PlainObject) × (as_plain m new ≡ Some is)
+  pub plain : StaysPlain old new
 
 -- an object that keeps the prototype, in the place of another, leaves those of all
-proto_set : (objects : List Object) (number : ℕ) (old new : Object) → slice_get objects number ≡ Some old
+pub proto_set : (objects : List Object) (number : ℕ) (old new : Object) → slice_get objects number ≡ Some old
     → proto_in new ≡ proto_in old → (n : ℕ) → proto_of (set objects number new) n ≡ proto_of objects n
 proto_set [] number old new there same n = refl
 proto_set (first ∷ objects) zero old new there same zero = same ∙ ap proto_in (sym (same_Some first old there))
@@ -66,22 +78,29 @@ proto_set (first ∷ objects) zero old new there same (suc n) = refl
 proto_set (first ∷ objects) (suc number) old new there same zero = refl
 proto_set (first ∷ objects) (suc number) old new there same (suc n) = proto_set objects number old new there same n
 
--- and what was plain stays plain
+-- what was plain stays plain
 plain_set : (objects : List Object) (number : ℕ) (old new : Object) → slice_get objects number ≡ Some old
-    → KeepsProto old new → (m n : ℕ) (was : PlainObject)
+    → StaysPlain old new → (m n : ℕ) (was : PlainObject)
     → option_and_then (as_plain m) (slice_get objects n) ≡ Some was
     → (is : PlainObject) × (option_and_then (as_plain m) (slice_get (set objects number new) n) ≡ Some is)
 plain_set [] number old new there keeps m n was is = absurd (none-some was is)
 plain_set (first ∷ objects) zero old new there keeps m zero was is =
-    keeps.plain m was (ap (as_plain m) (sym (same_Some first old there)) ∙ is)
+    keeps m was (ap (as_plain m) (sym (same_Some first old there)) ∙ is)
 plain_set (first ∷ objects) zero old new there keeps m (suc n) was is = (was, is)
 plain_set (first ∷ objects) (suc number) old new there keeps m zero was is = (was, is)
 plain_set (first ∷ objects) (suc number) old new there keeps m (suc n) was is =
     plain_set objects number old new there keeps m n was is
+
+-- so the objects that were plain are plain
+pub plain_numbers_stay : (objects : List Object) (number : ℕ) (old new : Object)
+    → slice_get objects number ≡ Some old → StaysPlain old new
+    → (n : ℕ) → IsPlainNumber objects n → IsPlainNumber (set objects number new) n
+plain_numbers_stay objects number old new there keeps n is =
+    plain_set objects number old new there keeps n n is.0 is.1
 
 -- prototypes stay in order where an object that keeps its own comes in the place of another
 pub protos_set : (objects : List Object) (number : ℕ) (old new : Object) → slice_get objects number ≡ Some old
     → KeepsProto old new → AreProtos objects → AreProtos (set objects number new)
 protos_set objects number old new there keeps are =
     protos_kept objects (set objects number new) (proto_set objects number old new there keeps.same)
-    (λ n is. plain_set objects number old new there keeps n n is.0 is.1) are
+    (plain_numbers_stay objects number old new there keeps.plain) are

@@ -1,7 +1,7 @@
 -- A graph of which a part is changed is a graph.
 use Rattle.std.proofs.Common.{◌≡◌, ℕ, ◌<◌, ◌≤◌, List, [], ◌∷◌, ◌++◌, length, set, Some, None, refl, sym}
 use Rattle.std.proofs.Common.{subst, arith, length-append, length-set}
-use Rattle.std.specs.Prelude.{All, Contains, ◌==◌, slice_get}
+use Rattle.std.specs.Prelude.{All, Contains, ◌==◌}
 use Rattle.std.specs.List.{IsDistinct}
 use Rattle.std.specs.FinMap.{remove}
 use Rattle.std.proofs.lemmas.Option.{none-some}
@@ -22,7 +22,7 @@ use Rattle.object_graph.specs.Meaning.{Limits, relist, reweave, reshape}
 use Rattle.heap_command.specs.Commands.{cap_most}
 use Rattle.object_graph.specs.Invariants.{fields_most, IsValue, AreFields, AreElements, AreEntries, IsObject}
 use Rattle.object_graph.specs.Invariants.{IsPlain}
-use Rattle.object_graph.specs.Prototypes.{proto_in}
+use Rattle.object_graph.specs.Prototypes.{proto_in, AreProtos}
 use Rattle.object_graph.specs.Invariants.{IsPath, ArePaths, HasItsPath, IsGraph}
 use Rattle.object_graph.proofs.Leads.{Leads, each}
 use Rattle.graph_laws.proofs.FoundObjects.{plain_at-is, list_at-is, weak_at-is}
@@ -83,14 +83,14 @@ path_kept old new keeps (Plain cap proto fields) has = keeps (path_of cap fields
 path_kept old new keeps (ListOf elements) has = tt
 path_kept old new keeps (Weak entries) has = tt
 
--- A graph with an object in the place of another, whose prototype it has, and with paths that keep those before, is a
--- graph.
-puts : (graph : Graph) (number : ℕ) (old object : Object) (paths : List Path)
-    → IsGraph graph → slice_get graph.objects number ≡ Some old → KeepsProto old object
+-- A graph with an object in the place of another, with which prototypes are in order, and with paths that keep those
+-- before, is a graph.
+pub puts : (graph : Graph) (number : ℕ) (object : Object) (paths : List Path)
+    → IsGraph graph → AreProtos (set graph.objects number object)
     → IsObject (length graph.objects) object → ArePaths paths
     → ((path : Path) → Contains graph.paths path → Contains paths path) → HasItsPath paths object
     → IsGraph (record graph { objects = set graph.objects number object; paths = paths })
-puts graph number old object paths is there same held are keeps shaped =
+puts graph number object paths is protos held are keeps shaped =
     let count = length graph.objects in
     let objects = set graph.objects number object in
     let more = length objects in
@@ -102,7 +102,7 @@ puts graph number old object paths is there same held are keeps shaped =
       made = objects_grow count more objects grows others;
       paths = are;
       shaped = All-set (HasItsPath paths) graph.objects number object shaped (kept graph.objects is.shaped);
-      protos = protos_set graph.objects number old object there same is.protos;
+      protos = protos;
     }
 
 -- the path of few fields of which no name stands twice may be a path
@@ -118,7 +118,7 @@ fields_are_path count cap fields capped few are =
     }
 
 -- a plain object of a graph has a cap of at most 8, and a prototype and fields of the graph's objects
-plain_held : (graph : Graph) (target : Value) (plain : PlainObject)
+pub plain_held : (graph : Graph) (target : Value) (plain : PlainObject)
     → IsGraph graph → plain_at graph.objects target ≡ Some plain
     → IsPlain (length graph.objects) plain.cap plain.proto plain.fields
 plain_held graph target plain is at =
@@ -145,8 +145,9 @@ reshapes limits graph target plain fields is at capped few held =
       plain = λ m one same.
           (record { number = m; cap = plain.cap; proto = plain.proto; fields = fields }, refl);
     } in
-    puts graph plain.number (Plain plain.cap plain.proto plain.fields) (Plain plain.cap plain.proto fields) paths is
-    (plain_at-is graph.objects target plain at).1 keeps now more.are more.keeps more.has)
+    let protos = protos_set graph.objects plain.number (Plain plain.cap plain.proto plain.fields)
+    (Plain plain.cap plain.proto fields) (plain_at-is graph.objects target plain at).1 keeps is.protos in
+    puts graph plain.number (Plain plain.cap plain.proto fields) paths is protos now more.are more.keeps more.has)
 
 -- a graph in which a list gets other elements is a graph
 pub relists : (graph : Graph) (target : Value) (list : ListObject) (elements : List Value)
@@ -155,8 +156,9 @@ pub relists : (graph : Graph) (target : Value) (list : ListObject) (elements : L
 relists graph target list elements is at held =
     let keeps : KeepsProto (ListOf list.elements) (ListOf elements) =
     record { same = refl; plain = λ m one same. absurd (none-some one same) } in
-    puts graph list.number (ListOf list.elements) (ListOf elements) graph.paths is
-    (list_at-is graph.objects target list at).1 keeps held is.paths (λ path there. there) tt
+    let protos = protos_set graph.objects list.number (ListOf list.elements) (ListOf elements)
+    (list_at-is graph.objects target list at).1 keeps is.protos in
+    puts graph list.number (ListOf elements) graph.paths is protos held is.paths (λ path there. there) tt
 
 -- a graph in which a weak map gets other entries is a graph
 pub reweaves : (graph : Graph) (target : Value) (weak : WeakObject) (entries : List Entry)
@@ -165,8 +167,9 @@ pub reweaves : (graph : Graph) (target : Value) (weak : WeakObject) (entries : L
 reweaves graph target weak entries is at held =
     let keeps : KeepsProto (Weak weak.entries) (Weak entries) =
     record { same = refl; plain = λ m one same. absurd (none-some one same) } in
-    puts graph weak.number (Weak weak.entries) (Weak entries) graph.paths is
-    (weak_at-is graph.objects target weak at).1 keeps held is.paths (λ path there. there) tt
+    let protos = protos_set graph.objects weak.number (Weak weak.entries) (Weak entries)
+    (weak_at-is graph.objects target weak at).1 keeps is.protos in
+    puts graph weak.number (Weak entries) graph.paths is protos held is.paths (λ path there. there) tt
 
 -- its cap is at most 8
 pub cap_held : (graph : Graph) (target : Value) (plain : PlainObject)

@@ -1,14 +1,16 @@
 -- Laws of the meaning: what a command leaves as it was, and how a run grows line by line.
-use Rattle.std.specs.Prelude.{◌≡◌, ℕ, ◌≤◌, List, [], ◌∷◌, ◌++◌, length, take, Option, Some, None}
+use Rattle.std.specs.Prelude.{◌≡◌, ℕ, ◌<◌, ◌≤◌, List, [], ◌∷◌, ◌++◌, length, take, Option, Some, None}
 use Rattle.std.specs.Prelude.{slice_get, option_and_then}
 use Rattle.std.specs.FinMap.{get}
 use Rattle.heap_command.specs.declared.command.Command.{Command}
-use Rattle.heap_command.specs.declared.command.Command.TheVariants.{Set, Del, Push, Put, Shift, Trunc, WPut, WDel}
-use Rattle.heap_command.specs.declared.command.Command.TheVariants.{Scavenge, Mark, Finish, Gc}
+use Rattle.heap_command.specs.declared.command.Command.TheVariants.{Set, Del, Proto, Push, Put, Shift, Trunc, WPut}
+use Rattle.heap_command.specs.declared.command.Command.TheVariants.{WDel, Scavenge, Mark, Finish, Gc}
 use Rattle.object_graph.specs.declared.value.Value.TheVariants.{Ref}
+use Rattle.object_graph.specs.declared.object.Field.{Field}
 use Rattle.object_graph.specs.declared.object.Object.{Object}
 use Rattle.object_graph.specs.declared.object.Object.TheVariants.{Plain, List as ListOf, Weak}
 use Rattle.object_graph.specs.Graphs.{Graph}
+use Rattle.object_graph.specs.Prototypes.{proto_of}
 use Rattle.object_graph.specs.Meaning.{Limits, done, meaning}
 use Rattle.heap_command.specs.Executed.{Executed}
 use Rattle.object_graph.specs.Run.{Told, tell, run_of, run_from, Ending, EndsAfter}
@@ -59,6 +61,7 @@ FaultsStay =
 abbrev pub changes : Command → Option ℕ
 changes (Set x f v) = Some x
 changes (Del x f) = Some x
+changes (Proto x v) = Some x
 changes (Push x v) = Some x
 changes (Put x i v) = Some x
 changes (Shift x n) = Some x
@@ -78,6 +81,11 @@ SameKind (ListOf elements) (ListOf others) = Unit {0}
 SameKind (Weak entries) (Weak others) = Unit {0}
 SameKind _ _ = ⊥
 
+-- the command gives an object a prototype, or takes it away
+abbrev pub GivesProtos : Command → Type 0
+GivesProtos (Proto x v) = Unit {0}
+GivesProtos _ = ⊥
+
 -- the objects of the graph are those of the graph after the command, by the same numbers
 pub record ObjectsKept (graph : Graph) (command : Command) (after : Graph) : Type 0 where
   -- none is taken out
@@ -88,6 +96,13 @@ pub record ObjectsKept (graph : Graph) (command : Command) (after : Graph) : Typ
   -- those that the command may not change stay as they are
   pub others : (number : ℕ) (object : Object) → slice_get graph.objects number ≡ Some object
       → ¬ MayChange graph command number → slice_get after.objects number ≡ Some object
+  -- each keeps its prototype, unless the command gives prototypes
+  pub protos : (number : ℕ) → number < length graph.objects → ¬ GivesProtos command
+      → proto_of after.objects number ≡ proto_of graph.objects number
+  -- a command that gives a prototype leaves the cap and the fields of each plain object
+  pub fields : GivesProtos command → (number cap : ℕ) (proto : Option ℕ) (fields : List Field)
+      → slice_get graph.objects number ≡ Some (Plain cap proto fields)
+      → (other : Option ℕ) × (slice_get after.objects number ≡ Some (Plain cap other fields))
 
 -- a command that is carried out keeps the objects
 abbrev pub ObjectsStay : Type 0

@@ -2,3 +2,4 @@ pub mod Laws
 pub mod ReachLaws
 pub mod ReachAfter
 pub mod GraphLaws
+pub mod ProtoLaws

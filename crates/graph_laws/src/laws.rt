@@ -19,8 +19,9 @@ pub fn laws_of_runs()
 {}
 
 /// No object is taken out, its number, its kind and its cap never change, and a command changes no
-/// object but the one that it names. Field paths are only added, after those that are there. A
-/// collection changes nothing and writes nothing.
+/// object but the one that it names. A command that gives a prototype leaves the fields of each
+/// object, and each other command leaves the prototypes. Field paths are only added, after those
+/// that are there. A collection changes nothing and writes nothing.
 pub fn laws_of_commands()
     ensures objects_stay { ObjectsStay }
     ensures paths_stay { PathsStay }
@@ -29,10 +30,10 @@ pub fn laws_of_commands()
 
 /// In each graph that a script makes, integers have 64 bits, references are to objects of the
 /// graph, no object has two fields of one name or two entries of one key, no list has more than
-/// 1,000 elements, and no cap is above 8. Its field paths begin with the nine empty ones; none
-/// stands twice; with each path its prefixes are there; no path has two fields of one name, more
-/// than 64 fields or a cap above 8; and the path of each plain object is among them, so that no
-/// object has more than 64 fields.
+/// 1,000 elements, no cap is above 8, and prototypes are plain objects in no ring. Its field paths
+/// begin with the nine empty ones; none stands twice; with each path its prefixes are there; no path
+/// has two fields of one name, more than 64 fields or a cap above 8; and the path of each plain
+/// object is among them, so that no object has more than 64 fields.
 ///
 /// That holds where the limits let no object have more than 64 fields, as those that
 /// `laws_of_limits` names, and where commands make no cap above 8 and store only literals of 64

@@ -4,9 +4,9 @@ ghost use Rattle.graph_laws.specs.ReachAfter.{OnlyMadeIsNew, MadeIsReached, Made
 ghost use Rattle.graph_laws.specs.ReachAfter.{LostStaysLost};
 
 /// An object that a variable is bound to is reached. What a reached object links to is reached: by
-/// a field, by an element, or by the value of an entry whose key is reached. Nothing else is
-/// reached: any set of objects that has what variables are bound to, and what its objects link to,
-/// has each reached object.
+/// its prototype, by a field, by an element, or by the value of an entry whose key is reached.
+/// Nothing else is reached: any set of objects that has what variables are bound to, and what its
+/// objects link to, has each reached object.
 pub fn laws_of_reach()
     ensures has_bound { ReachHasBound }
     ensures is_closed { ReachIsClosed }
@@ -15,8 +15,8 @@ pub fn laws_of_reach()
 
 /// After a command nothing can be reached that could not be reached before, but the object that the
 /// command made. That object is reached, as the command's variable is bound to it, and nothing else
-/// refers to it: no other variable, and no field, element, key or value of an object. So an object
-/// that is there and cannot be reached is never reached again, whatever lines come.
+/// refers to it: no other variable, and no prototype, field, element, key or value of an object. So
+/// an object that is there and cannot be reached is never reached again, whatever lines come.
 ///
 /// That holds of graphs that scripts make, and for whole runs under the conditions of
 /// `laws_of_graphs`.

@@ -1,5 +1,5 @@
 //! Tests of what a heap script means: of `heap_command` and of the slow program of `ideal_graph`,
-//! over their public calls. It has no items of its own. Scripts stand here as text.
+//! over their public calls. It has no items of its own. Scripts stand here as text, those with prototypes as commands.
 #![tactic(auto)]
 
 #[cfg(test)]
@@ -8,3 +8,5 @@ mod faults;
 mod limits;
 #[cfg(test)]
 mod meaning;
+#[cfg(test)]
+mod prototypes;

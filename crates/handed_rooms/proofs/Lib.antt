@@ -1,2 +1,2 @@
 mod Putting
-mod TakenIn
+pub mod TakenIn

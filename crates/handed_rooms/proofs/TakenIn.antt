@@ -239,7 +239,7 @@ module _ (own : Own) (recorded cells slots : List ℕ) (rooms : List Room) (all 
 
   module _ (taken : AreTakenIn (workers_of all) own.words words) where
     -- rooms and headers were put back
-    put_back : ArePutBack own all (fixed_of own cells slots rooms) words
+    pub put_back : ArePutBack own all (fixed_of own cells slots rooms) words
     put_back = record {
       long = taken_long (workers_of all) own.words words taken;
       rooms = λ one at there is.

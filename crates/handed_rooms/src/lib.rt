@@ -3,7 +3,7 @@
 //!
 //! Model: none of its own. `IsTakenIn` of `specs/Taken.antt` is what becomes of the words by one worker.
 //! Invariant: none. Where all workers were taken in, the words are `Copying` of `scav_copy` (`laws_of_rooms`).
-//! Below: `eden_copies`, `write_barrier`. Above: nothing so far.
+//! Below: `eden_copies`, `write_barrier`. Above: `lent_eden`.
 #![tactic(auto)]
 
 mod laws;

@@ -5,13 +5,13 @@ use Rattle.heap_command.specs.declared.command.Operand.{Operand}
 use Rattle.heap_command.specs.declared.command.Operand.TheVariants.{Int, Undefined, Var}
 use Rattle.heap_command.specs.declared.command.Command.{Command}
 use Rattle.heap_command.specs.declared.command.Command.TheVariants.{New, List, Weak, LetValue, DropVar, Add, Set, Get}
-use Rattle.heap_command.specs.declared.command.Command.TheVariants.{Del, Push, Put, At, Shift, Trunc, WPut, WGet}
+use Rattle.heap_command.specs.declared.command.Command.TheVariants.{Del, Proto, Push, Put, At, Shift, Trunc, WPut, WGet}
 use Rattle.heap_command.specs.declared.command.Command.TheVariants.{WDel, Print, Same, Alike, Shape, Scavenge, Mark}
 use Rattle.heap_command.specs.declared.command.Command.TheVariants.{Finish, Gc, Census}
 use Rattle.heap_command.specs.declared.command.FaultWord.{FaultWord}
 use Rattle.heap_command.specs.declared.command.FaultWord.TheVariants.{Unbound, NotObject, NotList, NotWeak, NotInt}
 use Rattle.heap_command.specs.declared.command.FaultWord.TheVariants.{BadKey, Range, Overflow, FieldsFull, ListFull}
-use Rattle.heap_command.specs.declared.command.FaultWord.TheVariants.{WeakFull, ShapesFull}
+use Rattle.heap_command.specs.declared.command.FaultWord.TheVariants.{WeakFull, ShapesFull, Ring}
 
 -- a variable that the operand names is below this count
 abbrev pub NamesBelow : ℕ → Operand → Type 0
@@ -34,6 +34,7 @@ IsWithin variables fields (Add x v) = (x < variables) × NamesBelow variables v
 IsWithin variables fields (Set x f v) = (x < variables) × (f < fields) × NamesBelow variables v
 IsWithin variables fields (Get y x f) = (y < variables) × (x < variables) × (f < fields)
 IsWithin variables fields (Del x f) = (x < variables) × (f < fields)
+IsWithin variables fields (Proto x v) = (x < variables) × NamesBelow variables v
 IsWithin variables fields (Push x v) = (x < variables) × NamesBelow variables v
 IsWithin variables fields (Put x i v) = (x < variables) × NamesBelow variables i × NamesBelow variables v
 IsWithin variables fields (At y x i) = (y < variables) × (x < variables) × NamesBelow variables i
@@ -66,3 +67,4 @@ fault_text FieldsFull = codes "fieldsfull"
 fault_text ListFull = codes "listfull"
 fault_text WeakFull = codes "weakfull"
 fault_text ShapesFull = codes "shapesfull"
+fault_text Ring = codes "ring"

@@ -30,10 +30,13 @@ pub enum Command {
     Add { x: u32, v: Operand },
     /// Gives the field `f` of `x` the value.
     Set { x: u32, f: u32, v: Operand },
-    /// Binds `y` to the field `f` of `x`, or to `undefined` where there is none.
+    /// Binds `y` to the field `f` of `x`, or of the nearest of its first 64 prototypes that has one, else to
+    /// `undefined`.
     Get { y: u32, x: u32, f: u32 },
     /// Takes the field `f` out of `x`.
     Del { x: u32, f: u32 },
+    /// Gives `x` the value as its prototype, or takes it away where the value is `undefined`.
+    Proto { x: u32, v: Operand },
     /// Puts the value last in the list `x`.
     Push { x: u32, v: Operand },
     /// Puts the value in place of element `i` of the list `x`.
@@ -97,6 +100,8 @@ pub enum FaultWord {
     WeakFull,
     /// There are as many field paths as there may be.
     ShapesFull,
+    /// The object would be its own prototype, or one of its prototypes' prototypes.
+    Ring,
 }
 
 impl FaultWord {
@@ -117,6 +122,7 @@ impl FaultWord {
             FaultWord::ListFull => "listfull",
             FaultWord::WeakFull => "weakfull",
             FaultWord::ShapesFull => "shapesfull",
+            FaultWord::Ring => "ring",
         }
     }
 }

@@ -257,6 +257,7 @@ rooms_after graph rooms (command.WDel m k) =
     with_room rooms weak.number (room_without (rooms weak.number) (entry_value weak.entries key))))
 rooms_after graph rooms (command.Put x i v) = rooms
 rooms_after graph rooms (command.Del x name) = rooms
+rooms_after graph rooms (command.Proto x v) = rooms
 rooms_after graph rooms (command.LetValue x v) = rooms
 rooms_after graph rooms (command.DropVar x) = rooms
 rooms_after graph rooms (command.Add x v) = rooms

@@ -77,6 +77,7 @@ puts_or_avoids names graph (command.Add x v) = PutsOrAvoids.avoiding _ (search (
 puts_or_avoids names graph (command.Set x f v) = PutsOrAvoids.avoiding _ (search (seeks, tests) depth 14)
 puts_or_avoids names graph (command.Get y x f) = PutsOrAvoids.avoiding _ (search (seeks) depth 14)
 puts_or_avoids names graph (command.Del x f) = PutsOrAvoids.avoiding _ (search (seeks, reshapes) depth 14)
+puts_or_avoids names graph (command.Proto x v) = PutsOrAvoids.avoiding _ (search (seeks, tests) depth 14)
 puts_or_avoids names graph (command.Push x v) = PutsOrAvoids.avoiding _ (search (seeks, tests) depth 14)
 puts_or_avoids names graph (command.Put x i v) = PutsOrAvoids.avoiding _ (search (seeks) depth 14)
 puts_or_avoids names graph (command.At y x i) = PutsOrAvoids.avoiding _ (search (seeks) depth 14)

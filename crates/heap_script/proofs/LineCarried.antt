@@ -158,7 +158,7 @@ Running-asked script heap after objects waiting old new at at' ts ts' n number c
     let before = r.reached.so_far.graph in
     let (opening, began, stays) = one_began r.opened before (sym r.cycle ∙ there) r.since in
     let leaves = exact_is_born opening (heap_of heap.main) (heap_of after.main) after.main.free before stays
-    collects.leaves in
+    r.shown.main.shows collects.leaves in
     let Uses : Command → Type 0 =
     λ one. LineAllocates r.opened (stage_of heap.main) (stage_of after.main) before carried.after
     uncollected (Some one) in

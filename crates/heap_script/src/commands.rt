@@ -45,6 +45,7 @@ pub(crate) fn execute<O: Outcome>(
         Command::Set { x, f, v } => Some(mutator::set(main, *x, *f, v)),
         Command::Get { y, x, f } => Some(mutator::get(main, *y, *x, *f)),
         Command::Del { x, f } => Some(O::of(mutator::del(main, *x, *f))),
+        Command::Proto { x, v } => Some(O::of(mutator::proto(main, *x, *v))),
         Command::Push { x, v } => Some(O::of(mutator::push(main, *x, *v))),
         Command::Put { x, i, v } => Some(O::of(mutator::put(main, *x, *i, *v))),
         Command::At { y, x, i } => Some(O::of(mutator::at(main, *y, *x, *i))),

@@ -8,6 +8,7 @@ mod lending;
 mod lists;
 mod lookups;
 mod printing;
+mod protos;
 mod reach;
 mod shapes;
 mod weak;
@@ -143,6 +144,7 @@ impl Ideal {
             Command::Set { x, f, v } => self.set(x, f, v),
             Command::Get { y, x, f } => self.get(y, x, f),
             Command::Del { x, f } => self.del(x, f),
+            Command::Proto { x, v } => self.proto(x, v),
             Command::Push { x, v } => self.push(x, v),
             Command::Put { x, i, v } => self.put(x, i, v),
             Command::At { y, x, i } => self.at(y, x, i),

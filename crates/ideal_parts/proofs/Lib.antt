@@ -4,3 +4,4 @@ mod PathLists
 pub mod BindingTrees
 mod BoundFrom
 mod MarkedEntries
+mod AlongProtos

@@ -11,6 +11,7 @@ mod lookups;
 mod marks;
 mod paths;
 mod places;
+mod protos;
 mod texts;
 
 pub use bindings::{bind, has_none_from, unbind};
@@ -19,4 +20,5 @@ pub use lookups::{List, Plain, Weak, has_no_room, is_full_for, list_at, plain_at
 pub use marks::{count_marked, is_marked, mark, mark_links, marked_entries};
 pub use paths::{empty_paths, missing, path_of, same_path};
 pub use places::{count_of, element_at, integer, key, place_in};
+pub use protos::{field_along, makes_ring, proto_for};
 pub use texts::{census_text, shape_text, value_text};

@@ -1,8 +1,11 @@
-//! Which prototypes of objects images show. No script makes an object with one.
+//! Which prototypes of objects images show.
 use crate::images::Change::{self, Word};
 use crate::images::image_of;
+use crate::shown_graphs::{D, K, SCRIPT, empty, go_on, is_shown};
 use crate::worked::MIXED;
 use heap_check::check;
+use heap_command::Command::{self, DropVar, Proto};
+use heap_command::Operand::{Undefined, Var};
 use ideal_graph::{Field, Fields, Object, Rep, Value};
 use slow_check::show_reached;
 use std::alloc::Global;
@@ -67,6 +70,50 @@ fn an_object_is_shown_with_its_prototype_alone(rt: HostRuntime) -> Result<(), Fa
         };
         let shown = show_reached(&image, &[false, false, true, true], &objects);
         assert_eq!(rt; shown, expected, "{what}");
+    }
+    Ok(())
+}
+
+/// Changes of the mixed heap, commands behind its script, what differs with them, and whether the image shows the
+/// graph in which number 3 is the prototype of number 2, and no variable is bound to it.
+type GraphCase = (&'static [Change], &'static [Command], &'static str, bool);
+
+const GRAPH_CASES: [GraphCase; 5] = [
+    (&[PROTO], &[], "nothing", true),
+    (&[], &[], "a prototype less", false),
+    (
+        &[PROTO, Word(2_072, 2)],
+        &[],
+        "another value under the key that the prototype keeps",
+        false,
+    ),
+    (
+        &[PROTO],
+        &[Proto { x: K, v: Undefined }],
+        "a prototype more",
+        false,
+    ),
+    (
+        &[],
+        &[Proto { x: K, v: Undefined }],
+        "the prototype taken away",
+        true,
+    ),
+];
+
+#[test]
+fn a_graph_is_shown_with_its_prototypes_alone(rt: HostRuntime) -> Result<(), Fail> {
+    for (changes, more, what, expected) in GRAPH_CASES {
+        let mut ideal = empty(rt.alloc())?;
+        go_on(&rt, &mut ideal, &SCRIPT[..10]);
+        go_on(
+            &rt,
+            &mut ideal,
+            &[Proto { x: K, v: Var(D) }, DropVar { x: D }],
+        );
+        go_on(&rt, &mut ideal, more);
+        let image = image_of(&rt, rt.alloc(), &MIXED, changes)?;
+        assert_eq!(rt; is_shown(rt.alloc(), &image, &ideal)?, expected, "{what}");
     }
     Ok(())
 }

@@ -37,15 +37,15 @@ module _ (start : Start) (fixed : Fixed) (first every : ℕ) (begun : IsBegun st
       ∙ ap (λ (layouts : List ℕ). read_cell start.heap.words layouts at last_address) begun.begins.layouts)
 
   -- with as many words
-  same_size : (at : ℕ) → size_in own at ≡ size_of fixed at
+  pub same_size : (at : ℕ) → size_in own at ≡ size_of fixed at
   same_size at = ap words_in (same_before at)
 
   -- and the same slots
-  same_slots : (at : ℕ) → slots_in own at ≡ offsets_of fixed at
+  pub same_slots : (at : ℕ) → slots_in own at ≡ offsets_of fixed at
   same_slots at = ap offsets_in (same_before at)
 
   -- a slot outside eden is one of the slots
-  outer_among : (slot : ℕ) → Contains (outer_slots own.space start.recorded) slot → Contains fixed.slots slot
+  pub outer_among : (slot : ℕ) → Contains (outer_slots own.space start.recorded) slot → Contains fixed.slots slot
   outer_among slot there =
       let roots : List ℕ = map (root_at own.space) (range_with_len 0 own.space.variables) in
       (begun.begins.slots slot).1 (elim (Contains-append_cases roots start.recorded slot there) [
@@ -67,7 +67,7 @@ module _ (start : Start) (fixed : Fixed) (first every : ℕ) (begun : IsBegun st
       (subst (λ (words : List ℕ). RefersToAddress words place cell) (sym begun.begins.before) refers.refers) refers.from
 
   -- so is what a way leads to
-  led_among : (cell : ℕ) → IsLed own deal cell → Contains fixed.cells cell
+  pub led_among : (cell : ℕ) → IsLed own deal cell → Contains fixed.cells cell
   led_among cell (IsLed.by_slot slot _ dealt refers) =
       let among : Contains (outer_slots own.space start.recorded) slot = (
         dealt.number,

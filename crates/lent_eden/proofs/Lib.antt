@@ -1,1 +1,6 @@
 mod Lending
+mod TakenBack
+mod NumberedWorkers
+mod RanWorkers
+mod HandedOver
+mod FewHanded

@@ -8,7 +8,6 @@ pub mod ObjectTargets
 pub mod SlotsReached
 pub mod LiveReached
 pub mod ReachedClosed
-pub mod Pigeons
 pub mod PairCounts
 pub mod FullMaps
 pub mod LiveKept

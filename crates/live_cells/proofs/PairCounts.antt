@@ -29,7 +29,7 @@ use Rattle.live_cells.specs.Counts.{reached_keys, IsReachedMap, MapsHaveReachedK
 use Rattle.live_cells.specs.Exact.{KeepsNoOther}
 use Rattle.live_cells.proofs.MarkedLinks.{element_at}
 use Rattle.live_cells.proofs.ObjectTargets.{at_is_in}
-use Rattle.live_cells.proofs.Pigeons.{no_more}
+use Rattle.graph_laws.proofs.Pigeons.{no_more}
 use Rattle.live_cells.proofs.ShownTargets.{one_number}
 
 -- whether a pair holds something

@@ -11,7 +11,7 @@ use Rattle.mark_laws.proofs.Joins.{all_from}
 use Rattle.mark_world.specs.Soundness.{AreIn}
 use Rattle.heap_table.specs.Overviews.{overview}
 use Rattle.heap_table.specs.Seats.{Seat}
-use Rattle.mark_barrier.specs.Paid.{FindsLast, FindsNone, IsBlackened, IsPaid, IsPassedOver}
+use Rattle.mark_barrier.specs.Paid.{FindsLast, FindsNone, IsBlackened, IsNotBlack, IsPaid, IsPassedOver}
 use Rattle.mark_barrier.specs.Waiting.{IsOn, Waiting}
 use Rattle.mark_barrier.proofs.Listed.{others_on}
 use Rattle.mark_barrier.proofs.Popped.{listed_before, still_listed, was_listed}
@@ -34,13 +34,6 @@ passes_none seat grey paid = record {
   paid = paid;
 }
 
--- those that are passed over are black, or were passed over before
-all_known : (seat : Seat) (before now : Waiting) (behind : List ℕ) → AreIn now.passed.addresses behind
-    → ((at : ℕ) → Contains now.passed.addresses at → IsPassedOver seat before at)
-    → All (IsPassedOver seat before) behind
-all_known seat before now behind passed known = all_from (IsPassedOver seat before) behind (λ at on.
-    known at (All-contains (Contains now.passed.addresses) behind at passed on))
-
 -- with none listed any more each is passed over
 pub finds_none : (seat : Seat) (before mid : Waiting) → Passes seat before mid → mid.list.addresses ≡ []
     → FindsNone seat before mid
@@ -50,8 +43,7 @@ finds_none seat before mid passes none =
     record {
       none = none;
       passed = subst (AreIn mid.passed.addresses) (sym all) passes.passed;
-      black = subst (All (IsPassedOver seat before)) (sym all)
-          (all_known seat before mid passes.behind passes.passed passes.known);
+      known = passes.known;
       paid = passes.paid;
     }
 
@@ -64,6 +56,7 @@ pub record LooksAt (seat : Seat) (mid now : Waiting) (at : ℕ) (result : Bool) 
   pub told : IsTrue result ↔ Contains now.passed.addresses at
   pub mine : Contains (overview seat).view.mine at → IsTrue result
   pub black : IsTrue result → IsPassedOver seat mid at
+  pub not_black : ¬ IsTrue result → IsNotBlack seat at
   pub others : (one : ℕ) → one ≢ at
       → Contains now.passed.addresses one ↔ Contains mid.passed.addresses one
   pub kept : Contains mid.passed.addresses at → IsTrue result
@@ -74,23 +67,26 @@ pub looks_at : (seat turn : Seat) (mid popped now : Waiting) (at : ℕ) (result 
     → popped.list.bound ≡ mid.list.bound → popped.passed ≡ mid.passed → now.list ≡ popped.list
     → now.passed.bound ≡ popped.passed.bound → (IsTrue result ↔ Contains now.passed.addresses at)
     → (Contains (overview turn).view.mine at → IsTrue result) → (IsTrue result → IsPassedOver turn popped at)
+    → (¬ IsTrue result → IsNotBlack turn at)
     → ((one : ℕ) → one ≢ at → Contains now.passed.addresses one ↔ Contains popped.passed.addresses one)
     → (Contains popped.passed.addresses at → IsTrue result) → LooksAt seat mid now at result
-looks_at seat turn mid popped now at result same last gone bound passed list room told mine black others kept = record {
-  last = subst (λ (l : Listing). mid.list ≡ pushed l at) (sym list) last;
-  gone = λ on. gone (subst (λ (l : Listing). Contains l.addresses at) list on);
-  list = ap (λ (l : Listing). l.bound) list ∙ bound;
-  bound = room ∙ ap (λ (l : Listing). l.bound) passed;
-  told = told;
-  mine = subst (λ (s : Seat). Contains (overview s).view.mine at → IsTrue result) same mine;
-  black = λ is. elim (black is) [
-    | inl looked ↦ inl (subst (λ (s : Seat). IsBlackened s at) same looked)
-    | inr was ↦ inr (subst (λ (l : Listing). Contains l.addresses at) passed was)
-  ];
-  others = subst (λ (l : Listing). (one : ℕ) → one ≢ at → Contains now.passed.addresses one ↔ Contains l.addresses one)
-      passed others;
-  kept = subst (λ (l : Listing). Contains l.addresses at → IsTrue result) passed kept;
-}
+looks_at seat turn mid popped now at result same last gone bound passed list room told mine black bright others kept =
+    record {
+      last = subst (λ (l : Listing). mid.list ≡ pushed l at) (sym list) last;
+      gone = λ on. gone (subst (λ (l : Listing). Contains l.addresses at) list on);
+      list = ap (λ (l : Listing). l.bound) list ∙ bound;
+      bound = room ∙ ap (λ (l : Listing). l.bound) passed;
+      told = told;
+      mine = subst (λ (s : Seat). Contains (overview s).view.mine at → IsTrue result) same mine;
+      black = λ is. elim (black is) [
+        | inl looked ↦ inl (subst (λ (s : Seat). IsBlackened s at) same looked)
+        | inr was ↦ inr (subst (λ (l : Listing). Contains l.addresses at) passed was)
+      ];
+      not_black = subst (λ (s : Seat). ¬ IsTrue result → IsNotBlack s at) same bright;
+      others = subst (λ (l : Listing). (one : ℕ) → one ≢ at
+          → Contains now.passed.addresses one ↔ Contains l.addresses one) passed others;
+      kept = subst (λ (l : Listing). Contains l.addresses at → IsTrue result) passed kept;
+    }
 
 module _ (seat : Seat) (before mid now : Waiting) (at : ℕ) (result : Bool) (passes : Passes seat before mid)
     (looks : LooksAt seat mid now at result) where
@@ -168,13 +164,21 @@ module _ (seat : Seat) (before mid now : Waiting) (at : ℕ) (result : Bool) (pa
     };
   }
 
+  -- what is passed over then was so already, where the cell was not
+  known_still : (IsTrue result → ⊥) → (one : ℕ) → Contains now.passed.addresses one → IsPassedOver seat before one
+  known_still other one on = elim (cases_eq one at) [
+    | inl same ↦ absurd (other (looks.told.1 (subst (Contains now.passed.addresses) same on)))
+    | inr apart ↦ passes.known one ((looks.others one apart).0 on)
+  ]
+
   -- another one waits
   pub finds_last : (IsTrue result → ⊥) → at < eden_start seat.space → FindsLast seat before now at
   finds_last other below = record {
     behind = passes.behind;
     listed = listed_then;
     passed = behind_on;
-    black = all_known seat before mid passes.behind passes.passed passes.known;
+    known = known_still other;
+    not_black = looks.not_black other;
     waits = elim (passes.paid.lists.was at (inl (was_listed mid.list now.list at looks.last))) [
       | inl waits ↦ waits
       | inr mine ↦ absurd (other (looks.mine mine))

@@ -92,17 +92,22 @@ pub record IsGivenTo (old new : Seat) (place at : ℕ) : Type 0 where
 abbrev pub IsBlackened : Seat → ℕ → Type 0
 IsBlackened seat at = (overview seat).home ≡ true → slice_index (overview seat).colours at ≡ black
 
+-- where colours are at home, that of a cell is not black
+abbrev pub IsNotBlack : Seat → ℕ → Type 0
+IsNotBlack seat at = (overview seat).home ≡ true → slice_index (overview seat).colours at ≢ black
+
 -- A cell is black where colours are at home, or was passed over before.
 abbrev pub IsPassedOver : Seat → Waiting → ℕ → Type 0
 IsPassedOver seat before at = IsBlackened seat at ⊎ Contains before.passed.addresses at
 
 -- Of the listed cells the last one was found that waits and is not black. It is on neither list any more. Those that
--- were listed after it are passed over.
+-- were listed after it are passed over. No cell is that is neither black nor was passed over before.
 pub record FindsLast (seat : Seat) (before after : Waiting) (at : ℕ) : Type 0 where
   pub behind : List ℕ
   pub listed : before.list.addresses ≡ after.list.addresses ++ at ∷ behind
   pub passed : AreIn after.passed.addresses behind
-  pub black : All (IsPassedOver seat before) behind
+  pub known : (one : ℕ) → Contains after.passed.addresses one → IsPassedOver seat before one
+  pub not_black : IsNotBlack seat at
   pub waits : Contains (overview seat).view.grey at
   pub born : Contains (overview seat).view.born at
   pub below : at < eden_start seat.space
@@ -110,11 +115,12 @@ pub record FindsLast (seat : Seat) (before after : Waiting) (at : ℕ) : Type 0 
   pub lists : ListsAllBut seat after at
   pub owed : (overview seat).view.owed ≡ []
 
--- No listed cell was found that is not black: each is passed over.
+-- No listed cell was found that is not black: each is passed over, and no cell that is neither black nor was passed
+-- over before.
 pub record FindsNone (seat : Seat) (before after : Waiting) : Type 0 where
   pub none : after.list.addresses ≡ []
   pub passed : AreIn after.passed.addresses before.list.addresses
-  pub black : All (IsPassedOver seat before) before.list.addresses
+  pub known : (one : ℕ) → Contains after.passed.addresses one → IsPassedOver seat before one
   pub paid : IsPaid seat after
 
 -- The last listed cell that waits and is not black was given. Those that were listed after it are passed over.

@@ -26,6 +26,7 @@ pub(crate) fn make_black(grey: &mut GreyCells, seat: &mut MainSeat, at: u32)
     requires born { Contains (overview seat.old).view.born at }
     requires layouts { layouts_in seat.old.space seat.old.table ≡ (overview seat.old).layouts }
     ensures paid { IsPaid seat.new grey.new }
+    ensures passed { grey.new.passed ≡ grey.old.passed }
     ensures steps { let old = overview seat.old in
         let cycle = made_black old.old old.words old.layouts (cycle_in seat.old) at in
         StepsTo seat.old seat.new seat.old.table cycle }
@@ -76,6 +77,7 @@ fn shade_slots(grey: &mut GreyCells, seat: &mut MainSeat, cell: &Cell)
     requires lists { ListsGrey seat.old grey.old }
     requires owes { Owes seat.old cell.now 0 }
     ensures lists { ListsGrey seat.new grey.new }
+    ensures passed { grey.new.passed ≡ grey.old.passed }
     ensures owed { (overview seat.new).view.owed ≡ [] }
     ensures steps { StepsTo seat.old seat.new seat.old.table (cycle_in seat.old) }
     ensures no_more { AreNoMore seat.old grey.old seat.new grey.new }

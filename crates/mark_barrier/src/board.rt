@@ -5,7 +5,7 @@ ghost use Rattle.cell_list.specs.Listing.{pushed};
 ghost use Rattle.shared_table.specs.declared.phase.Phase.TheVariants.{Mark};
 ghost use Rattle.heap_table.specs.Overviews.{cycle_in, overview};
 ghost use Rattle.mark_barrier.specs.Paid.{FindsLast, FindsNone, Gives, IsGivenTo, IsPaid, ListsAllBut, MovesTo};
-ghost use Rattle.mark_barrier.specs.Paid.{IsPassedOver, StepsTo, Takes};
+ghost use Rattle.mark_barrier.specs.Paid.{IsNotBlack, IsPassedOver, StepsTo, Takes};
 ghost use Rattle.mark_barrier.specs.Waiting.{IsOn};
 
 use crate::grey_cells::GreyCells;
@@ -19,6 +19,7 @@ impl GreyCells {
         requires paid { IsPaid seat.old self.old }
         requires within { place < board_words }
         ensures paid { IsPaid seat.new self.new }
+        ensures passed { self.new.passed ≡ self.old.passed }
         ensures steps { StepsTo seat.old seat.new seat.old.table (cycle_in seat.old) }
         ensures takes { Takes seat.old seat.new place }
     {
@@ -86,6 +87,7 @@ impl GreyCells {
         ensures told { IsTrue result ↔ Contains self.new.passed.addresses at }
         ensures mine { Contains (overview seat.old).view.mine at → IsTrue result }
         ensures black { IsTrue result → IsPassedOver seat.old self.old at }
+        ensures not_black { ¬ IsTrue result → IsNotBlack seat.old at }
         ensures others { (one : ℕ) → one ≢ at
             → Contains self.new.passed.addresses one ↔ Contains self.old.passed.addresses one }
         ensures kept { Contains self.old.passed.addresses at → IsTrue result }

@@ -20,8 +20,9 @@ use std::alloc::Global;
 use std::marker::Model;
 use tagged_word::{NoMemory, Word};
 
-/// The cells that the mutator found white and shaded, which wait to be visited. A cell that is made black stays on its
-/// list, since a list is not searched: what takes from it asks for the colour.
+/// The cells that wait with the mutator to be visited: those that it found white and shaded, and those that came from
+/// the board or with a helper's seat. A cell that is made black stays on its list, since a list is not searched: what
+/// takes from it asks for the colour.
 #[derive(Drop)]
 pub struct GreyCells {
     pub(crate) list: CellList,
@@ -59,6 +60,7 @@ impl GreyCells {
         requires paid { IsPaid seat.old self.old }
         requires born { Contains (overview seat.old).view.born at }
         ensures paid { IsPaid seat.new self.new }
+        ensures passed { self.new.passed ≡ self.old.passed }
         ensures steps { StepsTo seat.old seat.new seat.old.table (sure_of (cycle_in seat.old) at) }
         ensures coloured { IsColoured seat.new at }
     {
@@ -75,6 +77,7 @@ impl GreyCells {
         requires within { a < eden_start seat.old.space }
         requires may { MayStep seat.old (event.StoreSlot a word.0) }
         ensures paid { IsPaid seat.new self.new }
+        ensures passed { self.new.passed ≡ self.old.passed }
         ensures steps { let cycle = sure_of_target (eden_start seat.old.space) (cycle_in seat.old) word.0 in
             StepsTo seat.old seat.new (slice_set seat.old.table a word.0) cycle }
         ensures coloured { OfTarget (eden_start seat.old.space) word.0 (IsColoured seat.new) }
@@ -89,6 +92,7 @@ impl GreyCells {
         requires paid { IsPaid seat.old self.old }
         requires may { MayStep seat.old (event.NewBlack a) }
         ensures paid { IsPaid seat.new self.new }
+        ensures passed { self.new.passed ≡ self.old.passed }
         ensures steps { StepsTo seat.old seat.new seat.old.table (published (cycle_in seat.old) a) }
         ensures black { IsBlackened seat.new a }
     {
@@ -106,6 +110,7 @@ impl GreyCells {
         requires born { Contains (overview seat.old).view.born at }
         requires layouts { layouts_in seat.old.space seat.old.table ≡ (overview seat.old).layouts }
         ensures paid { IsPaid seat.new self.new }
+        ensures passed { self.new.passed ≡ self.old.passed }
         ensures steps { let old = overview seat.old in
             let cycle = made_black old.old old.words old.layouts (cycle_in seat.old) at in
             StepsTo seat.old seat.new seat.old.table cycle }

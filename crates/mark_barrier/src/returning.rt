@@ -23,6 +23,7 @@ impl GreyCells {
         requires listed { (at : ℕ) → Contains waiting.old.addresses at ↔ Contains helper.lent.view.grey at }
         requires room { waiting.old.bound ≤ eden_start seat.old.space }
         ensures paid { IsPaid seat.new self.new }
+        ensures passed { self.new.passed ≡ self.old.passed }
         ensures taken { 1 < (overview seat.old).out →
             seat.new ≡ knowing seat.old seat.old.table (taking (overview seat.old) helper.lent.view) }
         ensures last { (overview seat.old).out ≡ 1 → (colours : List ℕ) × (board : List ℕ)

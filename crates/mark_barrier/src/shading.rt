@@ -31,6 +31,7 @@ pub(crate) fn shade_cell(grey: &mut GreyCells, seat: &mut MainSeat, at: u32)
     requires within { at < eden_start seat.old.space }
     requires born { Contains (overview seat.old).view.born at }
     ensures lists { ListsGrey seat.new grey.new }
+    ensures passed { grey.new.passed ≡ grey.old.passed }
     ensures owed { (overview seat.new).view.owed ≡ left (overview seat.old).view.owed at }
     ensures steps { StepsTo seat.old seat.new seat.old.table (sure_of (cycle_in seat.old) at) }
     ensures coloured { IsColoured seat.new at }
@@ -50,6 +51,7 @@ pub(crate) fn shade_target(grey: &mut GreyCells, seat: &mut MainSeat, word: Word
     requires lists { ListsGrey seat.old grey.old }
     requires born { OfTarget (eden_start seat.old.space) word.0 (Contains (overview seat.old).view.born) }
     ensures lists { ListsGrey seat.new grey.new }
+    ensures passed { grey.new.passed ≡ grey.old.passed }
     ensures owed { let old = eden_start seat.old.space in
         (overview seat.new).view.owed ≡ without_target old (overview seat.old).view.owed word.0 }
     ensures steps { let cycle = sure_of_target (eden_start seat.old.space) (cycle_in seat.old) word.0 in

@@ -13,6 +13,7 @@ use Rattle.object_graph.specs.declared.value.Value.TheVariants.{Undefined}
 use Rattle.object_graph.specs.Objects.{field_value, with_field, without_field}
 use Rattle.object_graph.specs.Paths.{path_of, with_path}
 use Rattle.object_graph.specs.Graphs.{Graph, PlainObject, bind, value_of, as_plain}
+use Rattle.object_graph.specs.Prototypes.{field_along, prototypes_most}
 use Rattle.object_graph.specs.Meaning.{done, fault, given, unless, no_room_for, refill, reshape, reshape_if, meaning}
 use Rattle.object_graph.specs.Invariants.{fields_most}
 use Rattle.object_graph.specs.Limits.{ideal_limits, paths_most}
@@ -99,6 +100,5 @@ del_known names f known = rw (known.bound, known.refers)
 pub get_done : {graph : Graph} {x : ℕ} {target : Value} {plain : PlainObject} (names : List (List ℕ)) (y f : ℕ)
     → IsKnown as_plain graph x target plain
     → meaning ideal_limits names graph (Get y x f)
-    ≡ done (bind graph y (unwrap_or (field_value plain.fields f) Undefined))
-    []
+    ≡ done (bind graph y (unwrap_or (field_along graph.objects prototypes_most plain f) Undefined)) []
 get_done names y f known = rw (known.bound, known.refers)

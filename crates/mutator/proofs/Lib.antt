@@ -28,6 +28,8 @@ pub mod FieldsSet
 pub mod StoppedBy
 pub mod GivenValues
 pub mod FieldsTaken
+pub mod ProtosSet
+pub mod GivenProtos
 pub mod SameShapes
 pub mod ShapeTexts
 pub mod FoundKinds

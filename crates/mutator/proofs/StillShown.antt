@@ -37,6 +37,14 @@ pub first_still : {old new : Mutator} {pair : Held × Held} (a b : Operand) → 
 first_still {pair = pair} a b same (graph, shows) found =
     let both = found graph shows in value_still graph both.first pair.0 same shows both.stands_first
 
+-- and so does the second
+pub second_still : {old new : Mutator} {pair : Held × Held} (a b : Operand) → new ≡ old
+    → (graph : Graph) × MainShows old graph
+    → ((graph : Graph) → MainShows old graph → StandForBoth old graph (value_of graph a) (value_of graph b) pair)
+    → IsShownValue new pair.1
+second_still {pair = pair} a b same (graph, shows) found =
+    let both = found graph shows in value_still graph both.second pair.1 same shows both.stands_second
+
 -- what was given is given
 pub given_still : {old new : Mutator} (graph : Graph) (sought : Option Value) (given : Option Given) → new ≡ old
     → FindsGiven old graph sought given → FindsGiven new graph sought given

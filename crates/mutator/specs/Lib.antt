@@ -1,6 +1,7 @@
 pub mod Changing
 pub mod CarriesOut
 pub mod Reading
+pub mod Linking
 pub mod Kinds
 pub mod Written
 pub mod Making

@@ -61,7 +61,8 @@ fn set_value<O: Outcome>(main: &mut Main, x: u32, f: u32, value: FieldValue) -> 
     }
 }
 
-/// Binds `y` to the field `f` of the plain object `x`, or to `undefined` where there is none.
+/// Binds `y` to the field `f` of the plain object `x`, or of the nearest of its first 64 prototypes that has one; to
+/// `undefined` where none has.
 ///
 /// Stops with `unbound` or `notobject`.
 #[inline(always)]

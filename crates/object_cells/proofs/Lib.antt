@@ -74,3 +74,6 @@ pub mod ListCells
 pub mod ElementsRead
 pub mod NamedPlaces
 pub mod ListChanging
+pub mod ProtoWrites
+pub mod ProtoChanges
+pub mod ProtosRead

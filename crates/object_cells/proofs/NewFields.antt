@@ -39,7 +39,7 @@ object_is graph plain is there =
     (Plain plain.cap plain.proto plain.fields) is.made there
 
 -- the values of an object that can be reached can be
-fields_reached : (graph : Graph) (plain : PlainObject) → IsGraph graph
+pub fields_reached : (graph : Graph) (plain : PlainObject) → IsGraph graph
     → slice_get graph.objects plain.number ≡ Some (Plain plain.cap plain.proto plain.fields)
     → IsTrue (is_marked (reach graph) plain.number) → All (λ field. IsReachedValue graph field.value) plain.fields
 fields_reached graph plain is there marked =

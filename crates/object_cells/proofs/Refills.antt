@@ -23,7 +23,7 @@ use Rattle.object_cells.specs.Refills.{AreNewFields, RefillsShow}
 use Rattle.object_cells.proofs.ReplacedObjects.{HasReachedLinks, ReplacesCells, replaced_shows}
 
 -- what an object of fields links to is what one of their values refers to
-links_reached : (graph : Graph) (cap : ℕ) (proto : Option ℕ) (fields : List Field)
+pub links_reached : (graph : Graph) (cap : ℕ) (proto : Option ℕ) (fields : List Field)
     → ((number : ℕ) → proto ≡ Some number → IsTrue (is_marked (reach graph) number))
     → All (λ field. IsReachedValue graph field.value) fields → HasReachedLinks graph (Plain cap proto fields)
 links_reached graph cap proto fields leads reached number (inl same) = leads number same

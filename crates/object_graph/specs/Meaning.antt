@@ -9,7 +9,7 @@ use Rattle.heap_command.specs.declared.command.Command.TheVariants as command
 use Rattle.heap_command.specs.declared.command.FaultWord.{FaultWord}
 use Rattle.heap_command.specs.declared.command.FaultWord.TheVariants.{Unbound, NotObject, NotList, NotWeak, NotInt}
 use Rattle.heap_command.specs.declared.command.FaultWord.TheVariants.{BadKey, Range, Overflow, FieldsFull, ListFull}
-use Rattle.heap_command.specs.declared.command.FaultWord.TheVariants.{WeakFull, ShapesFull}
+use Rattle.heap_command.specs.declared.command.FaultWord.TheVariants.{WeakFull, ShapesFull, Ring}
 use Rattle.object_graph.specs.declared.value.Value.{Value}
 use Rattle.object_graph.specs.declared.value.Value.TheVariants.{Int, Undefined, Ref}
 use Rattle.object_graph.specs.declared.object.Object.TheVariants.{Plain, List as ListOf, Weak}
@@ -20,6 +20,7 @@ use Rattle.object_graph.specs.Objects.{field_value, with_field, without_field, e
 use Rattle.object_graph.specs.Paths.{path_of, same_path, with_path}
 use Rattle.object_graph.specs.Graphs.{Graph, PlainObject, ListObject, WeakObject, bind, make, replace, value_of}
 use Rattle.object_graph.specs.Graphs.{integer_in, object_in, plain_at, list_at, weak_at}
+use Rattle.object_graph.specs.Prototypes.{field_along, prototypes_most, makes_ring, proto_for, with_proto}
 use Rattle.object_graph.specs.Texts.{line, value_text, truth_text, shape_text, census_text}
 use Rattle.object_graph.specs.Reach.{is_marked, reach, reached_objects, reached_entries}
 
@@ -133,11 +134,18 @@ meaning limits names graph (command.Set x f v) =
 meaning limits names graph (command.Get y x f) =
     given Unbound (get graph.bindings x) (λ target.
     given NotObject (plain_at graph.objects target) (λ plain.
-    done (bind graph y (unwrap_or (field_value plain.fields f) Undefined)) []))
+    done (bind graph y (unwrap_or (field_along graph.objects prototypes_most plain f) Undefined)) []))
 meaning limits names graph (command.Del x f) =
     given Unbound (get graph.bindings x) (λ target.
     given NotObject (plain_at graph.objects target) (λ plain.
     reshape_if limits graph plain (field_value plain.fields f) (without_field plain.fields f)))
+meaning limits names graph (command.Proto x v) =
+    given Unbound (get graph.bindings x) (λ target.
+    given Unbound (value_of graph v) (λ value.
+    given NotObject (plain_at graph.objects target) (λ plain.
+    given NotObject (proto_for graph.objects value) (λ proto.
+    unless Ring (makes_ring graph.objects plain.number proto) (
+    done (with_proto graph plain proto) [])))))
 meaning limits names graph (command.Push x v) =
     given Unbound (get graph.bindings x) (λ target.
     given Unbound (value_of graph v) (λ value.

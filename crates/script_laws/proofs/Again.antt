@@ -22,72 +22,75 @@ use Rattle.script_laws.proofs.Spacing.{Avoids, AllAvoid, is_feed}
 use Rattle.script_laws.proofs.Spelling.{statements_are_read_again, feed-statement_text}
 
 -- the canonical form of the statement is one line, which is read as the statement
-pub record IsReadAgain (statement : Statement) : Type 0 where
-  pub read : statement_of_line (statement_text statement) ≡ Ok (Some statement)
+pub record IsReadAgain (version : ℕ) (statement : Statement) : Type 0 where
+  pub read : statement_of_line version (statement_text statement) ≡ Ok (Some statement)
   pub one_line : Avoids is_feed (statement_text statement)
 
 -- the canonical form of each statement is one line, which is read as the statement
-abbrev pub AreReadAgain : List NumberedStatement → Type 0
-AreReadAgain [] = Unit {0}
-AreReadAgain (stated ∷ more) = IsReadAgain stated.statement × AreReadAgain more
+abbrev pub AreReadAgain : ℕ → List NumberedStatement → Type 0
+AreReadAgain version [] = Unit {0}
+AreReadAgain version (stated ∷ more) = IsReadAgain version stated.statement × AreReadAgain version more
 
 -- a statement and those that follow it are read again
 followed-AreReadAgain :
-    (stated : NumberedStatement) (more : Result (List NumberedStatement) BadScript) (all : List NumberedStatement)
-    → IsReadAgain stated.statement
-    → ((rest : List NumberedStatement) → more ≡ Ok rest → AreReadAgain rest) → followed stated more ≡ Ok all
-    → AreReadAgain all
-followed-AreReadAgain stated (Err stop) all is step e = cc
-followed-AreReadAgain stated (Ok rest) all is step e =
+    (version : ℕ) (stated : NumberedStatement) (more : Result (List NumberedStatement) BadScript)
+    (all : List NumberedStatement) → IsReadAgain version stated.statement
+    → ((rest : List NumberedStatement) → more ≡ Ok rest → AreReadAgain version rest) → followed stated more ≡ Ok all
+    → AreReadAgain version all
+followed-AreReadAgain version stated (Err stop) all is step e = cc
+followed-AreReadAgain version stated (Ok rest) all is step e =
     let same : stated ∷ rest ≡ all = cc in
-    subst AreReadAgain same (is, step rest refl)
+    subst (AreReadAgain version) same (is, step rest refl)
 
 -- so they are where the first may stand in its place
-nested-AreReadAgain : (stated : NumberedStatement) (inner : Result (List ℕ) Why) (more : List ℕ
-    → Result (List NumberedStatement) BadScript) (all : List NumberedStatement) → IsReadAgain stated.statement
-    → ((deep : List ℕ) (rest : List NumberedStatement) → more deep ≡ Ok rest → AreReadAgain rest)
-    → nested stated inner more ≡ Ok all → AreReadAgain all
-nested-AreReadAgain stated (Err reason) more all is step e = cc
-nested-AreReadAgain stated (Ok inner) more all is step e =
-    followed-AreReadAgain stated (more inner) all is (step inner) e
+nested-AreReadAgain : (version : ℕ) (stated : NumberedStatement) (inner : Result (List ℕ) Why) (more : List ℕ
+    → Result (List NumberedStatement) BadScript) (all : List NumberedStatement) → IsReadAgain version stated.statement
+    → ((deep : List ℕ) (rest : List NumberedStatement) → more deep ≡ Ok rest → AreReadAgain version rest)
+    → nested stated inner more ≡ Ok all → AreReadAgain version all
+nested-AreReadAgain version stated (Err reason) more all is step e = cc
+nested-AreReadAgain version stated (Ok inner) more all is step e =
+    followed-AreReadAgain version stated (more inner) all is (step inner) e
 
 -- and where the first is what its line says
 then-AreReadAgain :
-    (number : ℕ) (open' : List ℕ) (first : Result (Option Statement) Why) (more : List ℕ
+    (version number : ℕ) (open' : List ℕ) (first : Result (Option Statement) Why) (more : List ℕ
     → Result (List NumberedStatement) BadScript) (all : List NumberedStatement) → ((statement : Statement)
     → first ≡ Ok (Some statement)
-    → IsReadAgain statement)
-    → ((deep : List ℕ) (rest : List NumberedStatement) → more deep ≡ Ok rest → AreReadAgain rest)
-    → stated_then number open' first more ≡ Ok all → AreReadAgain all
-then-AreReadAgain number open' (Err reason) more all is step e = cc
-then-AreReadAgain number open' (Ok None) more all is step e = step open' all e
-then-AreReadAgain number open' (Ok (Some statement)) more all is step e =
-    nested-AreReadAgain (record { number = number; statement = statement })
+    → IsReadAgain version statement)
+    → ((deep : List ℕ) (rest : List NumberedStatement) → more deep ≡ Ok rest → AreReadAgain version rest)
+    → stated_then number open' first more ≡ Ok all → AreReadAgain version all
+then-AreReadAgain version number open' (Err reason) more all is step e = cc
+then-AreReadAgain version number open' (Ok None) more all is step e = step open' all e
+then-AreReadAgain version number open' (Ok (Some statement)) more all is step e =
+    nested-AreReadAgain version (record { number = number; statement = statement })
     (nest number open' statement.keyword) more all (is statement refl) step e
 
 -- each statement of lines is read again from its canonical form
 pub stated_from-AreReadAgain :
-    (number : ℕ) (open' : List ℕ) (lines : List (List ℕ)) (all : List NumberedStatement)
-    → AllAvoid is_feed lines → stated_from number open' lines ≡ Ok all → AreReadAgain all
-stated_from-AreReadAgain number [] [] all h e =
+    (version number : ℕ) (open' : List ℕ) (lines : List (List ℕ)) (all : List NumberedStatement)
+    → AllAvoid is_feed lines → stated_from version number open' lines ≡ Ok all → AreReadAgain version all
+stated_from-AreReadAgain version number [] [] all h e =
     let same : [] ≡ all = cc in
-    subst AreReadAgain same tt
-stated_from-AreReadAgain number (innermost ∷ outer) [] all h e = cc
-stated_from-AreReadAgain number open' (line ∷ lines) all h e =
-    then-AreReadAgain number open' (statement_of_line line)
-    (λ inner. stated_from (suc number) inner lines) all
-    (λ statement p. record
-    { read = statements_are_read_again line statement p; one_line = feed-statement_text line statement p h.0 })
-    (λ deep rest p. stated_from-AreReadAgain (suc number) deep lines rest h.1 p) e
+    subst (AreReadAgain version) same tt
+stated_from-AreReadAgain version number (innermost ∷ outer) [] all h e = cc
+stated_from-AreReadAgain version number open' (line ∷ lines) all h e =
+    then-AreReadAgain version number open' (statement_of_line version line)
+    (λ inner. stated_from version (suc number) inner lines) all
+    (λ statement p. record {
+      read = statements_are_read_again version line statement p;
+      one_line = feed-statement_text version line statement p h.0;
+    })
+    (λ deep rest p. stated_from-AreReadAgain version (suc number) deep lines rest h.1 p) e
 
 -- statements in canonical form
 abbrev pub statement_lines : List NumberedStatement → List (List ℕ)
 statement_lines all = map (λ stated. statement_text stated.statement) all
 
 -- the canonical form of each statement has no line feed
-pub feed-statement_lines : (all : List NumberedStatement) → AreReadAgain all → AllAvoid is_feed (statement_lines all)
-feed-statement_lines [] h = tt
-feed-statement_lines (stated ∷ more) h = (h.0.one_line, feed-statement_lines more h.1)
+pub feed-statement_lines : (version : ℕ) (all : List NumberedStatement) → AreReadAgain version all
+    → AllAvoid is_feed (statement_lines all)
+feed-statement_lines version [] h = tt
+feed-statement_lines version (stated ∷ more) h = (h.0.one_line, feed-statement_lines version more h.1)
 
 -- a statement of a line with this number
 abbrev pub at_line : ℕ → Statement → NumberedStatement
@@ -118,20 +121,20 @@ nest-IsAllowed number (innermost ∷ outer) keyword.End may = record { inner = o
 nest-IsAllowed number open' other may = record { inner = open'; is = refl; deep = refl }
 
 -- statements in canonical form are read as they are, inside as many `repeat`s
-pub stated_from-again : (all : List NumberedStatement) (number : ℕ) (open' : List ℕ)
-    → AreStated (length open') all → AreReadAgain all
-    → stated_from number open' (statement_lines all) ≡ Ok (renumbered number all)
-stated_from-again [] number [] h again = refl
-stated_from-again [] number (innermost ∷ outer) h again = absurd (omega (arith, h))
-stated_from-again (stated ∷ more) number open' h again =
+pub stated_from-again : (version : ℕ) (all : List NumberedStatement) (number : ℕ) (open' : List ℕ)
+    → AreStated (length open') all → AreReadAgain version all
+    → stated_from version number open' (statement_lines all) ≡ Ok (renumbered number all)
+stated_from-again version [] number [] h again = refl
+stated_from-again version [] number (innermost ∷ outer) h again = absurd (omega (arith, h))
+stated_from-again version (stated ∷ more) number open' h again =
     let statement = stated.statement in
     let allowed = nest-IsAllowed number open' statement.keyword h.1 in
-    let later = λ (inner : List ℕ). stated_from (suc number) inner (statement_lines more) in
+    let later = λ (inner : List ℕ). stated_from version (suc number) inner (statement_lines more) in
     let deeper_in = subst (λ depth. AreStated depth more) (sym allowed.deep) h.2 in
     ap (λ read. stated_then number open' read later) again.0.read
     ∙ ap (λ inner. nested (at_line number statement) inner later) allowed.is
     ∙ ap (followed (at_line number statement))
-    (stated_from-again more (suc number) allowed.inner deeper_in again.1)
+    (stated_from-again version more (suc number) allowed.inner deeper_in again.1)
 
 -- where `repeat`s end doesn't depend on the numbers of the lines
 end_after-renumbered : (all : List NumberedStatement) (inside at number : ℕ)
@@ -185,21 +188,23 @@ past_limit-renumbered variables fields (stated ∷ more) number e =
     (past_limit vs fs more) (past_limit vs fs (renumbered (suc number) more))
     (past_limit-renumbered vs fs more (suc number)) e
 
--- two scripts do the same, line for line, with the same names
+-- two scripts of a version do the same, line for line, with the same names
 pub record DoesSame (again script : ScriptText) : Type 0 where
+  pub version : again.version ≡ script.version
   pub lines : map (λ line. line.what) again.lines ≡ map (λ line. line.what) script.lines
   pub variables : again.variables ≡ script.variables
   pub fields : again.fields ≡ script.fields
 
 -- a script of the same statements does the same
-pub script_of-renumbered : (all : List NumberedStatement) (number : ℕ)
-    → DoesSame (script_of (renumbered number all)) (script_of all)
-script_of-renumbered all number =
+pub script_of-renumbered : (version : ℕ) (all : List NumberedStatement) (number : ℕ)
+    → DoesSame (script_of version (renumbered number all)) (script_of version all)
+script_of-renumbered version all number =
     let variables = names-renumbered variables_of all number in
     let fields = names-renumbered fields_of all number in
     let vs = λ (some : List NumberedStatement). flat_map (λ (s : NumberedStatement). variables_of s.statement) some in
     let fs = λ (some : List NumberedStatement). flat_map (λ (s : NumberedStatement). fields_of s.statement) some in
     record {
+      version = refl;
       lines =
           ap (λ names. map (λ (line : Line). line.what)
           (lines_from (first_uses names) (first_uses (fs (renumbered number all))) 0 []

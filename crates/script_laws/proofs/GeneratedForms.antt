@@ -151,7 +151,7 @@ next_value state = value_value (drawn 4 (next state)) (next state)
 
 -- `print v`
 print_line : IsPlain (record { command = codes "print"; operands = codes "v" ∷ [] })
-print_line = one_word keyword.Print Value (codes "v") 1 refl (λ number open'. refl) seen_value (omega arith)
+print_line = one_word keyword.Print Value (codes "v") 1 refl refl (λ number open'. refl) seen_value (omega arith)
 
 -- the line of a form of no list is plain
 plain_form-IsPlain : (first : ℕ) (kept : Kept) → IsPlain (form_line (plain_form first kept))
@@ -159,34 +159,34 @@ plain_form-IsPlain first kept =
     let P = λ (f : Form). IsPlain (form_line f) in
     let s = kept.state in
     cond_both (nat_lt first 3) _ _ P
-    (λ h. two_words keyword.New Variable (Literal 8) _ _ 2 1 refl (λ number open'. refl) (object_variable s)
+    (λ h. two_words keyword.New Variable (Literal 8) _ _ 2 1 refl refl (λ number open'. refl) (object_variable s)
     (Says-cap 1 (omega arith)) (omega arith))
     (λ h. cond_both (nat_lt first 6) _ _ P
-    (λ h. two_words keyword.New Variable (Literal 8) _ _ 2 1 refl (λ number open'. refl) (object_variable s)
+    (λ h. two_words keyword.New Variable (Literal 8) _ _ 2 1 refl refl (λ number open'. refl) (object_variable s)
     (Says-cap 3 (omega arith)) (omega arith))
     (λ h. cond_both (nat_lt first 18) _ _ P
-    (λ h. three_words keyword.Set Variable Field Value _ _ _ 2 1 13 refl (λ number open'. refl) (object_variable s)
+    (λ h. three_words keyword.Set Variable Field Value _ _ _ 2 1 13 refl refl (λ number open'. refl) (object_variable s)
     (drawn_field (next s)) (next_value (next (next s))) (omega arith))
     (λ h. cond_both (nat_lt first 23) _ _ P
-    (λ h. three_words keyword.Get Variable Variable Field _ _ _ 1 2 1 refl (λ number open'. refl) seen_variable
+    (λ h. three_words keyword.Get Variable Variable Field _ _ _ 1 2 1 refl refl (λ number open'. refl) seen_variable
     (object_variable s) (drawn_field (next s)) (omega arith))
     (λ h. cond_both (nat_lt first 27) _ _ P
-    (λ h. two_words keyword.Del Variable Field _ _ 2 1 refl (λ number open'. refl) (object_variable s)
+    (λ h. two_words keyword.Del Variable Field _ _ 2 1 refl refl (λ number open'. refl) (object_variable s)
     (drawn_field (next s)) (omega arith))
     (λ h. cond_both (nat_lt first 54) _ _ P
-    (λ h. three_words keyword.WPut Variable Value Value _ _ _ 2 2 13 refl (λ number open'. refl) (weak_variable s)
+    (λ h. three_words keyword.WPut Variable Value Value _ _ _ 2 2 13 refl refl (λ number open'. refl) (weak_variable s)
     (object_value (next s) 2 (omega arith)) (next_value (next (next s))) (omega arith))
     (λ h. cond_both (nat_lt first 58) _ _ P
-    (λ h. three_words keyword.WGet Variable Variable Value _ _ _ 1 2 2 refl (λ number open'. refl) seen_variable
+    (λ h. three_words keyword.WGet Variable Variable Value _ _ _ 1 2 2 refl refl (λ number open'. refl) seen_variable
     (weak_variable s) (object_value (next s) 2 (omega arith)) (omega arith))
     (λ h. cond_both (eqb first 58) _ _ P
-    (λ h. no_word keyword.Scavenge refl (λ number open'. refl) (omega arith))
+    (λ h. no_word keyword.Scavenge refl refl (λ number open'. refl) (omega arith))
     (λ h. cond_both (eqb first 59) _ _ P
-    (λ h. no_word keyword.Mark refl (λ number open'. refl) (omega arith))
+    (λ h. no_word keyword.Mark refl refl (λ number open'. refl) (omega arith))
     (λ h. cond_both (eqb first 60) _ _ P
-    (λ h. no_word keyword.Finish refl (λ number open'. refl) (omega arith))
+    (λ h. no_word keyword.Finish refl refl (λ number open'. refl) (omega arith))
     (λ h. cond_both (nat_lt first 63) _ _ P (λ h. print_line)
-    (λ h. no_word keyword.Census refl (λ number open'. refl) (omega arith))))))))))))
+    (λ h. no_word keyword.Census refl refl (λ number open'. refl) (omega arith))))))))))))
 
 -- the line of a form of a list is plain
 list_form-IsPlain : (first list length' : ℕ) (kept : Kept) → list < 4 → length' < 256
@@ -196,7 +196,7 @@ list_form-IsPlain first list length' kept lt short =
     let s = kept.state in
     let n = drawn (length' + 1) (next s) in
     let within : n < length' + 1 = drawn-lt (length' + 1) (next s) (omega arith) in
-    let pushed = two_words keyword.Push Variable Value _ _ 2 13 refl (λ number open'. refl) (list_variable list lt)
+    let pushed = two_words keyword.Push Variable Value _ _ 2 13 refl refl (λ number open'. refl) (list_variable list lt)
     (next_value s) (omega arith) in
     let i = drawn length' (next s) in
     cond_both (nat_lt first 35) _ _ P (λ h. pushed)
@@ -204,18 +204,18 @@ list_form-IsPlain first list length' kept lt short =
     (λ h. cond_both (eqb length' 0) _ _ P (λ h. pushed)
     (λ h. let some : 0 < length' = grind (arith, nat_tests) in
     let here : i < length' = drawn-lt length' (next s) some in
-    three_words keyword.Put Variable Value Value _ _ _ 2 3 13 refl (λ number open'. refl) (list_variable list lt)
+    three_words keyword.Put Variable Value Value _ _ _ 2 3 13 refl refl (λ number open'. refl) (list_variable list lt)
     (place_value i (omega arith)) (next_value (next s)) (omega arith)))
     (λ h. cond_both (nat_lt first 43) _ _ P
     (λ h. cond_both (eqb length' 0) _ _ P (λ h. print_line)
     (λ h. let some : 0 < length' = grind (arith, nat_tests) in
     let here : i < length' = drawn-lt length' (next s) some in
-    three_words keyword.At Variable Variable Value _ _ _ 1 2 3 refl (λ number open'. refl) seen_variable
+    three_words keyword.At Variable Variable Value _ _ _ 1 2 3 refl refl (λ number open'. refl) seen_variable
     (list_variable list lt) (place_value i (omega arith)) (omega arith)))
     (λ h. cond_both (nat_lt first 46) _ _ P
-    (λ h. two_words keyword.Shift Variable Value _ _ 2 3 refl (λ number open'. refl) (list_variable list lt)
+    (λ h. two_words keyword.Shift Variable Value _ _ 2 3 refl refl (λ number open'. refl) (list_variable list lt)
     (place_value n (omega arith)) (omega arith))
-    (λ h. two_words keyword.Trunc Variable Value _ _ 2 3 refl (λ number open'. refl) (list_variable list lt)
+    (λ h. two_words keyword.Trunc Variable Value _ _ 2 3 refl refl (λ number open'. refl) (list_variable list lt)
     (place_value n (omega arith)) (omega arith)))))
 
 -- the line of each form is plain, where the lists are short

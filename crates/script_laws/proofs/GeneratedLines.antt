@@ -9,7 +9,7 @@ use Rattle.script_text.specs.declared.table.OperandKind.{OperandKind}
 use Rattle.script_text.specs.declared.table.Keyword.{Keyword}
 use Rattle.script_text.specs.declared.table.Keyword.TheVariants as keyword
 use Rattle.script_text.specs.Lines.{is_blank, is_some_bytes}
-use Rattle.script_text.specs.Table.{keyword_text, places_of}
+use Rattle.script_text.specs.Table.{keyword_text, since, places_of}
 use Rattle.script_text.specs.Statements.{Statement, RawOperand, joined, written_all, statement_with, if_command}
 use Rattle.script_text.specs.Statements.{statement_of}
 use Rattle.script_text.specs.Names.{variable_in, field_in, variables_of, fields_of}
@@ -71,7 +71,7 @@ and_says place places word words m n first more =
 -- The line is read as a statement that opens and ends no block. It has at most 24 bytes, and its names are known.
 pub record IsPlain (line : Line) : Type 0 where
   pub statement : Statement
-  pub read : statement_of (line.command ∷ line.operands) ≡ Ok (Some statement)
+  pub read : statement_of 1 (line.command ∷ line.operands) ≡ Ok (Some statement)
   pub stays : (number : ℕ) (open' : List ℕ) → nest number open' statement.keyword ≡ Ok open'
   pub blank : AllAvoid is_blank (line.command ∷ line.operands)
   pub hash : AllAvoid is_hash (line.command ∷ line.operands)
@@ -98,14 +98,14 @@ abbrev pub Stays : Keyword → Type 0
 Stays k = (number : ℕ) (open' : List ℕ) → nest number open' k ≡ Ok open'
 
 -- a command with words that say what they should is read
-IsPlain-command : (k : Keyword) (words : List (List ℕ)) (most : ℕ) → AllSay (places_of k) words most → Stays k
-    → length (keyword_text k) + most ≤ 24 → IsPlain (record { command = keyword_text k; operands = words })
-IsPlain-command k words most all stays few =
+IsPlain-command : (k : Keyword) (words : List (List ℕ)) (most : ℕ) → AllSay (places_of k) words most → since k ≡ 1
+    → Stays k → length (keyword_text k) + most ≤ 24 → IsPlain (record { command = keyword_text k; operands = words })
+IsPlain-command k words most all first stays few =
     let token = command_token k in
     let counted = counts (length words) (length (places_of k)) all.count in
     record {
       statement = record { keyword = k; operands = all.operands };
-      read = ap (if_command words) (keywords_are_found k)
+      read = ap (if_command words) (keywords_are_found 1 k (omega (arith, first)))
           ∙ ap (λ v. cond v (statement_with k (written_all (places_of k) words)) (Err why.Count)) counted
           ∙ ap (statement_with k) all.read;
       stays = stays;
@@ -122,35 +122,38 @@ IsPlain-command k words most all stays few =
     counts m n e = grind (arith, nat_tests)
 
 -- the line of a command with one word
-pub one_word : (k : Keyword) (p : OperandKind) (w : List ℕ) (m : ℕ) → places_of k ≡ p ∷ [] → Stays k → Says p w m
-    → length (keyword_text k) + suc m ≤ 24 → IsPlain (record { command = keyword_text k; operands = w ∷ [] })
-one_word k p w m at stays h few =
+pub one_word : (k : Keyword) (p : OperandKind) (w : List ℕ) (m : ℕ) → places_of k ≡ p ∷ [] → since k ≡ 1 → Stays k
+    → Says p w m → length (keyword_text k) + suc m ≤ 24
+    → IsPlain (record { command = keyword_text k; operands = w ∷ [] })
+one_word k p w m at first stays h few =
     let all = and_says p [] w [] m 0 h none_say in
-    IsPlain-command k (w ∷ []) (suc (m + 0)) (subst (λ ps. AllSay ps (w ∷ []) (suc (m + 0))) (sym at) all) stays
+    IsPlain-command k (w ∷ []) (suc (m + 0)) (subst (λ ps. AllSay ps (w ∷ []) (suc (m + 0))) (sym at) all) first stays
     (omega arith)
 
 -- with two
-pub two_words : (k : Keyword) (p q : OperandKind) (v w : List ℕ) (m n : ℕ) → places_of k ≡ p ∷ q ∷ [] → Stays k
-    → Says p v m → Says q w n → length (keyword_text k) + suc m + suc n ≤ 24
+pub two_words : (k : Keyword) (p q : OperandKind) (v w : List ℕ) (m n : ℕ) → places_of k ≡ p ∷ q ∷ []
+    → since k ≡ 1 → Stays k → Says p v m → Says q w n → length (keyword_text k) + suc m + suc n ≤ 24
     → IsPlain (record { command = keyword_text k; operands = v ∷ w ∷ [] })
-two_words k p q v w m n at stays h i few =
+two_words k p q v w m n at first stays h i few =
     let all = and_says p (q ∷ []) v (w ∷ []) m (suc (n + 0)) h (and_says q [] w [] n 0 i none_say) in
     let most = suc (m + suc (n + 0)) in
-    IsPlain-command k (v ∷ w ∷ []) most (subst (λ ps. AllSay ps (v ∷ w ∷ []) most) (sym at) all) stays (omega arith)
+    IsPlain-command k (v ∷ w ∷ []) most (subst (λ ps. AllSay ps (v ∷ w ∷ []) most) (sym at) all) first stays
+    (omega arith)
 
 -- with three
 pub three_words : (k : Keyword) (p q r : OperandKind) (u v w : List ℕ) (l m n : ℕ) → places_of k ≡ p ∷ q ∷ r ∷ []
-    → Stays k → Says p u l → Says q v m → Says r w n → length (keyword_text k) + suc l + suc m + suc n ≤ 24
+    → since k ≡ 1 → Stays k → Says p u l → Says q v m → Says r w n
+    → length (keyword_text k) + suc l + suc m + suc n ≤ 24
     → IsPlain (record { command = keyword_text k; operands = u ∷ v ∷ w ∷ [] })
-three_words k p q r u v w l m n at stays g h i few =
+three_words k p q r u v w l m n at first stays g h i few =
     let later = and_says q (r ∷ []) v (w ∷ []) m (suc (n + 0)) h (and_says r [] w [] n 0 i none_say) in
     let all = and_says p (q ∷ r ∷ []) u (v ∷ w ∷ []) l (suc (m + suc (n + 0))) g later in
     let most = suc (l + suc (m + suc (n + 0))) in
-    IsPlain-command k (u ∷ v ∷ w ∷ []) most (subst (λ ps. AllSay ps (u ∷ v ∷ w ∷ []) most) (sym at) all) stays
+    IsPlain-command k (u ∷ v ∷ w ∷ []) most (subst (λ ps. AllSay ps (u ∷ v ∷ w ∷ []) most) (sym at) all) first stays
     (omega arith)
 
 -- the line of a command with no word
-pub no_word : (k : Keyword) → places_of k ≡ [] → Stays k → length (keyword_text k) ≤ 24
+pub no_word : (k : Keyword) → places_of k ≡ [] → since k ≡ 1 → Stays k → length (keyword_text k) ≤ 24
     → IsPlain (record { command = keyword_text k; operands = [] })
-no_word k at stays few =
-    IsPlain-command k [] 0 (subst (λ ps. AllSay ps [] 0) (sym at) none_say) stays (omega arith)
+no_word k at first stays few =
+    IsPlain-command k [] 0 (subst (λ ps. AllSay ps [] 0) (sym at) none_say) first stays (omega arith)

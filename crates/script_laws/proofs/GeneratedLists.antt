@@ -55,7 +55,7 @@ AllPlain-append (x ∷ xs) ys h k = (h.0, AllPlain-append xs ys h.1 k)
 new_line : (token : List ℕ) (cap : ℕ) → is_known_variable token ≡ true → length token ≤ 2 → cap ≤ 8
     → IsPlain (line (codes "new") (token ∷ ((48 + cap) ∷ []) ∷ []))
 new_line token cap known short le =
-    two_words keyword.New Variable (Literal 8) token ((48 + cap) ∷ []) 2 1 refl (λ number open'. refl)
+    two_words keyword.New Variable (Literal 8) token ((48 + cap) ∷ []) 2 1 refl refl (λ number open'. refl)
     (Says-variable token 2 known short)
     (subst (λ word. Says (Literal 8) word 1) (decimal_digit cap (omega arith)) (Says-cap cap le)) (omega arith)
 
@@ -63,18 +63,20 @@ new_line token cap known short le =
 list_line : (token : List ℕ) → is_known_variable token ≡ true → length token ≤ 2
     → IsPlain (line (codes "list") (token ∷ []))
 list_line token known short =
-    one_word keyword.List Variable token 2 refl (λ number open'. refl) (Says-variable token 2 known short) (omega arith)
+    one_word keyword.List Variable token 2 refl refl (λ number open'. refl) (Says-variable token 2 known short)
+    (omega arith)
 
 -- and one that makes a weak map
 weak_line : (token : List ℕ) → is_known_variable token ≡ true → length token ≤ 2
     → IsPlain (line (codes "weak") (token ∷ []))
 weak_line token known short =
-    one_word keyword.Weak Variable token 2 refl (λ number open'. refl) (Says-variable token 2 known short) (omega arith)
+    one_word keyword.Weak Variable token 2 refl refl (λ number open'. refl) (Says-variable token 2 known short)
+    (omega arith)
 
 -- and the one that binds `v`
 let_line : IsPlain (line (codes "let") (codes "v" ∷ codes "0" ∷ []))
 let_line =
-    two_words keyword.Let Variable Value (codes "v") (codes "0") 1 3 refl (λ number open'. refl)
+    two_words keyword.Let Variable Value (codes "v") (codes "0") 1 3 refl refl (λ number open'. refl)
     (Says-variable (codes "v") 1 refl (omega arith))
     (subst (λ word. Says Value word 3) (decimal_digit 0 (omega arith)) (place_value 0 (omega arith))) (omega arith)
 

@@ -1,4 +1,5 @@
 mod Again
+mod Begins
 mod Feeds
 mod GeneratedForms
 mod GeneratedLines

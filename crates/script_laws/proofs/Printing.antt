@@ -1,6 +1,6 @@
 -- A script in canonical form has the lines of its statements, and these are read again.
-use Rattle.std.proofs.Common.{◌≡◌, ℕ, suc, List, [], ◌∷◌, map, slice_get, unwrap_or, Option, Some, None}
-use Rattle.std.proofs.Common.{Result, Ok, Err, refl, ap, ◌∙◌, subst, arith}
+use Rattle.std.proofs.Common.{◌≡◌, ℕ, zero, suc, ◌+◌, ◌≤◌, List, [], ◌∷◌, ◌++◌, length, map, pos, codes, slice_get}
+use Rattle.std.proofs.Common.{unwrap_or, None, Result, Ok, Err, refl, sym, ap, ◌∙◌, subst, arith}
 use Rattle.std.specs.List.{flat_map}
 use Rattle.script_text.specs.declared.script.BadScript.{BadScript}
 use Rattle.script_text.specs.declared.script.Line.{Line}
@@ -8,17 +8,26 @@ use Rattle.script_text.specs.Lines.{lines_of}
 use Rattle.script_text.specs.Table.{keyword_text, places_of}
 use Rattle.script_text.specs.Statements.{Statement, RawOperand, variable, field, bound}
 use Rattle.script_text.specs.Names.{number_of_name, variable_in, field_in, variables_of, fields_of, first_uses}
-use Rattle.script_text.specs.Scripts.{ScriptText, NumberedStatement, argument_of, argument_at, what_in, end_after}
-use Rattle.script_text.specs.Grammar.{stated_from, past_limit, lines_from, open_after, innermost_of, script_of}
-use Rattle.script_text.specs.Grammar.{within_limit, script_or_stop, reading}
+use Rattle.script_text.specs.Scripts.{NumberedStatement, argument_of, argument_at, what_in, end_after}
+use Rattle.script_text.specs.Grammar.{past_limit, lines_from, open_after, innermost_of, script_of}
+use Rattle.script_text.specs.Grammar.{within_limit, script_or_stop, reading_from, reading}
+use Rattle.script_text.specs.Versions.{version_most, version_word, version_in, Opening, unsaid, opening_with}
+use Rattle.script_text.specs.Versions.{opening_from}
+use Rattle.script_text.specs.declared.script.Why.{Why}
 use Rattle.script_laws.specs.Canonical.{spaced, ended, written_token, statement_text, token_of, arguments_in, what_text}
-use Rattle.script_laws.specs.Canonical.{printed, ParsesAs, PrintedIsReadAgain}
+use Rattle.script_laws.specs.Canonical.{version_lines, printed, ParsesAs, PrintedIsReadAgain}
 use Rattle.script_text.specs.Fitting.{AllFit, AreStated, deeper}
 use Rattle.script_text.proofs.Speaking.{stated_from-AreStated}
+use Rattle.script_text.proofs.Openings.{openings}
+use Rattle.script_text.proofs.Reading.{reading-parts}
 use Rattle.script_text.proofs.Numbers.{Contains-first_uses}
 use Rattle.script_laws.proofs.Naming.{slice_get-number_of}
 use Rattle.script_text.proofs.Within.{AreIn, AreIn-left, AreIn-right}
 use Rattle.script_laws.proofs.Standing.{keyword_of-what_of, AllStand-arguments, arguments_in-what}
+use Rattle.script_laws.specs.Openings.{Begin, empty, other, said}
+use Rattle.script_laws.proofs.Begins.{versions_stand_first, opening-statement}
+use Rattle.script_laws.proofs.Integers.{integers_are_written}
+use Rattle.script_laws.proofs.Spacing.{AllAvoid, is_feed}
 use Rattle.script_laws.proofs.Feeds.{lines_of-ended, feed-lines_of}
 use Rattle.script_laws.proofs.Again.{AreReadAgain, statement_lines, renumbered, stated_from-AreReadAgain}
 use Rattle.script_laws.proofs.Again.{feed-statement_lines, stated_from-again, past_limit-renumbered}
@@ -95,58 +104,125 @@ what_texts-statement_lines depth variables fields at open' (stated ∷ more) h v
     (deeper depth statement.keyword) variables fields (suc at)
     (open_after at open' statement.keyword) more h.2 vs_later fs_later)
 
--- a script of statements that were read is printed as the statements
-printed-script_of : (all : List NumberedStatement) → AreStated 0 all
-    → printed (script_of all) ≡ ended (statement_lines all)
-printed-script_of all h =
+-- a script of statements that were read is printed as its version and the statements
+printed-script_of : (version : ℕ) (all : List NumberedStatement) → AreStated 0 all
+    → printed (script_of version all) ≡ ended (version_lines version ++ statement_lines all)
+printed-script_of version all h =
     let vs = flat_map (λ (s : NumberedStatement). variables_of s.statement) all in
     let fs = flat_map (λ (s : NumberedStatement). fields_of s.statement) all in
-    ap ended (what_texts-statement_lines 0 (first_uses vs) (first_uses fs) 0 [] all h
+    ap (λ lines. ended (version_lines version ++ lines))
+    (what_texts-statement_lines 0 (first_uses vs) (first_uses fs) 0 [] all h
     (record { each = Contains-first_uses vs }) (record { each = Contains-first_uses fs }))
 
+-- behind the line of its version, if there is one, the commands of that version begin
+record OpensAs (version : ℕ) (lines : List (List ℕ)) : Type 0 where
+  number : ℕ
+  is : opening_from 1 (version_lines version ++ lines)
+      ≡ Ok (record { version = version; number = number; lines = lines })
+  feed : AllAvoid is_feed (version_lines version ++ lines)
+
+-- statements of the first version need no line before them
+first-opens : (all : List NumberedStatement) → AreReadAgain 1 all
+    → opening_from 1 (statement_lines all) ≡ Ok (unsaid 1 (statement_lines all))
+first-opens [] again = refl
+first-opens (stated ∷ more) again =
+    opening-statement 1 1 (statement_text stated.statement) (statement_lines more) stated.statement again.0.read
+
+-- the line of the second version
+second-line : version_lines 2 ≡ codes "version 2" ∷ []
+second-line =
+    ap (λ digits. spaced (version_word ∷ digits ∷ []) ∷ []) (sym (integers_are_written (codes "2") (pos 2) refl).0)
+
+-- the statements of a version are opened as such
+statements-open : (version : ℕ) (all : List NumberedStatement) → 1 ≤ version → version ≤ version_most
+    → AreReadAgain version all → OpensAs version (statement_lines all)
+statements-open zero all least most again = absurd (omega (arith, least))
+statements-open (suc zero) all least most again = record {
+  number = 1;
+  is = first-opens all again;
+  feed = feed-statement_lines 1 all again;
+}
+statements-open (suc (suc zero)) all least most again =
+    let lines = statement_lines all in
+    record {
+      number = 2;
+      is = ap (λ before. opening_from 1 (before ++ lines)) second-line;
+      feed = subst (λ before. AllAvoid is_feed (before ++ lines)) (sym second-line) (
+        (refl, (refl, (refl, (refl, (refl, (refl, (refl, (refl, (refl, tt))))))))),
+        feed-statement_lines 2 all again,
+      );
+    }
+statements-open (suc (suc (suc more))) all least most again = absurd (omega (arith, most))
+
 -- a script that is printed is read as the same statements, one on each line
-reading-printed : (all : List NumberedStatement) → AreStated 0 all → AreReadAgain all
-    → past_limit [] [] all ≡ None → reading (printed (script_of all)) ≡ Ok (script_of (renumbered 1 all))
-reading-printed all h again few =
-    ap reading (printed-script_of all h)
-    ∙ ap (λ lines. script_or_stop (stated_from 1 [] lines))
-    (lines_of-ended (statement_lines all) (feed-statement_lines all again))
-    ∙ ap script_or_stop (stated_from-again all 1 [] h again)
-    ∙ ap (within_limit (renumbered 1 all)) (past_limit-renumbered [] [] all 1 few)
+reading-printed : (version : ℕ) (all : List NumberedStatement) → AreStated 0 all → AreReadAgain version all
+    → past_limit [] [] all ≡ None → (opens : OpensAs version (statement_lines all))
+    → reading (printed (script_of version all)) ≡ Ok (script_of version (renumbered opens.number all))
+reading-printed version all h again few opens =
+    let number = opens.number in
+    ap reading (printed-script_of version all h)
+    ∙ ap (λ lines. reading_from (opening_from 1 lines))
+    (lines_of-ended (version_lines version ++ statement_lines all) opens.feed)
+    ∙ ap reading_from opens.is
+    ∙ ap (script_or_stop version) (stated_from-again version all number [] h again)
+    ∙ ap (within_limit version (renumbered number all)) (past_limit-renumbered [] [] all number few)
 
 -- the script of statements that were read is read again
-ParsesAs-script_of : (all : List NumberedStatement) → AreStated 0 all → AreReadAgain all
-    → past_limit [] [] all ≡ None → ParsesAs (printed (script_of all)) (script_of all)
-ParsesAs-script_of all h again few =
-    let same = script_of-renumbered all 1 in
+ParsesAs-script_of : (version : ℕ) (all : List NumberedStatement) → 1 ≤ version → version ≤ version_most
+    → AreStated 0 all → AreReadAgain version all → past_limit [] [] all ≡ None
+    → ParsesAs (printed (script_of version all)) (script_of version all)
+ParsesAs-script_of version all least most h again few =
+    let opens = statements-open version all least most again in
+    let same = script_of-renumbered version all opens.number in
     record {
-      again = script_of (renumbered 1 all);
-      read = reading-printed all h again few;
+      again = script_of version (renumbered opens.number all);
+      read = reading-printed version all h again few opens;
+      version = same.version;
       lines = same.lines;
       variables = same.variables;
       fields = same.fields;
     }
 
--- so is what was read where there are not too many names
-limit-ParsesAs : (all : List NumberedStatement) (past : Option ℕ) (script : ScriptText)
-    → AreStated 0 all → AreReadAgain all → past_limit [] [] all ≡ past
-    → within_limit all past ≡ Ok script → ParsesAs (printed script) script
-limit-ParsesAs all None script h again few e =
-    let same : script_of all ≡ script = cc in
-    subst (λ s. ParsesAs (printed s) s) same (ParsesAs-script_of all h again few)
-limit-ParsesAs all (Some line) script h again few e = cc
+-- the lines behind others have no line feed where none has
+feed-behind : (before after : List (List ℕ)) → AllAvoid is_feed (before ++ after) → AllAvoid is_feed after
+feed-behind [] after h = h
+feed-behind (line ∷ before) after h = feed-behind before after h.1
 
--- and where no line is refused
-statements-ParsesAs :
-    (source : List ℕ) (read : Result (List NumberedStatement) BadScript) (script : ScriptText)
-    → stated_from 1 [] (lines_of source) ≡ read → script_or_stop read ≡ Ok script
-    → ParsesAs (printed script) script
-statements-ParsesAs source (Err stop) script h e = cc
-statements-ParsesAs source (Ok all) script h e =
-    limit-ParsesAs all (past_limit [] [] all) script (stated_from-AreStated 1 [] (lines_of source) all h)
-    (stated_from-AreReadAgain 1 [] (lines_of source) all (feed-lines_of source) h) refl e
+-- the lines where the commands begin have none
+feed-begun : (lines : List (List ℕ)) (opened : Result Opening BadScript) (opening : Opening) → Begin 1 lines opened
+    → opened ≡ Ok opening → AllAvoid is_feed lines → AllAvoid is_feed opening.lines
+feed-begun lines opened opening (empty silent e) o h =
+    let made : Ok (unsaid (1 + length lines) []) ≡ Ok opening = sym e ∙ o in
+    let same : unsaid (1 + length lines) [] ≡ opening = cc in
+    subst (λ one. AllAvoid is_feed one.lines) same tt
+feed-begun lines opened opening (other before line after cut silent is e) o h =
+    let made : Ok (unsaid (1 + length before) (line ∷ after)) ≡ Ok opening = sym e ∙ o in
+    let same : unsaid (1 + length before) (line ∷ after) ≡ opening = cc in
+    subst (λ one. AllAvoid is_feed one.lines) same
+    (feed-behind before (line ∷ after) (subst (AllAvoid is_feed) cut h))
+feed-begun lines opened opening (said before line after tokens cut silent says e) o h =
+    with_version (version_in tokens) (sym e ∙ o)
+    (feed-behind before (line ∷ after) (subst (AllAvoid is_feed) cut h)).1
+  where
+    with_version : (read : Result ℕ Why) → opening_with (1 + length before) after read ≡ Ok opening
+        → AllAvoid is_feed after → AllAvoid is_feed opening.lines
+    with_version (Err reason) made rest = cc
+    with_version (Ok version) made rest =
+        let one : Opening = record { version = version; number = suc (1 + length before); lines = after } in
+        let same : one ≡ opening = cc in
+        subst (λ some. AllAvoid is_feed some.lines) same rest
 
 -- a script that was read is read again from its canonical form
 pub printed_is_read_again : PrintedIsReadAgain
 printed_is_read_again source script e =
-    statements-ParsesAs source (stated_from 1 [] (lines_of source)) script refl e
+    let lines = lines_of source in
+    let parts = reading-parts (opening_from 1 lines) script e in
+    let o = parts.opening in
+    let read = parts.all in
+    let known = (openings 1 lines o parts.is).known in
+    let begin = versions_stand_first 1 lines in
+    let feed = feed-begun lines (opening_from 1 lines) o begin parts.is (feed-lines_of source) in
+    subst (λ s. ParsesAs (printed s) s) read.same
+    (ParsesAs-script_of o.version read.stated known.0 known.1
+    (stated_from-AreStated o.version o.number [] o.lines read.stated read.is)
+    (stated_from-AreReadAgain o.version o.number [] o.lines read.stated feed read.is) read.within)

@@ -10,7 +10,7 @@ use Rattle.script_text.specs.declared.script.Why.{Why}
 use Rattle.script_text.specs.declared.script.Why.TheVariants as why
 use Rattle.script_text.specs.Limits.{line_bytes_most, open_most}
 use Rattle.script_text.specs.Lines.{tokens_of}
-use Rattle.script_text.specs.Table.{places_of, keyword_among, keywords}
+use Rattle.script_text.specs.Table.{places_of, keyword_among, keywords_of}
 use Rattle.script_text.specs.Tokens.{is_name, integer_of}
 use Rattle.script_text.specs.Statements.{RawOperand, variable, field, literal, undefined, bound, integer_or_bound}
 use Rattle.script_text.specs.Statements.{literal_up_to, written_at, written_all, joined, statement_with}
@@ -102,15 +102,15 @@ if_command-open tokens None e = cc
 if_command-open tokens (Some k) e = even-open (eqb (length tokens) (length (places_of k))) k tokens e
 
 -- nor are tokens
-statement_of-open : (tokens : List (List ℕ)) → statement_of tokens ≡ Err why.Open → ⊥
-statement_of-open [] e = cc
-statement_of-open (first ∷ tokens) e = if_command-open tokens (keyword_among keywords first) e
+statement_of-open : (version : ℕ) (tokens : List (List ℕ)) → statement_of version tokens ≡ Err why.Open → ⊥
+statement_of-open version [] e = cc
+statement_of-open version (first ∷ tokens) e = if_command-open tokens (keyword_among (keywords_of version) first) e
 
 -- nor is a line
-long-open : (b : Bool) (tokens : List (List ℕ))
-    → cond b (Err why.Long) (statement_of tokens) ≡ Err why.Open → ⊥
-long-open true tokens e = cc
-long-open false tokens e = statement_of-open tokens e
+long-open : (version : ℕ) (b : Bool) (tokens : List (List ℕ))
+    → cond b (Err why.Long) (statement_of version tokens) ≡ Err why.Open → ⊥
+long-open version true tokens e = cc
+long-open version false tokens e = statement_of-open version tokens e
 
 -- no `repeat` is misplaced for an open one
 shallow-open : (b : Bool) (inner : List ℕ) → cond b (Ok inner) (Err why.Nesting) ≡ Err why.Open → ⊥
@@ -125,7 +125,7 @@ nest-open number (innermost ∷ outer) keyword.End e = cc
 nest-open number open' other e = cc
 
 -- no line is refused because a `repeat` is open
-pub refused-open : (number : ℕ) (open' line : List ℕ) → IsRefused number open' line why.Open → ⊥
-refused-open number open' line (unread e) =
-    long-open (nat_lt line_bytes_most (length line)) (tokens_of line) e
-refused-open number open' line (misplaced statement p e) = nest-open number open' statement.keyword e
+pub refused-open : (version number : ℕ) (open' line : List ℕ) → IsRefused version number open' line why.Open → ⊥
+refused-open version number open' line (unread e) =
+    long-open version (nat_lt line_bytes_most (length line)) (tokens_of line) e
+refused-open version number open' line (misplaced statement p e) = nest-open number open' statement.keyword e

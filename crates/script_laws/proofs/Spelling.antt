@@ -11,7 +11,7 @@ use Rattle.script_text.specs.declared.table.OperandKind.TheVariants.{Variable, F
 use Rattle.script_text.specs.Limits.{line_bytes_most}
 use Rattle.script_text.specs.Tokens.{is_name, integer_of}
 use Rattle.script_text.specs.Lines.{tokens_of}
-use Rattle.script_text.specs.Table.{keyword_text, keywords, keyword_among, places_of}
+use Rattle.script_text.specs.Table.{keyword_text, keywords_of, keyword_among, places_of}
 use Rattle.script_text.specs.Statements.{Statement, RawOperand, variable, field, literal, integer, undefined, bound}
 use Rattle.script_text.specs.Statements.{literal_up_to, integer_or_bound, written_at, written_all, joined}
 use Rattle.script_text.specs.Statements.{statement_with}
@@ -21,23 +21,11 @@ use Rattle.script_text.proofs.Numbers.{bytes_tell}
 use Rattle.script_laws.proofs.Integers.{integers_are_written}
 use Rattle.script_laws.proofs.Spacing.{Avoids, is_feed, Avoids-spaced, AllAvoid-tokens_of, tokens_of-again}
 use Rattle.script_laws.proofs.Widths.{length-spaced}
+use Rattle.script_laws.proofs.Words.{keyword_among-text}
 
 -- the words of a statement: its command and its operands
 abbrev pub statement_words : Statement → List (List ℕ)
 statement_words statement = keyword_text statement.keyword ∷ map written_token statement.operands
-
--- the word of the command that was found
-keyword_among-text : (ks : List Keyword) (token : List ℕ) (k : Keyword) → keyword_among ks token ≡ Some k
-    → keyword_text k ≡ token
-keyword_among-text [] token k e = cc
-keyword_among-text (first ∷ ks) token k e =
-    elim (bytes_tell token (keyword_text first)) [
-      | inl h ↦
-          let found : Some first ≡ Some k = sym (ap (λ v. cond v (Some first) (keyword_among ks token)) h.0) ∙ e in
-          let same : first ≡ k = cc in
-          ap keyword_text (sym same) ∙ sym h.1
-      | inr h ↦ keyword_among-text ks token k (sym (ap (λ v. cond v (Some first) (keyword_among ks token)) h.0) ∙ e)
-    ]
 
 -- the token of a name of this kind is the name
 name-token : (kind : List ℕ → RawOperand) (v : Bool) (reason : Why) (token : List ℕ) (written : RawOperand)
@@ -144,33 +132,33 @@ count-words true k tokens statement h e =
 count-words false k tokens statement h e = cc
 
 -- and where the command is found by its word
-if_command-words : (first : List ℕ) (tokens : List (List ℕ)) (k : Option Keyword) (statement : Statement)
-    → keyword_among keywords first ≡ k → if_command tokens k ≡ Ok (Some statement)
+if_command-words : (version : ℕ) (first : List ℕ) (tokens : List (List ℕ)) (k : Option Keyword) (statement : Statement)
+    → keyword_among (keywords_of version) first ≡ k → if_command tokens k ≡ Ok (Some statement)
     → statement_words statement ≡ first ∷ tokens
-if_command-words first tokens None statement found e = cc
-if_command-words first tokens (Some k) statement found e =
+if_command-words version first tokens None statement found e = cc
+if_command-words version first tokens (Some k) statement found e =
     count-words (eqb (length tokens) (length (places_of k))) k tokens statement (λ h. grind (arith, nat_tests)) e
-    ∙ ap (λ word. word ∷ tokens) (keyword_among-text keywords first k found)
+    ∙ ap (λ word. word ∷ tokens) (keyword_among-text (keywords_of version) first k found)
 
 -- the words of a statement are the tokens that it was read from
-statement_of-words : (tokens : List (List ℕ)) (statement : Statement)
-    → statement_of tokens ≡ Ok (Some statement) → statement_words statement ≡ tokens
-statement_of-words [] statement e = cc
-statement_of-words (first ∷ tokens) statement e =
-    if_command-words first tokens (keyword_among keywords first) statement refl e
+statement_of-words : (version : ℕ) (tokens : List (List ℕ)) (statement : Statement)
+    → statement_of version tokens ≡ Ok (Some statement) → statement_words statement ≡ tokens
+statement_of-words version [] statement e = cc
+statement_of-words version (first ∷ tokens) statement e =
+    if_command-words version first tokens (keyword_among (keywords_of version) first) statement refl e
 
 -- a line with a statement is not too long, and its tokens make the statement
-record IsShort (line : List ℕ) (statement : Statement) : Type 0 where
-  short : nat_lt line_bytes_most (length line) ≡ false
-  read : statement_of (tokens_of line) ≡ Ok (Some statement)
+pub record IsShort (version : ℕ) (line : List ℕ) (statement : Statement) : Type 0 where
+  pub short : nat_lt line_bytes_most (length line) ≡ false
+  pub read : statement_of version (tokens_of line) ≡ Ok (Some statement)
 
 -- a line that is not refused as too long is short
-short-test : (line : List ℕ) (statement : Statement) (long : Bool)
+short-test : (version : ℕ) (line : List ℕ) (statement : Statement) (long : Bool)
     → nat_lt line_bytes_most (length line) ≡ long
-    → cond long (Err why.Long) (statement_of (tokens_of line)) ≡ Ok (Some statement)
-    → IsShort line statement
-short-test line statement true h e = cc
-short-test line statement false h e = record { short = h; read = e }
+    → cond long (Err why.Long) (statement_of version (tokens_of line)) ≡ Ok (Some statement)
+    → IsShort version line statement
+short-test version line statement true h e = cc
+short-test version line statement false h e = record { short = h; read = e }
 
 -- what is no longer than a short line is short
 still_short : (some more : ℕ) → some ≤ more → nat_lt line_bytes_most more ≡ false
@@ -178,30 +166,30 @@ still_short : (some more : ℕ) → some ≤ more → nat_lt line_bytes_most mor
 still_short some more le h = grind (arith, nat_tests)
 
 -- the line of a statement is short
-line-IsShort : (line : List ℕ) (statement : Statement)
-    → statement_of_line line ≡ Ok (Some statement) → IsShort line statement
-line-IsShort line statement e = short-test line statement (nat_lt line_bytes_most (length line)) refl e
+pub line-IsShort : (version : ℕ) (line : List ℕ) (statement : Statement)
+    → statement_of_line version line ≡ Ok (Some statement) → IsShort version line statement
+line-IsShort version line statement e = short-test version line statement (nat_lt line_bytes_most (length line)) refl e
 
 -- the canonical form of a statement is that of the line that it was read from
-statement_text-line : (line : List ℕ) (statement : Statement)
-    → statement_of_line line ≡ Ok (Some statement) → statement_text statement ≡ spaced (tokens_of line)
-statement_text-line line statement e =
-    ap spaced (statement_of-words (tokens_of line) statement (line-IsShort line statement e).read)
+statement_text-line : (version : ℕ) (line : List ℕ) (statement : Statement)
+    → statement_of_line version line ≡ Ok (Some statement) → statement_text statement ≡ spaced (tokens_of line)
+statement_text-line version line statement e =
+    ap spaced (statement_of-words version (tokens_of line) statement (line-IsShort version line statement e).read)
 
 -- the canonical form of a statement is read as the statement
 pub statements_are_read_again : StatementsAreReadAgain
-statements_are_read_again line statement e =
-    let parts = line-IsShort line statement e in
+statements_are_read_again version line statement e =
+    let parts = line-IsShort version line statement e in
     let form = spaced (tokens_of line) in
     let short = still_short (length form) (length line) (length-spaced line) parts.short in
-    ap statement_of_line (statement_text-line line statement e)
-    ∙ ap (λ long. cond long (Err why.Long) (statement_of (tokens_of form))) short
-    ∙ ap statement_of (tokens_of-again line) ∙ parts.read
+    ap (statement_of_line version) (statement_text-line version line statement e)
+    ∙ ap (λ long. cond long (Err why.Long) (statement_of version (tokens_of form))) short
+    ∙ ap (statement_of version) (tokens_of-again line) ∙ parts.read
 
 -- it is one line, where the statement was read from one
-pub feed-statement_text : (line : List ℕ) (statement : Statement)
-    → statement_of_line line ≡ Ok (Some statement) → Avoids is_feed line
+pub feed-statement_text : (version : ℕ) (line : List ℕ) (statement : Statement)
+    → statement_of_line version line ≡ Ok (Some statement) → Avoids is_feed line
     → Avoids is_feed (statement_text statement)
-feed-statement_text line statement e h =
-    subst (Avoids is_feed) (sym (statement_text-line line statement e))
+feed-statement_text version line statement e h =
+    subst (Avoids is_feed) (sym (statement_text-line version line statement e))
     (Avoids-spaced is_feed (tokens_of line) refl (AllAvoid-tokens_of is_feed line h))

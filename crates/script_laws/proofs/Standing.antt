@@ -69,6 +69,7 @@ arguments_in-what ends repeats keyword.Add (argument.Variable x ∷ argument.Val
 arguments_in-what ends repeats keyword.Set (argument.Variable x ∷ argument.Field y ∷ argument.Value z ∷ []) h = refl
 arguments_in-what ends repeats keyword.Get (argument.Variable x ∷ argument.Variable y ∷ argument.Field z ∷ []) h = refl
 arguments_in-what ends repeats keyword.Del (argument.Variable x ∷ argument.Field y ∷ []) h = refl
+arguments_in-what ends repeats keyword.Proto (argument.Variable x ∷ argument.Value y ∷ []) h = refl
 arguments_in-what ends repeats keyword.Push (argument.Variable x ∷ argument.Value y ∷ []) h = refl
 arguments_in-what ends repeats keyword.Put (argument.Variable x ∷ argument.Value y ∷ argument.Value z ∷ []) h = refl
 arguments_in-what ends repeats keyword.At (argument.Variable x ∷ argument.Variable y ∷ argument.Value z ∷ []) h = refl

@@ -1,6 +1,6 @@
 -- A script in canonical form: each command on a line of its own, its words one space apart.
 use Rattle.std.specs.Prelude.{◌≡◌, ℕ, List, [], ◌∷◌, ◌++◌, map, flat_map, Some, Ok, pos, unwrap_or}
-use Rattle.std.specs.Prelude.{slice_get, codes}
+use Rattle.std.specs.Prelude.{slice_get, codes, ◌==◌, if◌then◌else◌}
 use Rattle.std.specs.Fmt.{signed_decimal}
 use Rattle.heap_command.specs.declared.command.Operand.TheVariants.{Int, Undefined, Var}
 use Rattle.heap_command.specs.declared.command.Command.TheVariants as command
@@ -14,6 +14,7 @@ use Rattle.script_text.specs.Table.{keyword_text}
 use Rattle.script_text.specs.Statements.{Statement, RawOperand, variable, field, literal, integer, undefined, bound}
 use Rattle.script_text.specs.Statements.{statement_of_line}
 use Rattle.script_text.specs.Scripts.{ScriptText}
+use Rattle.script_text.specs.Versions.{version_word}
 use Rattle.script_text.specs.Grammar.{reading}
 
 -- each of the words after a space
@@ -63,6 +64,7 @@ keyword_of (Run (command.Add x v)) = keyword.Add
 keyword_of (Run (command.Set x f v)) = keyword.Set
 keyword_of (Run (command.Get y x f)) = keyword.Get
 keyword_of (Run (command.Del x f)) = keyword.Del
+keyword_of (Run (command.Proto x v)) = keyword.Proto
 keyword_of (Run (command.Push x v)) = keyword.Push
 keyword_of (Run (command.Put x i v)) = keyword.Put
 keyword_of (Run (command.At y x i)) = keyword.At
@@ -94,6 +96,7 @@ arguments_in (Run (command.Add x v)) = Variable x ∷ Value v ∷ []
 arguments_in (Run (command.Set x f v)) = Variable x ∷ Field f ∷ Value v ∷ []
 arguments_in (Run (command.Get y x f)) = Variable y ∷ Variable x ∷ Field f ∷ []
 arguments_in (Run (command.Del x f)) = Variable x ∷ Field f ∷ []
+arguments_in (Run (command.Proto x v)) = Variable x ∷ Value v ∷ []
 arguments_in (Run (command.Push x v)) = Variable x ∷ Value v ∷ []
 arguments_in (Run (command.Put x i v)) = Variable x ∷ Value i ∷ Value v ∷ []
 arguments_in (Run (command.At y x i)) = Variable y ∷ Variable x ∷ Value i ∷ []
@@ -114,20 +117,28 @@ abbrev pub what_text : List (List ℕ) → List (List ℕ) → What → List ℕ
 what_text variables fields what =
     spaced (keyword_text (keyword_of what) ∷ map (token_of variables fields) (arguments_in what))
 
--- a script in canonical form
-abbrev pub printed : ScriptText → List ℕ
-printed script = ended (map (λ line. what_text script.variables script.fields line.what) script.lines)
+-- the line that says a version, where it is not the first
+abbrev pub version_lines : ℕ → List (List ℕ)
+version_lines version =
+    if version == 1 then [] else spaced (version_word ∷ signed_decimal (pos version) ∷ []) ∷ []
 
--- a statement that is read from a line is read from its canonical form too
+-- a script in canonical form: its version, if it is not the first, and then its lines
+abbrev pub printed : ScriptText → List ℕ
+printed script =
+    ended (version_lines script.version
+    ++ map (λ line. what_text script.variables script.fields line.what) script.lines)
+
+-- a statement that a version reads from a line is read from its canonical form too
 abbrev pub StatementsAreReadAgain : Type 0
 StatementsAreReadAgain =
-    (line : List ℕ) (statement : Statement) → statement_of_line line ≡ Ok (Some statement)
-    → statement_of_line (statement_text statement) ≡ Ok (Some statement)
+    (version : ℕ) (line : List ℕ) (statement : Statement) → statement_of_line version line ≡ Ok (Some statement)
+    → statement_of_line version (statement_text statement) ≡ Ok (Some statement)
 
--- the source is read as a script that does the same, line for line, with the same names by number
+-- the source is read as a script of the same version that does the same, line for line, with the same names by number
 pub record ParsesAs (source : List ℕ) (script : ScriptText) : Type 0 where
   pub again : ScriptText
   pub read : reading source ≡ Ok again
+  pub version : again.version ≡ script.version
   pub lines : map (λ line. line.what) again.lines ≡ map (λ line. line.what) script.lines
   pub variables : again.variables ≡ script.variables
   pub fields : again.fields ≡ script.fields

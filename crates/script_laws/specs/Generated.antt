@@ -5,10 +5,11 @@ use Rattle.script_text.specs.Scripts.{ScriptText}
 use Rattle.script_text.specs.Grammar.{reading}
 use Rattle.script_gen.specs.Generated.{generated}
 
--- the source is read as a script with no more names than these
+-- the source is read as a script of the first version, with no more names than these
 pub record IsScript (source : List ℕ) (variables_most fields_most : ℕ) : Type 0 where
   pub script : ScriptText
   pub read : reading source ≡ Ok script
+  pub version_is : script.version ≡ 1
   pub few_variables : length script.variables ≤ variables_most
   pub few_fields : length script.fields ≤ fields_most
 

@@ -1,5 +1,6 @@
 pub mod Naming
 pub mod Words
+pub mod Openings
 pub mod Refusals
 pub mod Execution
 pub mod Canonical

@@ -6,7 +6,8 @@
 #![tactic(auto)]
 
 ghost use Rattle.script_laws.specs.Naming.{FirstUsesName, NumbersNameBack};
-ghost use Rattle.script_laws.specs.Words.{IntegersAreRead, IntegersAreWritten, KeywordsAreFound};
+ghost use Rattle.script_laws.specs.Words.{IntegersAreRead, IntegersAreWritten, KeywordsAreFound, KeywordsAreKnown};
+ghost use Rattle.script_laws.specs.Openings.{VersionsStandFirst};
 ghost use Rattle.script_laws.specs.Refusals.{RefusesFirst, RefusesOpen, CountsNamesLast};
 ghost use Rattle.script_laws.specs.Execution.{ScriptsAreWhole, UnrollsRuns, UnrollsBlocks, AllIsLeft, NothingIsLeft};
 ghost use Rattle.script_laws.specs.Execution.{GoesPastCommands, GoesIntoBlocks, GoesPastBlocks, GoesBack, GoesOut};
@@ -22,11 +23,18 @@ pub fn names_are_numbered()
 {}
 
 /// What `print` writes of an integer of 64 bits is read as it, and nothing else is; the word of a
-/// command is found as this command.
+/// command is found as this command by each version that has it, and by no other.
 pub fn words_are_read()
     ensures integers_read { IntegersAreRead }
     ensures integers_written { IntegersAreWritten }
     ensures keywords_found { KeywordsAreFound }
+    ensures keywords_known { KeywordsAreKnown }
+{}
+
+/// Lines without tokens stand first in a source. The next line says the version of the others, or
+/// else the version is the first, and the commands begin with this line.
+pub fn versions_stand_first()
+    ensures { VersionsStandFirst }
 {}
 
 /// The line of a refusal is the first that is refused. Where no line is, it is the innermost
@@ -62,13 +70,13 @@ pub fn execution_goes_on()
 {}
 
 /// A command that is read from a line is read from its canonical form too. So is a script: the same
-/// commands, repeats and ends in the same order, with the same names.
+/// commands, repeats and ends in the same order, with the same names, by the same version.
 pub fn printed_is_read_again()
     ensures statements { StatementsAreReadAgain }
     ensures scripts { PrintedIsReadAgain }
 {}
 
-/// A script that is generated is a script, within the limits, for every seed and every number of
+/// A script that is generated is a script of the first version, within the limits, for every seed and every number of
 /// forms: no line of it is refused, and it has few names and short lines. With up to 30,000 forms it
 /// is no longer than a source may be.
 pub fn generated_scripts_are_read()

@@ -44,11 +44,58 @@ fn a_source_is_read_as_its_lines_and_names(rt: HostRuntime) -> Result<(), Fail> 
 }
 
 #[test]
+fn the_first_line_with_tokens_says_the_version(rt: HostRuntime) {
+    let rows: [(&[u8], u32, u32); 4] = [
+        (b"gc", 1, 1),
+        (b"version 1\ngc", 1, 2),
+        (b"version 2\n\ngc", 2, 3),
+        (b"# note\n\n\tversion  2 # the version\r\ngc", 2, 4),
+    ];
+    for (source, version, number) in rows {
+        let script = parse(rt.alloc(), source).expect(&rt, "the source is a script");
+        assert_eq!(rt; (script.version(), script.lines().len()), (version, 1));
+        for line in script.lines() {
+            assert_eq!(rt; (line.number, line.what), (number, What::Run(Command::Gc)));
+        }
+    }
+}
+
+#[test]
+fn version_2_gives_prototypes(rt: HostRuntime) {
+    let source = b"version 2\nproto a b\nproto b undefined";
+    let script = parse(rt.alloc(), source).expect(&rt, "the source is a script");
+    let v = Operand::Undefined;
+    let expected = [
+        (
+            2,
+            Command::Proto {
+                x: 0,
+                v: Operand::Var(1),
+            },
+        ),
+        (3, Command::Proto { x: 1, v }),
+    ];
+    let lines = script.lines();
+    assert_eq!(rt; lines.len(), expected.len());
+    for (line, (number, command)) in lines.iter().zip(&expected) {
+        assert_eq!(rt; (line.number, line.what), (*number, What::Run(*command)));
+    }
+}
+
+#[test]
 fn another_source_is_refused_with_its_line_and_reason(rt: HostRuntime) {
-    let rows: [(&[u8], u32, Why); 3] = [
+    let rows: [(&[u8], u32, Why); 11] = [
         (b"print 1\nmake x", 2, Why::Command),
         (b"mark x", 1, Why::Count),
         (b"repeat 2", 1, Why::Open),
+        (b"proto a b", 1, Why::Command),
+        (b"version 1\nproto a b", 2, Why::Command),
+        (b"version 2\nproto a", 2, Why::Count),
+        (b"version 2\nversion 2", 2, Why::Command),
+        (b"gc\nversion 2", 2, Why::Command),
+        (b"version 3", 1, Why::Integer),
+        (b"version", 1, Why::Count),
+        (b"# note\n\nversion 1 2", 3, Why::Count),
     ];
     for (source, line, why) in rows {
         match parse(rt.alloc(), source) {

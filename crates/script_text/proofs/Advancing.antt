@@ -50,7 +50,7 @@ pub record AreLines (stated : List StatedSlices) (i : ℕ) (variables fields : L
   pub all : all_ended (λ n. end_after n i (map stated_shown (drop i stated))) open' lines
       ++ lines_from (first_uses (variables_in (map stated_shown stated)))
       (first_uses (fields_in (map stated_shown stated))) i open' (map stated_shown (drop i stated))
-      ≡ (script_of (map stated_shown stated)).lines
+      ≡ (script_of 1 (map stated_shown stated)).lines
 
 -- What is known of the next statement: it stands here, and its names have got numbers.
 pub record IsNext (stated : List StatedSlices) (i : ℕ) (x : StatedSlices)
@@ -199,7 +199,7 @@ AreLines-more stated i x variables fields variables' fields' open' inner lines p
 
 -- All statements are lines.
 pub record AreAll (stated : List StatedSlices) (variables fields : List (List ℕ)) (lines : List Line) : Type 0 where
-  pub script : script_of (map stated_shown stated) ≡ script_text lines variables fields
+  pub script : (version : ℕ) → script_of version (map stated_shown stated) ≡ script_text version lines variables fields
   pub within : past_limit [] [] (map stated_shown stated) ≡ None
 
 -- no `repeat` is open after the last statement
@@ -213,7 +213,7 @@ pub AreLines-all : (stated : List StatedSlices) (i : ℕ) (variables fields : Li
     → AreAll stated variables fields lines
 AreLines-all stated i variables fields open' lines past h =
     let end = drop_all i stated past in
-    let all = script_of (map stated_shown stated) in
+    let all = script_of 1 (map stated_shown stated) in
     let vs : variables ≡ all.variables =
     sym (ap (λ rest. fold with_name variables (variables_in (map stated_shown rest))) end) ∙ h.variables_are in
     let fs : fields ≡ all.fields =
@@ -226,8 +226,9 @@ AreLines-all stated i variables fields open' lines past h =
     sym (ap (λ rest. rest_of rest open') end ∙ ap (rest_of []) none ∙ append-nil lines) ∙ h.all in
     record {
       script =
-          sym (ap (λ some. script_text some variables fields) ls
-          ∙ ap (λ names. script_text all.lines names fields) vs ∙ ap (script_text all.lines all.variables) fs);
+          λ version. sym (ap (λ some. script_text version some variables fields) ls
+          ∙ ap (λ names. script_text version all.lines names fields) vs
+          ∙ ap (script_text version all.lines all.variables) fs);
       within =
           sym h.within ∙ ap (λ rest. past_limit variables fields (map stated_shown rest)) end;
     }

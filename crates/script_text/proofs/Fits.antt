@@ -11,7 +11,7 @@ use Rattle.script_text.specs.declared.table.OperandKind.TheVariants.{Variable, F
 use Rattle.script_text.specs.Limits.{line_bytes_most}
 use Rattle.script_text.specs.Tokens.{is_name, integer_of}
 use Rattle.script_text.specs.Lines.{tokens_of}
-use Rattle.script_text.specs.Table.{places_of, keyword_among, keywords}
+use Rattle.script_text.specs.Table.{places_of, keyword_among, keywords_of}
 use Rattle.script_text.specs.Statements.{Statement, RawOperand, variable, field, literal, integer, undefined, bound}
 use Rattle.script_text.specs.Statements.{written_at}
 use Rattle.script_text.specs.Statements.{written_all, joined, literal_up_to, integer_or_bound, statement_of}
@@ -124,20 +124,20 @@ if_command-IsStated (Some k) tokens statement e =
     even_given (eqb (length tokens) (length (places_of k))) k tokens statement (λ h. grind (arith, nat_tests)) e
 
 -- so it has where it is read from tokens
-statement_of-IsStated : (tokens : List (List ℕ)) (statement : Statement)
-    → statement_of tokens ≡ Ok (Some statement) → IsStated statement
-statement_of-IsStated [] statement e = cc
-statement_of-IsStated (first ∷ tokens) statement e =
-    if_command-IsStated (keyword_among keywords first) tokens statement e
+statement_of-IsStated : (version : ℕ) (tokens : List (List ℕ)) (statement : Statement)
+    → statement_of version tokens ≡ Ok (Some statement) → IsStated statement
+statement_of-IsStated version [] statement e = cc
+statement_of-IsStated version (first ∷ tokens) statement e =
+    if_command-IsStated (keyword_among (keywords_of version) first) tokens statement e
 
 -- and from a line that is not too long
-short-IsStated : (long : Bool) (tokens : List (List ℕ)) (statement : Statement)
-    → cond long (Err why.Long) (statement_of tokens) ≡ Ok (Some statement) → IsStated statement
-short-IsStated true tokens statement e = cc
-short-IsStated false tokens statement e = statement_of-IsStated tokens statement e
+short-IsStated : (version : ℕ) (long : Bool) (tokens : List (List ℕ)) (statement : Statement)
+    → cond long (Err why.Long) (statement_of version tokens) ≡ Ok (Some statement) → IsStated statement
+short-IsStated version true tokens statement e = cc
+short-IsStated version false tokens statement e = statement_of-IsStated version tokens statement e
 
 -- the operands of a line's statement fit its command
-pub statement_of_line-IsStated : (line : List ℕ) (statement : Statement)
-    → statement_of_line line ≡ Ok (Some statement) → IsStated statement
-statement_of_line-IsStated line statement e =
-    short-IsStated (nat_lt line_bytes_most (length line)) (tokens_of line) statement e
+pub statement_of_line-IsStated : (version : ℕ) (line : List ℕ) (statement : Statement)
+    → statement_of_line version line ≡ Ok (Some statement) → IsStated statement
+statement_of_line-IsStated version line statement e =
+    short-IsStated version (nat_lt line_bytes_most (length line)) (tokens_of line) statement e

@@ -85,17 +85,17 @@ stated_then-AreStated number open' (Ok (Some statement)) more all is step e =
 
 -- the statements of lines were read from them
 pub stated_from-AreStated :
-    (number : ℕ) (open' : List ℕ) (lines : List (List ℕ)) (all : List NumberedStatement)
-    → stated_from number open' lines ≡ Ok all → AreStated (length open') all
-stated_from-AreStated number [] [] all e =
+    (version number : ℕ) (open' : List ℕ) (lines : List (List ℕ)) (all : List NumberedStatement)
+    → stated_from version number open' lines ≡ Ok all → AreStated (length open') all
+stated_from-AreStated version number [] [] all e =
     let same : [] ≡ all = cc in
     subst (AreStated 0) same refl
-stated_from-AreStated number (innermost ∷ outer) [] all e = cc
-stated_from-AreStated number open' (line ∷ lines) all e =
-    stated_then-AreStated number open' (statement_of_line line)
-    (λ inner. stated_from (suc number) inner lines) all
-    (λ statement h. statement_of_line-IsStated line statement h)
-    (λ deep rest h. stated_from-AreStated (suc number) deep lines rest h) e
+stated_from-AreStated version number (innermost ∷ outer) [] all e = cc
+stated_from-AreStated version number open' (line ∷ lines) all e =
+    stated_then-AreStated number open' (statement_of_line version line)
+    (λ inner. stated_from version (suc number) inner lines) all
+    (λ statement h. statement_of_line-IsStated version line statement h)
+    (λ deep rest h. stated_from-AreStated version (suc number) deep lines rest h) e
 
 -- a statement before others is one more
 followed-few : (n : ℕ) (stated : NumberedStatement) (more : Result (List NumberedStatement) BadScript)
@@ -126,13 +126,13 @@ then-few n number open' (Ok (Some statement)) more all h e =
 
 -- there are at most as many statements as lines
 pub stated_from-few :
-    (number : ℕ) (open' : List ℕ) (lines : List (List ℕ)) (all : List NumberedStatement)
-    → stated_from number open' lines ≡ Ok all → length all ≤ length lines
-stated_from-few number [] [] all e =
+    (version number : ℕ) (open' : List ℕ) (lines : List (List ℕ)) (all : List NumberedStatement)
+    → stated_from version number open' lines ≡ Ok all → length all ≤ length lines
+stated_from-few version number [] [] all e =
     let same : [] ≡ all = cc in
     omega (arith, ap length same)
-stated_from-few number (innermost ∷ outer) [] all e = cc
-stated_from-few number open' (line ∷ lines) all e =
-    then-few (length lines) number open' (statement_of_line line)
-    (λ inner. stated_from (suc number) inner lines) all
-    (λ deep rest h. stated_from-few (suc number) deep lines rest h) e
+stated_from-few version number (innermost ∷ outer) [] all e = cc
+stated_from-few version number open' (line ∷ lines) all e =
+    then-few (length lines) number open' (statement_of_line version line)
+    (λ inner. stated_from version (suc number) inner lines) all
+    (λ deep rest h. stated_from-few version (suc number) deep lines rest h) e

@@ -114,6 +114,8 @@ what_of-NamesWithin variables fields ends repeats keyword.Get arguments suits =
     (suits 0 place.Variable refl, suits 1 place.Variable refl, suits 2 place.Field refl)
 what_of-NamesWithin variables fields ends repeats keyword.Del arguments suits =
     (suits 0 place.Variable refl, suits 1 place.Field refl)
+what_of-NamesWithin variables fields ends repeats keyword.Proto arguments suits =
+    (suits 0 place.Variable refl, suits 1 place.Value refl)
 what_of-NamesWithin variables fields ends repeats keyword.Push arguments suits =
     (suits 0 place.Variable refl, suits 1 place.Value refl)
 what_of-NamesWithin variables fields ends repeats keyword.Put arguments suits =
@@ -163,8 +165,9 @@ lines_from-NamesWithin depth variables fields at open' (stated ∷ more) h vs fs
     (AreIn-right variables (variables_of statement) vs_more vs) (AreIn-right fields (fields_of statement) fs_more fs))
 
 -- a script that was read is numbered
-pub script_of-IsNumbered : (xs : List NumberedStatement) → AreStated 0 xs → IsNumbered (script_of xs)
-script_of-IsNumbered xs h =
+pub script_of-IsNumbered : (version : ℕ) (xs : List NumberedStatement) → AreStated 0 xs
+    → IsNumbered (script_of version xs)
+script_of-IsNumbered version xs h =
     let vs = flat_map (λ (s : NumberedStatement). variables_of s.statement) xs in
     let fs = flat_map (λ (s : NumberedStatement). fields_of s.statement) xs in
     lines_from-NamesWithin 0 (first_uses vs) (first_uses fs) 0 [] xs h

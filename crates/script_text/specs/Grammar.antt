@@ -12,6 +12,7 @@ use Rattle.script_text.specs.declared.script.BadScript.TheVariants.{BadLine, Too
 use Rattle.script_text.specs.Limits.{open_most, variable_names_most, field_names_most}
 use Rattle.script_text.specs.Lines.{lines_of}
 use Rattle.script_text.specs.Statements.{Statement, statement_of_line}
+use Rattle.script_text.specs.Versions.{Opening, opening_from}
 use Rattle.script_text.specs.Names.{first_uses, with_name, variables_of, fields_of}
 use Rattle.script_text.specs.Scripts.{ScriptText, NumberedStatement, what_in, end_after}
 
@@ -60,11 +61,12 @@ abbrev pub closed : List ℕ → Result (List NumberedStatement) BadScript
 closed [] = Ok []
 closed (innermost ∷ outer) = Err (BadLine innermost Open)
 
--- The statements of lines, the first with this number, inside the `repeat`s that are open; or the line that is refused.
-abbrev pub stated_from : ℕ → List ℕ → List (List ℕ) → Result (List NumberedStatement) BadScript
-stated_from number open' [] = closed open'
-stated_from number open' (line ∷ lines) =
-    stated_then number open' (statement_of_line line) (λ inner. stated_from (suc number) inner lines)
+-- The statements of lines by a version, the first with this number, inside the `repeat`s that are open; or the line
+-- that is refused.
+abbrev pub stated_from : ℕ → ℕ → List ℕ → List (List ℕ) → Result (List NumberedStatement) BadScript
+stated_from version number open' [] = closed open'
+stated_from version number open' (line ∷ lines) =
+    stated_then number open' (statement_of_line version line) (λ inner. stated_from version (suc number) inner lines)
 
 -- the first line that, with those before it, has too many names; these were there before
 abbrev pub past_limit : List (List ℕ) → List (List ℕ) → List NumberedStatement → Option ℕ
@@ -96,23 +98,30 @@ lines_from variables fields at open' (stated ∷ more) =
     record { number = stated.number; what = what } ∷ lines_from variables fields (suc at)
     (open_after at open' stated.statement.keyword) more
 
--- the script of some statements: variables and fields are numbered apart, in order of first appearance
-abbrev pub script_of : List NumberedStatement → ScriptText
-script_of stated =
+-- the script of a version with some statements: variables and fields are numbered apart, in order of first appearance
+abbrev pub script_of : ℕ → List NumberedStatement → ScriptText
+script_of version stated =
     let variables = first_uses (flat_map (λ s. variables_of s.statement) stated) in
     let fields = first_uses (flat_map (λ s. fields_of s.statement) stated) in
-    record { lines = lines_from variables fields 0 [] stated; variables = variables; fields = fields }
+    let lines = lines_from variables fields 0 [] stated in
+    record { version = version; lines = lines; variables = variables; fields = fields }
 
--- the script of some statements, or the first line with too many names
-abbrev pub within_limit : List NumberedStatement → Option ℕ → Result ScriptText BadScript
-within_limit stated None = Ok (script_of stated)
-within_limit stated (Some line) = Err (TooManyNames line)
+-- the script of a version with some statements, or the first line with too many names
+abbrev pub within_limit : ℕ → List NumberedStatement → Option ℕ → Result ScriptText BadScript
+within_limit version stated None = Ok (script_of version stated)
+within_limit version stated (Some line) = Err (TooManyNames line)
 
--- the script of the statements that were read, or the line that is refused
-abbrev pub script_or_stop : Result (List NumberedStatement) BadScript → Result ScriptText BadScript
-script_or_stop (Ok stated) = within_limit stated (past_limit [] [] stated)
-script_or_stop (Err stop) = Err stop
+-- the script of a version with the statements that were read, or the line that is refused
+abbrev pub script_or_stop : ℕ → Result (List NumberedStatement) BadScript → Result ScriptText BadScript
+script_or_stop version (Ok stated) = within_limit version stated (past_limit [] [] stated)
+script_or_stop version (Err stop) = Err stop
+
+-- what a source is read as whose commands begin so, or the line that says no version
+abbrev pub reading_from : Result Opening BadScript → Result ScriptText BadScript
+reading_from (Err stop) = Err stop
+reading_from (Ok opening) =
+    script_or_stop opening.version (stated_from opening.version opening.number [] opening.lines)
 
 -- What a source is read as. Lines are numbered from 1.
 abbrev pub reading : List ℕ → Result ScriptText BadScript
-reading source = script_or_stop (stated_from 1 [] (lines_of source))
+reading source = reading_from (opening_from 1 (lines_of source))

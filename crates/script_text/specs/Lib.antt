@@ -3,6 +3,7 @@ pub mod Lines
 pub mod Tokens
 pub mod Table
 pub mod Statements
+pub mod Versions
 pub mod Names
 pub mod Scripts
 pub mod Blocks

@@ -13,8 +13,9 @@ use Rattle.script_text.specs.declared.script.What.TheVariants.{Run, Repeat, End}
 use Rattle.script_text.specs.Statements.{Statement, RawOperand, variable, field, literal, integer, undefined, bound}
 use Rattle.script_text.specs.Names.{number_of_name}
 
--- the lines with what they do, and the names of the variables and of the fields by number
+-- the version, the lines with what they do, and the names of the variables and of the fields by number
 pub record ScriptText : Type 0 where
+  pub version : ℕ
   pub lines : List Line
   pub variables : List (List ℕ)
   pub fields : List (List ℕ)
@@ -85,6 +86,7 @@ what_of ends repeats keyword.Add a b c = Run (command.Add (as_variable a) (as_va
 what_of ends repeats keyword.Set a b c = Run (command.Set (as_variable a) (as_field b) (as_value c))
 what_of ends repeats keyword.Get a b c = Run (command.Get (as_variable a) (as_variable b) (as_field c))
 what_of ends repeats keyword.Del a b c = Run (command.Del (as_variable a) (as_field b))
+what_of ends repeats keyword.Proto a b c = Run (command.Proto (as_variable a) (as_value b))
 what_of ends repeats keyword.Push a b c = Run (command.Push (as_variable a) (as_value b))
 what_of ends repeats keyword.Put a b c = Run (command.Put (as_variable a) (as_value b) (as_value c))
 what_of ends repeats keyword.At a b c = Run (command.At (as_variable a) (as_variable b) (as_value c))

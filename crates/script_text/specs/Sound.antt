@@ -7,11 +7,13 @@ use Rattle.script_text.specs.declared.script.What.{What}
 use Rattle.script_text.specs.declared.script.What.TheVariants.{Run, Repeat, End}
 use Rattle.script_text.specs.Scripts.{ScriptText}
 use Rattle.script_text.specs.Limits.{turns_most, open_most, variable_names_most, field_names_most, name_bytes_most}
+use Rattle.script_text.specs.Versions.{version_most}
 use Rattle.script_text.specs.Whole.{IsPaired}
 
--- a script of these lines, variables and fields
-abbrev pub script_text : List Line → List (List ℕ) → List (List ℕ) → ScriptText
-script_text lines variables fields = record { lines = lines; variables = variables; fields = fields }
+-- a script of this version, with these lines, variables and fields
+abbrev pub script_text : ℕ → List Line → List (List ℕ) → List (List ℕ) → ScriptText
+script_text version lines variables fields =
+    record { version = version; lines = lines; variables = variables; fields = fields }
 
 -- the line names variables and fields below these counts, a cap is at most 8, and a `repeat` makes no more than the
 -- most turns
@@ -56,9 +58,10 @@ pub record IsMatched (lines : List Line) : Type 0 where
 abbrev pub AreShort : List (List ℕ) → Type 0
 AreShort names = All (λ name. length name ≤ name_bytes_most) names
 
--- The lines name only what the script has, each `repeat` has its `end`, there are not too many names, and those of
--- fields are short.
+-- The version is known, the lines name only what the script has, each `repeat` has its `end`, there are not too many
+-- names, and those of fields are short.
 pub record IsWellFormed (script : ScriptText) : Type 0 where
+  pub known : (1 ≤ script.version) × (script.version ≤ version_most)
   pub numbered : IsNumbered script
   pub matched : IsMatched script.lines
   pub placed : IsPaired 0 script.lines

@@ -9,7 +9,7 @@ use Rattle.script_text.specs.declared.script.Why.TheVariants as why
 use Rattle.script_text.specs.Limits.{line_bytes_most}
 use Rattle.script_text.specs.Lines.{tokens_of}
 use Rattle.script_text.specs.Tokens.{is_name, integer_of}
-use Rattle.script_text.specs.Table.{keywords, keyword_among, places_of}
+use Rattle.script_text.specs.Table.{keywords_of, keyword_among, places_of}
 
 -- an operand as it is written: the name of a variable or of a field, a literal, or a value
 pub data RawOperand : Type 0 where
@@ -72,12 +72,12 @@ abbrev pub if_command : List (List ℕ) → Option Keyword → Result (Option St
 if_command tokens None = Err why.Command
 if_command tokens (Some keyword) = with_operands keyword tokens
 
--- the statement of some tokens; nothing where there are no tokens
-abbrev pub statement_of : List (List ℕ) → Result (Option Statement) Why
-statement_of [] = Ok None
-statement_of (first ∷ tokens) = if_command tokens (keyword_among keywords first)
+-- the statement of some tokens by this version; nothing where there are no tokens
+abbrev pub statement_of : ℕ → List (List ℕ) → Result (Option Statement) Why
+statement_of version [] = Ok None
+statement_of version (first ∷ tokens) = if_command tokens (keyword_among (keywords_of version) first)
 
--- the statement of a line, or why the line is refused whatever stands before it
-abbrev pub statement_of_line : List ℕ → Result (Option Statement) Why
-statement_of_line line =
-    if nat_lt line_bytes_most (length line) then Err why.Long else statement_of (tokens_of line)
+-- the statement of a line by this version, or why the line is refused whatever stands before it
+abbrev pub statement_of_line : ℕ → List ℕ → Result (Option Statement) Why
+statement_of_line version line =
+    if nat_lt line_bytes_most (length line) then Err why.Long else statement_of version (tokens_of line)

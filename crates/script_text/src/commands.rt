@@ -47,6 +47,7 @@ pub(crate) fn what_of(end_at: u32, repeat_at: u32, keyword: Keyword, arguments: 
             f: *f,
         },
         (Keyword::Del, [Variable(x), Field(f)]) => Command::Del { x: *x, f: *f },
+        (Keyword::Proto, [Variable(x), Value(v)]) => Command::Proto { x: *x, v: *v },
         (Keyword::Push, [Variable(x), Value(v)]) => Command::Push { x: *x, v: *v },
         (Keyword::Put, [Variable(x), Value(i), Value(v)]) => Command::Put {
             x: *x,

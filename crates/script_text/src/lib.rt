@@ -21,6 +21,7 @@ mod statement;
 mod statements;
 mod table;
 mod tokens;
+mod versions;
 
 pub use commands::Argument;
 pub use parsing::parse;

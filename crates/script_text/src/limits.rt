@@ -1,5 +1,8 @@
 //! The limits of a script.
 
+/// The newest version of the grammar.
+pub(crate) const VERSION_MOST: u32 = 2;
+
 /// The most bytes of a line.
 pub(crate) const LINE_BYTES_MOST: usize = 4096;
 

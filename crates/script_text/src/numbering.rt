@@ -1,6 +1,6 @@
 //! The statements of a script as lines: names get numbers in the order in which they first appear, and
 //! each `repeat` and its `end` the place of the other.
-ghost use Rattle.std.specs.Prelude.{◌≡◌, ◌<◌, ◌≤◌, ◌+◌, ◌^◌, List, [], ◌∷◌, ◌++◌, None, false, IfOk, IfErr, OnOk};
+ghost use Rattle.std.specs.Prelude.{◌≡◌, ℕ, ◌<◌, ◌≤◌, ◌+◌, ◌^◌, List, [], ◌∷◌, ◌++◌, None, false, IfOk, IfErr, OnOk};
 ghost use Rattle.std.specs.Prelude.{fold, length, map, slice_get, take};
 ghost use Rattle.script_text.specs.Limits.{variable_names_most, field_names_most};
 ghost use Rattle.script_text.specs.Names.{with_name, names_at, variable_in, field_in, variables_of, fields_of};
@@ -43,9 +43,9 @@ pub(crate) fn with_numbers<'s>(
 ) -> Result<Numbered<'s>, BadScript>
     requires few { length stated.now < 2 ^ 32 }
     requires stated { AreStated 0 (map stated_shown stated.now) }
-    ensures script { IfOk result (λ all.
-        script_of (map stated_shown stated.now)
-        ≡ script_text all.lines.items all.names.variables all.names.fields) }
+    ensures script { IfOk result (λ all. (version : ℕ) →
+        script_of version (map stated_shown stated.now)
+        ≡ script_text version all.lines.items all.names.variables all.names.fields) }
     ensures few_variables { IfOk result (λ all. length all.names.variables ≤ variable_names_most) }
     ensures few_fields { IfOk result (λ all. length all.names.fields ≤ field_names_most) }
     ensures within { IfOk result (λ all. past_limit [] [] (map stated_shown stated.now) ≡ None) }

@@ -16,9 +16,10 @@ pub fn parse<'s>(alloc: Global, source: &'s [u8]) -> Result<Script<'s>, BadScrip
     if source.len() > u32::MAX as usize {
         return Err(BadScript::NoMemory);
     }
-    let stated = statements_of(alloc, source)?;
-    let numbered = with_numbers(alloc, &stated)?;
+    let all = statements_of(alloc, source)?;
+    let numbered = with_numbers(alloc, &all.stated)?;
     Ok(Script::new(
+        all.version,
         numbered.lines,
         numbered.names.variables.into_names(),
         numbered.names.fields.into_names(),

@@ -3,6 +3,7 @@ ghost use Rattle.std.specs.Prelude.{◌≡◌, ◌<◌, ◌≤◌, Some, length,
 ghost use Rattle.script_text.specs.Limits.{variable_names_most, field_names_most};
 ghost use Rattle.script_text.specs.Grammar.{why_text};
 ghost use Rattle.script_text.specs.Sound.{script_text, IsNumbered, IsMatched, IsWellFormed, AreShort};
+ghost use Rattle.script_text.specs.Versions.{version_most};
 ghost use Rattle.script_text.specs.Whole.{IsPaired};
 
 use heap_command::Command;
@@ -14,13 +15,13 @@ use std::marker::Model;
 pub enum Why {
     /// It has over 4,096 bytes.
     Long,
-    /// Its first word is no command.
+    /// Its first word is no command of the version. `version` is none, except in the first line with tokens.
     Command,
-    /// It has another number of operands.
+    /// It has another number of operands, or says another number of versions than one.
     Count,
     /// An operand has to be a name.
     Name,
-    /// An operand has to be an integer of a range.
+    /// An operand has to be an integer of a range; the version is 1 or 2.
     Integer,
     /// An operand has to be a value.
     Value,
@@ -104,9 +105,12 @@ pub struct Line {
     pub what: What,
 }
 
-/// A script over the source that it was read from.
+/// A script over the source that it was read from. It is of a version: the first line of a source with tokens may be
+/// `version 1` or `version 2`, and without such a line it is of version 1. The command `proto` is there from version 2
+/// on.
 #[derive(Drop)]
 pub struct Script<'s> {
+    version: u32,
     lines: Vec<Line>,
     variables: Vec<&'s [u8]>,
     fields: Vec<&'s [u8]>,
@@ -119,16 +123,24 @@ impl<'s> Model for Script<'s> {
 
     ghost Value = { ScriptText };
 
-    ghost view = { λ script. script_text script.lines.items
+    ghost view = { λ script. script_text script.version script.lines.items
         (map (λ name. name.now) script.variables.items)
         (map (λ name. name.now) script.fields.items) };
 
-    ghost invariant = { λ script. IsWellFormed (script_text script.lines.items
+    ghost invariant = { λ script. IsWellFormed (script_text script.version script.lines.items
         (map (λ name. name.now) script.variables.items)
         (map (λ name. name.now) script.fields.items)) };
 }
 
 impl<'s> Script<'s> {
+    /// The version by which the script was read.
+    pub fn version(&self) -> u32
+        ensures is { result ≡ self.now.version }
+        ensures known { (1 ≤ result) × (result ≤ version_most) }
+    {
+        self.version
+    }
+
     pub fn lines(&self) -> &[Line]
         ensures all { result.now ≡ self.now.lines }
         ensures numbered { IsNumbered self.now }
@@ -171,15 +183,21 @@ impl<'s> Script<'s> {
         self.fields[n as usize]
     }
 
-    /// A script of these lines, variables and fields.
-    pub(crate) fn new(lines: Vec<Line>, variables: Vec<&'s [u8]>, fields: Vec<&'s [u8]>) -> Self
-        requires { IsWellFormed (script_text lines.items
+    /// A script of this version, with these lines, variables and fields.
+    pub(crate) fn new(
+        version: u32,
+        lines: Vec<Line>,
+        variables: Vec<&'s [u8]>,
+        fields: Vec<&'s [u8]>,
+    ) -> Self
+        requires { IsWellFormed (script_text version lines.items
             (map (λ name. name.now) variables.items) (map (λ name. name.now) fields.items)) }
-        ensures { result ≡ script_text lines.items
+        ensures { result ≡ script_text version lines.items
             (map (λ name. name.now) variables.entry.items)
             (map (λ name. name.now) fields.entry.items) }
     {
         Script {
+            version,
             lines,
             variables,
             fields,

@@ -49,11 +49,14 @@ impl<'s> Statement<'s> {
     }
 }
 
-/// The statement of a line; nothing where the line has no token.
-pub(crate) fn statement_of_line<'s>(line: &'s [u8]) -> Result<Option<Statement<'s>>, Why>
+/// The statement of a line by a version; nothing where the line has no token.
+pub(crate) fn statement_of_line<'s>(
+    version: u32,
+    line: &'s [u8],
+) -> Result<Option<Statement<'s>>, Why>
     ensures statement { IfOk result (λ statement.
-        statement_of_line line.now ≡ Ok (option_map statement_shown statement)) }
-    ensures refused { IfErr result (λ why. statement_of_line line.now ≡ Err why) }
+        statement_of_line version line.now ≡ Ok (option_map statement_shown statement)) }
+    ensures refused { IfErr result (λ why. statement_of_line version line.now ≡ Err why) }
 {
     // Where several reasons hold, the first in this order is told.
     if line.len() > LINE_BYTES_MOST {
@@ -63,7 +66,7 @@ pub(crate) fn statement_of_line<'s>(line: &'s [u8]) -> Result<Option<Statement<'
     let Some(first) = tokens.take_next() else {
         return Ok(None);
     };
-    let Some(keyword) = keyword_of(first) else {
+    let Some(keyword) = keyword_of(version, first) else {
         return Err(Why::Command);
     };
     Ok(Some(with_operands(keyword, tokens)?))

@@ -1,6 +1,6 @@
 //! The table of the commands: the word of each, and what its operands are.
-ghost use Rattle.std.specs.Prelude.{◌≡◌, ◌≤◌, length};
-ghost use Rattle.script_text.specs.Table.{keyword_text, keywords, keyword_among, places_of};
+ghost use Rattle.std.specs.Prelude.{◌≡◌, ◌≤◌, ◌&&◌, nat_le, bytes_eq, length};
+ghost use Rattle.script_text.specs.Table.{keyword_text, keywords, since, keywords_of, keyword_among, places_of};
 
 use crate::limits::TURNS_MOST;
 use heap_command::CAP_MOST;
@@ -17,6 +17,7 @@ pub enum Keyword {
     Set,
     Get,
     Del,
+    Proto,
     Push,
     Put,
     At,
@@ -54,16 +55,24 @@ pub enum OperandKind {
 /// The most operands of a command.
 pub(crate) const PLACES_MOST: usize = 3;
 
-/// The command with this word.
-pub(crate) fn keyword_of(token: &[u8]) -> Option<Keyword>
-    ensures { result ≡ keyword_among keywords token.now }
+/// The command of a version with this word.
+pub(crate) fn keyword_of(version: u32, token: &[u8]) -> Option<Keyword>
+    ensures { result ≡ keyword_among (keywords_of version) token.now }
 {
     for keyword in keywords() {
-        if token == word(*keyword) {
+        if is_written(version, *keyword, token) {
             return Some(*keyword);
         }
     }
     None
+}
+
+/// Whether the version has the command, and the token is its word.
+fn is_written(version: u32, keyword: Keyword, token: &[u8]) -> bool
+    ensures { result ≡ (nat_le (since keyword) version && bytes_eq token.now (keyword_text keyword)) }
+{
+    let known = since(keyword) <= version;
+    known && token == word(keyword)
 }
 
 /// What the operands of a command are, in order.
@@ -79,6 +88,7 @@ pub(crate) fn places(keyword: Keyword) -> &'static [OperandKind]
         Keyword::List | Keyword::Weak | Keyword::Drop | Keyword::Shape => &[OperandKind::Variable],
         Keyword::Let
         | Keyword::Add
+        | Keyword::Proto
         | Keyword::Push
         | Keyword::Shift
         | Keyword::Trunc
@@ -126,6 +136,7 @@ fn keywords() -> &'static [Keyword]
         Keyword::Set,
         Keyword::Get,
         Keyword::Del,
+        Keyword::Proto,
         Keyword::Push,
         Keyword::Put,
         Keyword::At,
@@ -148,6 +159,16 @@ fn keywords() -> &'static [Keyword]
     ]
 }
 
+/// The first version that has the command.
+fn since(keyword: Keyword) -> u32
+    ensures { result ≡ since keyword }
+{
+    match keyword {
+        Keyword::Proto => 2,
+        _ => 1,
+    }
+}
+
 /// The word of a command.
 fn word(keyword: Keyword) -> &'static [u8]
     ensures { result.now ≡ keyword_text keyword }
@@ -162,6 +183,7 @@ fn word(keyword: Keyword) -> &'static [u8]
         Keyword::Set => b"set",
         Keyword::Get => b"get",
         Keyword::Del => b"del",
+        Keyword::Proto => b"proto",
         Keyword::Push => b"push",
         Keyword::Put => b"put",
         Keyword::At => b"at",

@@ -1,25 +1,22 @@
 -- A variable comes to hold a field of the plain object that a heap shows, by its name.
-use Rattle.std.proofs.Common.{◌≡◌, ℕ, false, ap, sym, ◌∙◌, subst, slice_get, get_or, nat_lt, Some, arith}
-use Rattle.std.specs.Prelude.{unwrap_or}
+use Rattle.std.proofs.Common.{◌≡◌, ℕ, true, ap, sym, ◌∙◌, subst, slice_get, get_or, nat_lt, arith}
 use Rattle.std.proofs.lemmas.Option.{slice_get_within, slice_get-get_or}
-use Rattle.object_graph.specs.declared.value.Value.TheVariants.{Undefined}
+use Rattle.object_graph.specs.Objects.{field_value}
 use Rattle.object_graph.specs.Graphs.{Graph, PlainObject}
-use Rattle.handle_roots.specs.declared.held.Held.TheVariants as held
-use Rattle.handle_roots.specs.Roots.{with_root}
-use Rattle.write_barrier.specs.Seats.{heap_words}
-use Rattle.shape_tree.specs.Shapes.{has_name, shape_path, IsLocated}
+use Rattle.shape_tree.specs.Shapes.{IsLocated}
 use Rattle.shape_tree.specs.declared.located.Located.{Located}
 use Rattle.heap_model.specs.Types.{Header, Path}
-use Rattle.heap_model.specs.Showing.{ShowsHeld, ShowsField}
-use Rattle.write_barrier.specs.MutatorState.{Mutator, heap_of, MainShows, with_variable}
+use Rattle.heap_model.specs.Showing.{ShowsField}
+use Rattle.write_barrier.specs.MutatorState.{Mutator, heap_of, MainShows}
 use Rattle.write_barrier.specs.Reading.{IsHeaderAt}
 use Rattle.object_cells.specs.CellsAt.{HasField}
 use Rattle.object_cells.specs.PlainObjects.{IsPlainAt}
 use Rattle.object_cells.proofs.FieldsFound.{value_found}
 use Rattle.object_cells.proofs.FieldWords.{path_field}
 use Rattle.object_cells.proofs.PlainFields.{slots_held, names_distinct}
-use Rattle.shape_change.specs.FieldChanges.{HoldsSlot, HoldsValue, value_or_undefined}
-use Rattle.shape_change.proofs.ShownFields.{FieldFound, shown_cell, name_is_new, field_found, located_named}
+use Rattle.shape_change.specs.FieldChanges.{HoldsSlot}
+use Rattle.shape_change.specs.FieldsSought.{HoldsSought}
+use Rattle.shape_change.proofs.ShownFields.{FieldFound, shown_cell, field_found, located_named}
 
 module _ {main : Mutator} {graph : Graph} {object : ℕ} {plain : PlainObject} {header : Header}
     (shows : MainShows main graph) (is : IsPlainAt main graph object plain)
@@ -39,10 +36,11 @@ module _ {main : Mutator} {graph : Graph} {object : ℕ} {plain : PlainObject} {
   located_has found name by =
       subst (λ shape. HasField (heap_of main) object shape found.at) (sym by.1) (located_found found name by).has
 
-  -- a variable that holds what stands there holds the field of the name
+  -- a variable that holds what stands there holds the field of the name, which the object has
   pub held_found : (new : Mutator) (variable name : ℕ) (found : Located)
       → IsLocated main.paths found × (found.shape ≡ header.shape) × (found.name ≡ name)
-      → HoldsSlot main new variable object found.at → HoldsValue main new variable (value_or_undefined plain name)
+      → HoldsSlot main new variable object found.at
+      → HoldsSought main new variable (field_value plain.fields name) true
   held_found new variable name found by holds_slot =
       let slot : ℕ = found.at in
       let at = located_found found name by in
@@ -57,19 +55,4 @@ module _ {main : Mutator} {graph : Graph} {object : ℕ} {plain : PlainObject} {
       λ cap. ShowsField (heap_of main) (nat_lt slot cap) (get_or slots slot 0) at.field.rep at.field.value in
       let holds = holds_slot shown.cell _ slots _ _ at.field.value shown.has shown.at shown.shows.has of_path there
       (subst P (sym (ap (λ (p : Path). p.cap) shown.shows.path)) (shown.shows.each slot at.field _ at.there there)) in
-      subst (λ value. HoldsValue main new variable (unwrap_or value Undefined))
-      (sym (value_found plain.fields slot at.field name (names_distinct shows is) at.there at.named)) holds
-
-  -- one that holds undefined holds the field of a name that the path has not
-  pub held_none : (new : Mutator) (variable name : ℕ) → has_name (shape_path main.paths header.shape) name ≡ false
-      → new ≡ with_variable main variable held.Undefined
-      → heap_words new.seat ≡ with_root main.seat.space (heap_words main.seat) variable held.Undefined
-      → HoldsValue main new variable (value_or_undefined plain name)
-  held_none new variable name none becomes words = record {
-    held = held.Undefined;
-    shows = subst (λ value. ShowsHeld (heap_of main) held.Undefined (Some (unwrap_or value Undefined)))
-        (sym (name_is_new shows is header_at name none)) ShowsHeld.undefined;
-    fits = tt;
-    is = becomes;
-    heap = words;
-  }
+      (at.field.value, value_found plain.fields slot at.field name (names_distinct shows is) at.there at.named, holds)

@@ -4,6 +4,7 @@ mod FieldsSet
 mod SettingNeeds
 mod ContentsShown
 mod FieldsAlike
+mod FieldsAlong
 mod RunTouches
 mod TouchedSlots
 mod FilledSlots
@@ -60,3 +61,6 @@ mod HeldByName
 mod PlacesBelow
 mod WordFields
 mod SmallKept
+mod ProtosFound
+mod ProtosSet
+pub mod RingSearch

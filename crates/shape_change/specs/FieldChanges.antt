@@ -15,6 +15,7 @@ use Rattle.object_graph.specs.declared.value.Value.TheVariants.{Undefined}
 use Rattle.object_graph.specs.Objects.{field_value, with_field, without_field}
 use Rattle.object_graph.specs.Paths.{path_of}
 use Rattle.object_graph.specs.Graphs.{Graph, PlainObject}
+use Rattle.object_graph.specs.Prototypes.{prototypes_most, field_along}
 use Rattle.shape_tree.specs.Shapes.{LacksPathsFor, shape_path}
 use Rattle.nursery.specs.Young.{HasRoom}
 use Rattle.heap_model.specs.Needs.{capacity_at}
@@ -116,6 +117,7 @@ DeletesField old new graph at plain name (Ok _) = HasDeletedField old new graph 
 DeletesField old new graph at plain name (Err full) =
     IsFullOfPaths graph plain (without_field plain.fields name) full × (new ≡ old)
 
--- the value of a field, or undefined where there is none
-abbrev pub value_or_undefined : PlainObject → ℕ → Value
-value_or_undefined plain name = unwrap_or (field_value plain.fields name) Undefined
+-- the value of the field in the object or in the nearest that follows it by prototypes and has it, or undefined where
+-- none has
+abbrev pub value_along : Graph → PlainObject → ℕ → Value
+value_along graph plain name = unwrap_or (field_along graph.objects prototypes_most plain name) Undefined

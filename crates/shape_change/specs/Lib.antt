@@ -1,5 +1,7 @@
 pub mod FieldChanges
+pub mod FieldsSought
 pub mod Places
+pub mod Prototypes
 pub mod Shifts
 pub mod WordPlaces
 pub mod Deletions

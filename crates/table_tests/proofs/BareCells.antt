@@ -49,6 +49,7 @@ record Fits (old : ℕ) (words starts : List ℕ) (at : ℕ) (o : Option Reading
   apart : list_all (λ other. is_apart at cell other) starts ≡ true
   slots : list_all (λ offset. slot_fits old words starts at cell offset) (range_with_len 0 cell.size) ≡ true
 
+-- a cell that was checked fits
 fits_from : (old : ℕ) (words starts : List ℕ) (at : ℕ) (o : Option Reading) → cell_fits old words starts at o ≡ true
     → Fits old words starts at o
 fits_from old words starts at None e = absurd cc

@@ -27,6 +27,7 @@ pub record AreStarts : Type 0 where
   pub layouts : layouts_start small ≡ 2372
   pub marks : marks_start small ≡ 10572
 
+-- where the regions of the small heap start
 pub starts : AreStarts
 starts =
     let roots : roots_start small ≡ 2368 = omega (arith, roots_start_is small) in

@@ -11,6 +11,7 @@ filled_to i words before = take i words ++ drop i before
 abbrev pub with_words : ℕ → List ℕ → Side → Side
 with_words i words side = record side { main = record side.main { words = filled_to i words side.main.words } }
 
+-- the same of layout words
 abbrev pub with_layouts : ℕ → List ℕ → Side → Side
 with_layouts i words side = record side { main = record side.main { layouts = filled_to i words side.main.layouts } }
 

@@ -6,6 +6,7 @@ use Rattle.marker.specs.Markers.{HasMarked, Marking}
 use Rattle.shared_table.specs.Seats.{Helping}
 use Rattle.table_tests.specs.Grids.{IsSeatedAt}
 
+-- a run of turns leaves the list its room
 bound_stays : (before after : Marking) (turns : ℕ) (outcome : Option Outcome) → HasMarked before after turns outcome
     → after.listing.bound ≡ before.listing.bound
 bound_stays before after turns None marked = ap (λ (m : Marking). m.listing.bound) marked.1

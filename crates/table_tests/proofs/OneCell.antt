@@ -10,6 +10,7 @@ use Rattle.heap_table.specs.Overviews.{overview}
 use Rattle.shared_table.proofs.PageEnds.{pages_before_marks}
 use Rattle.table_tests.specs.BareSeats.{HasOneCellOpen}
 
+-- nothing is so and not so
 never : (b : Bool) → b && not b ≡ true → ⊥
 never true is = cc
 never false is = cc

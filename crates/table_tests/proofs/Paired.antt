@@ -80,6 +80,7 @@ given_value false x y e = cc
 target_of : (old to : ℕ) → target old 13 ≡ Some to → 3 ≡ to
 target_of old to e = given_value (nat_lt 3 old) 3 to e
 
+-- the cycle that begins with the two cells
 module _ (main : Overview) (two : HasTwoCells main) where
   -- the world when the cycle begins
   abbrev begun : World

@@ -1,4 +1,4 @@
-//! The commands on plain objects.
+//! The commands on the fields of plain objects, but for `get`, which goes along prototypes (in `protos`).
 ghost use Rattle.std.specs.Prelude.{◌<◌, length};
 ghost use Rattle.heap_command.specs.declared.command.Command.{Command};
 ghost use Rattle.object_graph.specs.Meaning.{reshape};
@@ -9,11 +9,10 @@ ghost use Rattle.ideal_graph.specs.Lookups.{LearnsPath};
 use super::{Ideal, IdealStop, Said};
 use heap_command::{FaultWord, Operand};
 use ideal_parts::{
-    bind, has_no_room, missing, path_of, same_path, shape_text, value_under, with_value,
-    without_key,
+    has_no_room, missing, path_of, same_path, shape_text, value_under, with_value, without_key,
 };
 use object_graph::limits::PATHS_MOST;
-use object_graph::{Field, Fields, Object, Path, Value};
+use object_graph::{Field, Fields, Object, Path};
 use std::alloc::Global;
 
 impl Ideal {
@@ -30,17 +29,6 @@ impl Ideal {
         let fields = with_value(self.alloc, plain.fields, f, value)?;
         let (number, cap, proto) = (plain.number, plain.cap, plain.proto);
         self.reshape(number, cap, proto, fields)
-    }
-
-    /// Binds `y` to the field `f` of `x`, or to `undefined` where there is none.
-    pub(crate) fn get(&mut self, y: u32, x: u32, f: u32) -> Result<Said, IdealStop>
-        ensures { Steps self.old self.new (Command.Get y x f) result }
-    {
-        let target = self.bound(x)?;
-        let plain = self.plain(target)?;
-        let value = value_under(plain.fields, f).unwrap_or(Value::Undefined);
-        bind(&mut self.bindings, y, value)?;
-        Ok(Said::nothing(self.alloc))
     }
 
     /// Takes the field `f` out of `x`.

@@ -30,6 +30,9 @@ get-requires-clause-shown g c = some_lent c.main_mut-main.ensures.main c.require
 pub del-requires-clause-shown : goal.del-requires-clause-shown
 del-requires-clause-shown g c = some_lent c.main_mut-main.ensures.main c.requires.shown
 
+pub proto-requires-clause-shown : goal.proto-requires-clause-shown
+proto-requires-clause-shown g c = some_lent c.main_mut-main.ensures.main c.requires.shown
+
 pub push-requires-clause-shown : goal.push-requires-clause-shown
 push-requires-clause-shown g c = some_lent c.main_mut-main.ensures.main c.requires.shown
 
@@ -118,6 +121,14 @@ returns-in-Del-clause-executed g c = (
   c.of-in-Del.ensures,
   rw c.in-Del.is
       (executes c.main_mut-main.ensures.main refl refl refl c.del.ensures.carried),
+)
+
+pub returns-in-Proto-clause-executed : goal.returns-in-Proto-clause-executed
+returns-in-Proto-clause-executed g c = (
+  c.proto.result,
+  c.of-in-Proto.ensures,
+  rw c.in-Proto.is
+      (executes c.main_mut-main.ensures.main refl refl refl c.proto.ensures.carried),
 )
 
 pub returns-in-Push-clause-executed : goal.returns-in-Push-clause-executed

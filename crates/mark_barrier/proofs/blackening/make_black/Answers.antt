@@ -101,6 +101,7 @@ returns-in_default c =
     c.sound.ensures.sound.born c.requires.born in
     record {
       paid = record { lists = c.shade_slots.ensures.lists; owed = c.shade_slots.ensures.owed };
+      passed = c.shade_slots.ensures.passed;
       steps = all;
       settled = black_settles now c.shade_slots.new.seat c.args.at start all.moves c.shade_slots.ensures.owed;
       no_more = no_more_on now after c.shade_slots.new.seat c.args.grey.now c.args.grey.now c.shade_slots.new.grey

@@ -129,6 +129,7 @@ loop-offset-preserved c =
     let is = word_there seat.space seat.table cell c.in-Some.offset c.slot.result inside c.slot.ensures.of_heap in
     record {
       lists = after.lists;
+      passed = after.passed ∙ before.passed;
       owes = owes_next seat new cell c.loop-offset.from c.in-Some.offset c.slot.result before.owes least is after.steps
           after.owed;
       steps = steps_after c.args.seat.now seat new c.args.seat.now.table (cycle_in c.args.seat.now) before.steps

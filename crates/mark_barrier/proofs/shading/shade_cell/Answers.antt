@@ -32,6 +32,9 @@ returns-in-White-clause-lists c =
     (adds_listed c.grey.inside.list c.add.new.self c.grey.inside.passed c.args.at c.add.ensures.bound
     c.add.ensures.members) (number_of c.shade.result) (ap number_of is_white) c.requires.born)
 
+pub returns-in-White-clause-passed : goal.returns-in-White-clause-passed
+returns-in-White-clause-passed c = ap (λ (w : Waiting). w.passed) c.grey.view_is
+
 pub returns-in_default : goal.returns-in_default
 returns-in_default c =
     let before : Seat = c.args.seat.now in
@@ -41,6 +44,7 @@ returns-in_default c =
     record {
       lists = subst (λ (s : Seat). ListsGrey s c.args.grey.now) (sym c.shade.ensures.shaded)
           (other_listed before c.args.grey.now c.args.at found c.requires.lists other);
+      passed = refl;
       owed = subst (λ (s : Seat). (overview s).view.owed ≡ owed) (sym c.shade.ensures.shaded) refl;
       steps = subst (λ (s : Seat). StepsTo before s before.table (sure_of (cycle_in before) c.args.at))
           (sym c.shade.ensures.shaded) (shade_steps before c.args.at found c.shade.ensures.home);

@@ -1,7 +1,9 @@
 -- A variable holds a field by the slot that is cached.
 use Rattle.std.proofs.Common.{arith, refl}
 use Rattle.object_cells.proofs.PlainFields.{shown_whole}
-use Rattle.shape_change.proofs.HeldByName.{held_found, held_none}
+use Rattle.shape_change.proofs.HeldByName.{held_found}
+use Rattle.shape_change.proofs.FieldsAlong.{own_held}
+use Rattle.shape_change.proofs.ShownFields.{name_is_new}
 use Rattle.shape_change.proofs.WordFields.{word_field_shape, own_there, own_word, stored_there, stored_word}
 use Rattle.shape_change.proofs.get_field.get.Goals as goal
 
@@ -36,8 +38,9 @@ returns-in-InObject-clause-held o c well graph plain shows is =
     let place = c.own_place-place.ensures in
     let stands =
     own_word shows is c.requires.headed field c.in-InObject.slot at place.stands place.place place.within in
-    held_found shows is c.requires.headed c.hold_word_at.new.main c.args.variable c.args.name found
-    (field.located, field.of_shape, field.of_name) (c.hold_word_at.ensures found stands)
+    own_held graph plain c.args.name
+    (held_found shows is c.requires.headed c.hold_word_at.new.main c.args.variable c.args.name found
+    (field.located, field.of_shape, field.of_name) (c.hold_word_at.ensures found stands))
 
 pub returns-in-InObject-clause-plain : goal.returns-in-InObject-clause-plain
 returns-in-InObject-clause-plain o c =
@@ -76,19 +79,15 @@ returns-in-InStore-clause-held o c well graph plain shows is =
     let place = c.stored_place-place.ensures in
     let stands =
     stored_word shows is c.requires.headed field c.in-InStore.slot at place.stands place.place place.within in
-    held_found shows is c.requires.headed c.hold_word_at-in-InStore.new.main c.args.variable c.args.name found
-    (field.located, field.of_shape, field.of_name) (c.hold_word_at-in-InStore.ensures found stands)
+    own_held graph plain c.args.name
+    (held_found shows is c.requires.headed c.hold_word_at-in-InStore.new.main c.args.variable c.args.name found
+    (field.located, field.of_shape, field.of_name) (c.hold_word_at-in-InStore.ensures found stands))
 
 pub returns-in-InStore-clause-plain : goal.returns-in-InStore-clause-plain
 returns-in-InStore-clause-plain o c =
     let (found, field, same, at) = c.in-InStore.ensures in
     (λ _. word_field_shape field, λ _. refl)
 
-pub hold_undefined-requires-clause-may_store : goal.hold_undefined-requires-clause-may_store
-hold_undefined-requires-clause-may_store o c plain = (shown_whole (c.requires.plain plain).shows).quiet
-
-pub returns-in-Absent-clause-held : goal.returns-in-Absent-clause-held
-returns-in-Absent-clause-held o c well graph plain shows is =
-    let by = c.hold_undefined.ensures in
-    held_none shows is c.requires.headed c.hold_undefined.new.main c.args.variable c.args.name
-    (c.in-Absent.ensures (omega (arith, by.plain.0 well))).1 (by.held well) (by.heap well)
+pub get_absent-requires-clause-lacks : goal.get_absent-requires-clause-lacks
+get_absent-requires-clause-lacks o c path graph plain shows is =
+    name_is_new shows is c.requires.headed c.args.name (c.in-Absent.ensures (omega (arith, path))).1

@@ -1,40 +1,45 @@
--- A field is held where the look-up finds it.
-use Rattle.std.proofs.Common.{◌≡◌, sym, subst, refl, arith}
-use Rattle.handle_roots.specs.declared.held.Held.TheVariants as held
-use Rattle.handle_roots.specs.Roots.{with_root}
-use Rattle.write_barrier.specs.Seats.{heap_words}
-use Rattle.write_barrier.specs.MutatorState.{Mutator, heap_of, with_variable}
-use Rattle.shape_change.specs.FieldChanges.{HoldsSlot}
-use Rattle.object_cells.specs.CellsAt.{HasField}
-use Rattle.shape_change.proofs.ShownFields.{shown_shape}
-use Rattle.shape_change.proofs.HeldByName.{located_has, held_found, held_none}
+-- The field is the object's, or one that is found by its prototypes.
+use Rattle.std.proofs.Common.{◌<◌, sym, subst, refl, arith}
+use Rattle.write_barrier.specs.MutatorState.{Mutator}
+use Rattle.object_cells.specs.PlainObjects.{IsShownPlain}
+use Rattle.shape_change.specs.FieldsSought.{HoldsAlong, LacksName}
+use Rattle.shape_change.proofs.FieldsAlong.{own_field, found_one, found_none, own_held}
 use Rattle.shape_change.proofs.get_field.get_sought.Goals as goal
 
-pub lookup-requires : goal.lookup-requires
-lookup-requires c =
+pub hold_sought-requires-clause-plain : goal.hold_sought-requires-clause-plain
+hold_sought-requires-clause-plain c = c.requires.plain (omega (arith, c.if-header-lt-PATHS.false))
+
+pub returns-then-hold_sought-clause-held : goal.returns-then-hold_sought-clause-held
+returns-then-hold_sought-clause-held c well graph plain shows is =
+    own_held graph plain c.args.name
+    (found_one c.args.variable c.args.object (own_field c.args.name) refl c.if-hold_sought.true c.hold_sought.ensures
+    graph plain shows is)
+
+pub get_beyond-requires-clause-plain : goal.get_beyond-requires-clause-plain
+get_beyond-requires-clause-plain c =
     let shown = c.requires.plain (omega (arith, c.if-header-lt-PATHS.false)) in
-    shown_shape shown.shows shown.is c.requires.headed
+    let none = found_none c.args.variable c.args.object (own_field c.args.name) refl shown c.if-hold_sought.false
+    c.hold_sought.ensures in
+    subst (λ (main : Mutator). IsShownPlain main c.args.object) (sym none.same) shown
 
-pub hold_slot-requires-clause-there : goal.hold_slot-requires-clause-there
-hold_slot-requires-clause-there c =
-    let found = c.in-Some.found in
+pub get_beyond-requires-clause-lacks : goal.get_beyond-requires-clause-lacks
+get_beyond-requires-clause-lacks c =
     let shown = c.requires.plain (omega (arith, c.if-header-lt-PATHS.false)) in
-    subst (λ (main : Mutator). HasField (heap_of main) c.args.object found.shape found.at) (sym c.lookup.ensures.same)
-    (located_has shown.shows shown.is c.requires.headed found c.args.name c.in-Some.ensures.found)
+    let none = found_none c.args.variable c.args.object (own_field c.args.name) refl shown c.if-hold_sought.false
+    c.hold_sought.ensures in
+    subst (λ (main : Mutator). LacksName main c.args.object c.args.name) (sym none.same) none.none
 
-pub returns-in-Some-clause-held : goal.returns-in-Some-clause-held
-returns-in-Some-clause-held c well graph plain shows is =
-    let found = c.in-Some.found in
-    held_found shows is c.requires.headed c.hold_slot.new.main c.args.variable c.args.name found c.in-Some.ensures.found
-    (subst (λ (main : Mutator). HoldsSlot main c.hold_slot.new.main c.args.variable c.args.object found.at)
-    c.lookup.ensures.same c.hold_slot.ensures)
+pub get_beyond-requires-clause-known : goal.get_beyond-requires-clause-known
+get_beyond-requires-clause-known c =
+    let shown = c.requires.plain (omega (arith, c.if-header-lt-PATHS.false)) in
+    let none = found_none c.args.variable c.args.object (own_field c.args.name) refl shown c.if-hold_sought.false
+    c.hold_sought.ensures in
+    subst (λ (main : Mutator). c.args.variable < main.seat.space.variables) (sym none.same) c.requires.known
 
-pub returns-in-None-clause-held : goal.returns-in-None-clause-held
-returns-in-None-clause-held c well graph plain shows is =
-    let same = c.lookup.ensures.same in
-    let becomes = subst (λ (main : Mutator). c.hold.new.self ≡ with_variable main c.args.variable held.Undefined) same
-    c.hold.ensures.held in
-    let words = subst (λ (main : Mutator). heap_words c.hold.new.self.seat
-    ≡ with_root main.seat.space (heap_words main.seat) c.args.variable held.Undefined) same c.hold.ensures.heap in
-    held_none shows is c.requires.headed c.hold.new.self c.args.variable c.args.name (c.in-None.ensures.none.0 refl)
-    becomes words
+pub returns-clause-held : goal.returns-clause-held
+returns-clause-held c well =
+    let shown = c.requires.plain (omega (arith, c.if-header-lt-PATHS.false)) in
+    let none = found_none c.args.variable c.args.object (own_field c.args.name) refl shown c.if-hold_sought.false
+    c.hold_sought.ensures in
+    subst (λ (main : Mutator). HoldsAlong main c.get_beyond.new.main c.args.variable c.args.object c.args.name)
+    none.same c.get_beyond.ensures

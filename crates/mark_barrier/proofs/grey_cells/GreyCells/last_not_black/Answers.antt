@@ -13,7 +13,7 @@ returns-then-not-passes-clause-found c =
     c.loop-at.invariant.passes
     (looks_at c.args.seat.now c.loop-at.seat c.loop-at.self c.pop_listed.new.self c.passes.new.self c.in-Some.at
     false c.loop-at.invariant.same popped.last popped.gone popped.bound popped.passed over.list over.bound
-    over.told over.mine over.black over.others over.kept) false≢true
+    over.told over.mine over.black over.not_black over.others over.kept) false≢true
     (omega (arith, popped.below, c.loop-at.invariant.passes.paid.lists.room.list))
 
 pub loop-at-preserved : goal.loop-at-preserved
@@ -26,7 +26,7 @@ loop-at-preserved c =
           c.loop-at.invariant.passes
           (looks_at c.args.seat.now c.loop-at.seat c.loop-at.self c.pop_listed.new.self c.passes.new.self c.in-Some.at
           true c.loop-at.invariant.same popped.last popped.gone popped.bound popped.passed over.list
-          over.bound over.told over.mine over.black over.others over.kept) refl;
+          over.bound over.told over.mine over.black over.not_black over.others over.kept) refl;
     }
 
 pub returns-clause-found : goal.returns-clause-found

@@ -1,5 +1,6 @@
 -- The cell is passed over, where it is black.
-use Rattle.std.proofs.Common.{inl, inr, refl, sym, subst, Contains}
+use Rattle.std.proofs.Common.{◌≡◌, inl, inr, refl, sym, ap, subst, ◌∙◌, Contains}
+use Rattle.shared_table.proofs.ColourNumbers.{black_is}
 use Rattle.mark_barrier.specs.Waiting.{Waiting}
 use Rattle.mark_barrier.proofs.grey_cells.GreyCells.passes.Goals as goal
 
@@ -13,3 +14,7 @@ returns-in-Black-clause-others c one other = (
   λ on. (c.add.ensures.members one).1
       (inl (subst (λ (w : Waiting). Contains w.passed.addresses one) (sym c.self.view_is) on)),
 )
+
+pub returns-in_default-clause-not_black : goal.returns-in_default-clause-not_black
+returns-in_default-clause-not_black c other home is =
+    c.in_default.not-Black (black_is c.colour.result (c.colour.ensures.home home ∙ is))
