@@ -1,6 +1,6 @@
 -- A cycle may begin with cells that were checked.
-use Rattle.std.proofs.Common.{◌≡◌, ◌≢◌, ◌≤◌, ◌<◌, ◌+◌, ◌==◌, inl, inr, ℕ, Bool, true, false, not, List, All, Contains}
-use Rattle.std.proofs.Common.{Option, Some, None, IfSome, length, get_or, slice_index, refl, sym, ap, subst}
+use Rattle.std.proofs.Common.{◌≡◌, ◌≢◌, ◌≤◌, ◌<◌, ◌+◌, ◌==◌, inl, inr, ℕ, Bool, true, false, not}
+use Rattle.std.proofs.Common.{List, All, Contains, Option, Some, None, IfSome, length, get_or, slice_index, refl, sym, ap, subst}
 use Rattle.std.proofs.Common.{IsTrue, ◌∙◌, arith, eqb-true, min, nat_lt}
 use Rattle.std.specs.List.{list_all, range_with_len}
 use Rattle.std.proofs.lemmas.Bool.{and_parts, or_cases}
@@ -59,7 +59,8 @@ fits_from old words starts at (Some cell) e =
     record { cell = cell; reads = refl; apart = parts.0; slots = parts.1 }
 
 -- what is checked of each of a list holds of each of its elements
-pub passes : (test : ℕ → Bool) (list : List ℕ) (x : ℕ) → list_all test list ≡ true → Contains list x → test x ≡ true
+pub passes : (test : ℕ → Bool) (list : List ℕ) (x : ℕ) → list_all test list ≡ true → Contains list x
+    → test x ≡ true
 passes test list x all there =
     All-contains (λ (one : ℕ). test one ≡ true) list x (AllPass-from_list_all test list all) there
 

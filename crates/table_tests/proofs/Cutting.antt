@@ -38,6 +38,7 @@ all_aligned starts count counted cut k d l =
     let is = get_or_default starts k d 0 l ∙ start_is starts count k cut (omega (arith, counted, l)) in
     omega (arith, is)
 
+-- starts that were checked are those of cells that were cut
 pub cells_cut : (starts : List ℕ) (count : ℕ) → length starts ≡ count → are_cut starts count ≡ true
     → IsCut count (these_cells starts)
 cells_cut starts count counted cut = record {
@@ -75,6 +76,7 @@ filled_cells main pages count cut = cut.cells
 none_in : (list : List ℕ) (at : ℕ) → list ≡ [] → Contains list at → ⊥
 none_in list at none there = omega (arith, (subst (λ (all : List ℕ). Contains all at) none there).1)
 
+-- a cycle that begins with the cells of pages that are cut into equal ones
 module _ (main : Overview) (cycle : Cycle) (pages : PageLists) (count : ℕ) (cut : AreCutPages pages main.old count)
     (is : IsCut count cycle) (words : main.words ≡ pages.words) (layouts : main.layouts ≡ pages.layouts) where
   abbrev begun : Overview

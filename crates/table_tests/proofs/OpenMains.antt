@@ -1,7 +1,7 @@
 -- The mutator's steps leave a bare heap bare, and an open cycle that of its four cells.
-use Rattle.std.proofs.Common.{◌≡◌, ◌≤◌, ◌<◌, ◌+◌, ◌⊎◌, inl, inr, ℕ, zero, suc, Bool, true, false, List, length}
-use Rattle.std.proofs.Common.{Contains, drop, take, ◌++◌, ◌∷◌, [], if◌then◌else◌, nat_lt, replicate, sym, ap, subst}
-use Rattle.std.proofs.Common.{◌∙◌, arith, slice_set, slice_get, Some}
+use Rattle.std.proofs.Common.{◌≡◌, ◌≤◌, ◌<◌, ◌+◌, ◌⊎◌, inl, inr, ℕ, zero, suc, Bool, true, false}
+use Rattle.std.proofs.Common.{List, length, Contains, drop, take, ◌++◌, ◌∷◌, [], if◌then◌else◌, nat_lt, replicate}
+use Rattle.std.proofs.Common.{sym, ap, subst, ◌∙◌, arith, slice_set, slice_get, Some}
 use Rattle.std.proofs.lemmas.Grind.{take_at_read}
 use Rattle.std.proofs.lemmas.List.{get_or-drop, length-take, length-drop}
 use Rattle.std.proofs.lemmas.Option.{get_or_from_slice_get, slice_get_within}

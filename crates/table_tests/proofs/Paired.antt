@@ -32,7 +32,7 @@ use Rattle.shared_table.specs.Changes.{opened}
 use Rattle.table_tests.specs.TwoCells.{HasTwoCells, two_cells}
 use Rattle.table_tests.proofs.Bare.{zero_at}
 
--- the list, and its store
+-- the list
 abbrev the_list : Reading
 the_list = record {
   header = record { shape = 1; object = 0 };
@@ -41,6 +41,7 @@ the_list = record {
   size = 3;
 }
 
+-- the store of the list
 abbrev the_store : Reading
 the_store = record {
   header = record { shape = 3; object = 0 };
