@@ -1,22 +1,37 @@
 -- Words that are put one after another, and words that are made free.
-use Rattle.std.proofs.Common.{◌≡◌, ◌<◌, ℕ, List, ◌∙◌, ap, arith}
+use Rattle.std.proofs.Common.{◌≡◌, ◌<◌, ℕ, List, sym, ◌∙◌, ap, subst, arith}
 use Rattle.std.specs.Prelude.{slice_set}
 use Rattle.page_space.specs.Extents.{marks_start}
-use Rattle.write_barrier.specs.Seats.{heap_words}
-use Rattle.write_barrier.specs.Staying.{rest_stays_again}
+use Rattle.heap_model.specs.Remembered.{Touch, Records}
+use Rattle.remembered_set.specs.Recorded.{Recorded}
+use Rattle.write_barrier.specs.Recording.{Touches}
+use Rattle.write_barrier.specs.Seats.{Seat, RestStays, heap_words}
+use Rattle.write_barrier.specs.Staying.{rest_stays_again, rest_stays_itself}
 use Rattle.write_barrier.specs.MutatorState.{Mutator}
 use Rattle.object_cells.specs.Made.{PutsWords}
-use Rattle.object_cells.proofs.RestOfWords.{same_rest}
 use Rattle.object_cells.proofs.WordsPut.{PutsWord, word_beside, word_is_put}
 use Rattle.write_barrier.specs.FreeCells.{with_free_cell}
 
--- where nothing has changed, no word was put
-pub puts_none : {old new : Mutator} → new ≡ old → PutsWords old new (heap_words old.seat)
-puts_none same = record {
-  beside = same_rest same;
-  paths = ap (λ (main : Mutator). main.paths) same;
-  young = ap (λ (main : Mutator). main.young) same;
-  heap = ap (λ (main : Mutator). heap_words main.seat) same;
+-- where the seat, the paths and the young generation are the same, no word was put
+pub puts_none : {old new : Mutator} → new.seat ≡ old.seat → new.paths ≡ old.paths → new.young ≡ old.young
+    → PutsWords old new (heap_words old.seat)
+puts_none {old} seat paths young = record {
+  beside = subst (λ (one : Seat). RestStays old.seat one) (sym seat) (rest_stays_itself old.seat);
+  paths = paths;
+  young = young;
+  heap = ap heap_words seat;
+}
+
+-- what was touched since nothing but the cycle was changed was touched since before
+pub touches_from : {old mid new : Mutator} {touch : ℕ → Touch} → mid.seat ≡ old.seat → mid.recorded ≡ old.recorded
+    → mid.free ≡ old.free → Touches mid new touch → Touches old new touch
+touches_from {old} {mid} {new} {touch} seat recorded free touches = record {
+  free = touches.free ∙ free;
+  bound = touches.bound ∙ ap (λ (one : Recorded). one.bound) recorded;
+  records = subst (λ (one : Recorded). Records one.bound (heap_words old.seat) (heap_words new.seat) one.slots
+      new.recorded.slots touch) recorded
+      (subst (λ (one : Seat). Records mid.recorded.bound (heap_words one) (heap_words new.seat) mid.recorded.slots
+      new.recorded.slots touch) seat touches.records);
 }
 
 -- where words were put, and then one more, a slot's or none, all were put

@@ -31,6 +31,7 @@ use Rattle.array_trim.proofs.Covers.{IsCovered, covering}
 use Rattle.array_trim.proofs.CutWords.{IsCut, counted, long_counted, cut_words, long_cut, cut_stays}
 use Rattle.array_trim.proofs.CutWords.{cut_header, cut_slot, cut_count, cut_slots}
 use Rattle.array_trim.proofs.ListStores.{ListStored, of_list, of_store, list_before_layouts, store_before_layouts}
+use Rattle.array_trim.proofs.MarkedTrims.{TrimMarks}
 use Rattle.array_trim.proofs.StorePieces.{HadCell}
 use Rattle.array_trim.proofs.TouchedCuts.{CutTouch, trim_touches}
 use Rattle.array_trim.proofs.TrimmedCells.{IsFreeCell, Trimming}
@@ -155,7 +156,8 @@ module _ {old new : Mutator} {at store : ℕ} {list : ListObject} (stored : List
       (are : AreNewElements graph after)
       (into : IsCutInto (heap_of new) store (store + (store_head + stored.cell.length)) start kept came pieces)
       (stay : AreKept list.elements after from kept) (touch : ℕ → Touch) (touches : Touches old new touch)
-      (each : (a : ℕ) → CutTouch stored.shown.cell stored.cell came touch a) where
+      (each : (a : ℕ) → CutTouch stored.shown.cell stored.cell came touch a)
+      (marks : TrimMarks old new at store start) where
     -- so the list was trimmed
     trim : Trimming (heap_of old) (heap_of new) stored.shown.cell stored.cell came pieces list.elements after from
     trim = record {
@@ -209,6 +211,9 @@ module _ {old new : Mutator} {at store : ℕ} {list : ListObject} (stored : List
       from = from;
       trim = trim;
       remembers = remembers touch touches (trim_touches trim touch each) (none_made (heap_of old) touch);
+      marks = subst (λ n. TrimMarks old new n stored.cell.at came.at) (sym stored.shown.stands)
+          (subst (λ n. TrimMarks old new at n came.at) (sym stored.stands)
+          (subst (TrimMarks old new at store) (sym into.place) marks));
     }
 
     pub cut_has_trimmed : HasTrimmed old new graph at list after came.length

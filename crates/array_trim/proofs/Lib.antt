@@ -16,3 +16,10 @@ mod CutWords
 mod CutLists
 mod ShiftedLists
 mod TruncatedLists
+mod TrimmedPieces
+mod KeptLists
+mod KeptTargets
+mod StoreMarks
+mod MarkedTrims
+mod TrimMoves
+mod ShiftSteps

@@ -31,6 +31,7 @@ use Rattle.array_trim.proofs.Covers.{IsCovered}
 use Rattle.array_trim.proofs.CutLists.{IsCutInto, small_store, cut_reads, cut_had, cut_free, cut_has_trimmed}
 use Rattle.array_trim.proofs.CutWords.{IsCut, cut_words, cut_store, cut_capacity}
 use Rattle.array_trim.proofs.ListStores.{ListStored, list_stored}
+use Rattle.array_trim.proofs.MarkedTrims.{TrimMarks}
 use Rattle.array_trim.proofs.StorePieces.{store_read, stands_inside}
 use Rattle.array_trim.proofs.TouchedCuts.{CutTouch}
 use Rattle.array_trim.proofs.TrimmedGraphs.{dropped_are_new, list_are_new}
@@ -167,9 +168,9 @@ module _ {old new : Mutator} {graph : Graph} {at : ℕ} {list : ListObject} {gon
       ]
 
   -- so the heap shows the list with these elements, and its store has as many slots fewer
-  pub shifted_has_trimmed : HasTrimmed old new graph at list (drop gone list.elements)
+  pub shifted_has_trimmed : 1 ≤ gone → HasTrimmed old new graph at list (drop gone list.elements)
       (capacity_at (heap_of old) at - gone)
-  shifted_has_trimmed =
+  shifted_has_trimmed some =
       subst (λ n. HasTrimmed old new graph at list (drop gone list.elements) (n - gone)) (sym stored.capacity)
       (cut_has_trimmed stored (header_bits store_header) cut after words_put shows is within
       (dropped_are_new graph list.elements gone (list_are_new shows is)) into
@@ -178,9 +179,10 @@ module _ {old new : Mutator} {graph : Graph} {at : ℕ} {list : ListObject} {gon
         enough = omega (arith, left, stored.room);
         rest = λ k past below. omega (arith, past, left);
       })
-      (shifted_touch at puts.store gone) puts.touches each_touched)
+      (shifted_touch at puts.store gone) puts.touches each_touched
+      (TrimMarks.shifted (omega (arith, some)) puts.marks))
 
 -- so it is with each such trim
 pub shifted_list_shows : ShiftedListShows
 shifted_list_shows old new graph at list gone within shows is some few puts =
-    shifted_has_trimmed shows is within few puts
+    shifted_has_trimmed shows is within few puts some

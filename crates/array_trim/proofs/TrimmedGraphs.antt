@@ -1,5 +1,5 @@
 -- A heap in which a list was trimmed shows the graph in which the list has the elements that stay.
-use Rattle.std.proofs.Common.{ℕ, ◌+◌, List, [], ◌∷◌, length, take, drop, sym, ◌∙◌, ap, subst, arith}
+use Rattle.std.proofs.Common.{ℕ, IsTrue, ◌+◌, List, [], ◌∷◌, length, take, drop, sym, ◌∙◌, ap, subst, arith}
 use Rattle.std.proofs.Common.{length-take, length-drop}
 use Rattle.std.specs.Prelude.{option_and_then}
 use Rattle.std.proofs.lemmas.List.Elements.{All-take, All-drop}
@@ -10,6 +10,7 @@ use Rattle.object_graph.specs.declared.value.Value.TheVariants.{Ref}
 use Rattle.object_graph.specs.Graphs.{Graph, ListObject, as_list}
 use Rattle.object_graph.specs.Invariants.{IsValue}
 use Rattle.object_graph.specs.Meaning.{relist}
+use Rattle.object_graph.specs.Reach.{is_marked, reach}
 use Rattle.graph_laws.proofs.MadeGraphs.{relists}
 use Rattle.page_space.specs.Sizes.{AreWithin}
 use Rattle.heap_model.proofs.BoundHeaps.{none_in}
@@ -19,6 +20,7 @@ use Rattle.object_cells.specs.HeldValues.{IsReachedValue}
 use Rattle.object_cells.specs.Refills.{RestsAgain}
 use Rattle.object_cells.specs.Capacities.{ChangesObjectUsing}
 use Rattle.object_cells.specs.Contents.{next_at}
+use Rattle.object_cells.specs.CycleChanges.{KeepsOpenCycle}
 use Rattle.object_cells.specs.ElementChanges.{AreNewElements}
 use Rattle.object_cells.specs.ListObjects.{IsListAt}
 use Rattle.object_cells.specs.Made.{PutsWords}
@@ -27,9 +29,10 @@ use Rattle.object_cells.proofs.NothingUsed.{room_for_none, uses_none}
 use Rattle.object_cells.proofs.TakenRuns.{bumped_none, takes_none}
 use Rattle.object_cells.proofs.NewElements.{elements_are_new}
 use Rattle.object_cells.proofs.RefilledLists.{links_reached}
-use Rattle.object_cells.proofs.ReplacedObjects.{ReplacesCells, replaced_shows, rests_again}
+use Rattle.object_cells.proofs.ReplacedObjects.{ReplacesCells, replaced_shows, rests_again, stays_reached}
 use Rattle.object_cells.proofs.ListCells.{ListShown}
 use Rattle.array_trim.specs.Trims.{HasTrimmed}
+use Rattle.array_trim.proofs.MarkedTrims.{TrimMarks, trim_keeps_open_cycle}
 use Rattle.array_trim.proofs.TrimmedCells.{Trimming, trimmed_cells}
 use Rattle.object_cells.proofs.OwnSteps.{went_object}
 use Rattle.array_trim.proofs.TrimmedSlots.{trim_step}
@@ -78,6 +81,7 @@ pub record Trimmed (old new : Mutator) (graph : Graph) (at : ℕ) (list : ListOb
   pub from : ℕ
   pub trim : Trimming (heap_of old) (heap_of new) shown.cell store came pieces list.elements after from
   pub remembers : Remembers old new (shown.cell ∷ store ∷ []) (shown.cell ∷ pieces) []
+  pub marks : TrimMarks old new shown.cell.at store.at came.at
 
 module _ {old new : Mutator} {graph : Graph} {at : ℕ} {list : ListObject} {after : List Value}
     (trimmed : Trimmed old new graph at list after) where
@@ -105,6 +109,18 @@ module _ {old new : Mutator} {graph : Graph} {at : ℕ} {list : ListObject} {aft
     shows = λ marks reached. list_shows trimmed.trim;
   }
 
+  -- a list that can be reached can be with other elements
+  still_reached : IsTrue (is_marked (reach (relist graph list after)) trimmed.shown.cell.header.object)
+  still_reached =
+      subst (λ n. IsTrue (is_marked (reach (relist graph list after)) n)) (sym trimmed.shown.carries)
+      (stays_reached graph list.number (ListOf after) graph.paths trimmed.is.reached)
+
+  -- an open cycle is kept
+  keeps : KeepsOpenCycle old new (relist graph list after) (trimmed.shown.cell ∷ trimmed.store ∷ [])
+      (trimmed.shown.cell ∷ trimmed.pieces) []
+  keeps =
+      trim_keeps_open_cycle (relist graph list after) trimmed.shows trimmed.trim trimmed.marks still_reached
+
   -- so the heap shows the graph in which the list has these
   graph_shown : MainShows new (relist graph list after)
   graph_shown =
@@ -112,7 +128,7 @@ module _ {old new : Mutator} {graph : Graph} {at : ℕ} {list : ListObject} {aft
       (relists graph (Ref list.number) list after trimmed.shows.is_graph
       (ap (λ found. option_and_then (as_list list.number) found) trimmed.is.object) trimmed.are.are)
       (trimmed.puts.paths ∙ trimmed.shows.shows.paths)
-      (links_reached graph after trimmed.are) rests replaces
+      (links_reached graph after trimmed.are) rests replaces keeps
 
   -- no word more is used
   none_used : UsesMore old new 0

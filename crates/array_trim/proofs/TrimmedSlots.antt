@@ -87,7 +87,7 @@ module _ {old new : Heap} {cell store came : Cell} {pieces : List Cell} {before 
   slots_were = record { store = trim.shown.store; slot = trim.shown.slot; stands = trim.shown.has }
 
   -- these were those of its store
-  were_of_store : trim.shown.slots ≡ drop store_head (words_of_cell old store)
+  pub were_of_store : trim.shown.slots ≡ drop store_head (words_of_cell old store)
   were_of_store = (is_store_of trim.shown.store trim.shown.slots trim.shown.has trim.refers).are
 
   -- a slot holds what one of the old store held

@@ -39,6 +39,7 @@ use Rattle.array_trim.proofs.Covers.{IsCovered}
 use Rattle.array_trim.proofs.CutLists.{IsCutInto, small_store, cut_reads, cut_had, cut_free, cut_has_trimmed}
 use Rattle.array_trim.proofs.CutWords.{IsCut, cut_words, cut_store, cut_capacity}
 use Rattle.array_trim.proofs.ListStores.{ListStored, list_stored, words_apart}
+use Rattle.array_trim.proofs.MarkedTrims.{TrimMarks}
 use Rattle.array_trim.proofs.StorePieces.{shrunk_read, stands_inside}
 use Rattle.array_trim.proofs.TouchedCuts.{CutTouch}
 use Rattle.array_trim.proofs.TrimmedGraphs.{taken_are_new, list_are_new}
@@ -237,7 +238,7 @@ module _ {old new : Mutator} {graph : Graph} {at : ℕ} {list : ListObject} {kep
         enough = omega (arith, left);
         rest = λ k past below. absurd (omega (arith, past, below, left));
       })
-      (truncated_touch at puts.store capacity kept) all_touched each_touched
+      (truncated_touch at puts.store capacity kept) all_touched each_touched (TrimMarks.truncated refl puts.marks)
 
 -- so it is with each such trim
 pub truncated_list_shows : TruncatedListShows

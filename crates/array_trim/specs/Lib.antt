@@ -1,3 +1,4 @@
+pub mod TrimSteps
 pub mod TrimWords
 pub mod Trims
 pub mod TrimLaws

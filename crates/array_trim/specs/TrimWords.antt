@@ -12,6 +12,7 @@ use Rattle.write_barrier.specs.Recording.{Touches, touched, touched_one, touched
 use Rattle.write_barrier.specs.FreeCells.{with_free_cell}
 use Rattle.object_cells.specs.Formats.{store_header}
 use Rattle.object_cells.specs.Made.{PutsWords}
+use Rattle.array_trim.specs.TrimSteps.{PublishesStore, BlackensStore}
 
 -- the words with a store of so many slots that begins at an address; its slots are what stands there
 abbrev pub with_store_head : List ℕ → ℕ → ℕ → List ℕ
@@ -52,15 +53,18 @@ truncated_touch list store capacity kept =
 abbrev pub HasStoreAt : Mutator → ℕ → ℕ → Type 0
 HasStoreAt main list store = word_at (heap_of main) (list + store_slot) ≡ reference_word store
 
--- the list at the address, of so many elements, lost its first `gone`, and nothing else was put
+-- The list at the address, of so many elements, lost its first `gone`, and nothing else was put. In an open cycle its
+-- store was made black and published where it begins then, before any word was put.
 pub record PutsShifted (old new : Mutator) (list count gone : ℕ) : Type 0 where
   pub store : ℕ
   pub has : HasStoreAt old list store
   pub puts : let capacity = capacity_at (heap_of old) list in
       PutsWords old new (shifted_words (heap_words old.seat) list store capacity count gone)
   pub touches : Touches old new (shifted_touch list store gone)
+  pub marks : PublishesStore old new list store (store + gone)
 
--- the list at the address has its first `kept` elements alone, and nothing else was put
+-- The list at the address has its first `kept` elements alone, and nothing else was put. In an open cycle its store was
+-- made black before any word was.
 pub record PutsTruncated (old new : Mutator) (list kept : ℕ) : Type 0 where
   pub store : ℕ
   pub has : HasStoreAt old list store
@@ -68,3 +72,4 @@ pub record PutsTruncated (old new : Mutator) (list kept : ℕ) : Type 0 where
       PutsWords old new (truncated_words (heap_words old.seat) list store capacity kept)
   pub touches : let capacity = capacity_at (heap_of old) list in
       Touches old new (truncated_touch list store capacity kept)
+  pub marks : BlackensStore old new store

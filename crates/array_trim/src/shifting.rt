@@ -3,6 +3,7 @@ ghost use Rattle.std.specs.Prelude.{◌≤◌};
 ghost use Rattle.object_graph.specs.Graphs.{Graph, ListObject};
 ghost use Rattle.write_barrier.specs.MutatorState.{MainShows};
 ghost use Rattle.object_cells.specs.ListObjects.{IsListAt, IsListReady, IsShownList};
+ghost use Rattle.array_trim.specs.TrimSteps.{MayTrim};
 ghost use Rattle.array_trim.specs.TrimWords.{PutsShifted};
 ghost use Rattle.array_trim.specs.Trims.{ShiftsElements};
 
@@ -16,6 +17,7 @@ use write_barrier::Main;
 /// The store of the list begins so many words later. The words before it are free.
 fn shift_store(main: &mut Main, list: u32, count: u32, gone: u32)
     requires ready { IsListReady main.old list count }
+    requires may { MayTrim main.old list }
     requires some { 1 ≤ gone }
     requires few { gone ≤ count }
     ensures { PutsShifted main.old main.new list count gone }
@@ -23,7 +25,8 @@ fn shift_store(main: &mut Main, list: u32, count: u32, gone: u32)
     main.addresses_fit();
     let store = store_of(main, list);
     let start = store.at + gone;
-    // The store may not be read by marking while it moves.
+    // Marking may not read the store while it moves, and is to find the one that begins in it before a slot refers
+    // to that: the other way round it could take words of the old one for slots, or lose the new one.
     main.blacken(store.at);
     main.publish(start);
     main.set_header(start, STORE);

@@ -3,6 +3,7 @@ ghost use Rattle.std.specs.Prelude.{◌<◌};
 ghost use Rattle.object_graph.specs.Graphs.{Graph, ListObject};
 ghost use Rattle.write_barrier.specs.MutatorState.{MainShows};
 ghost use Rattle.object_cells.specs.ListObjects.{IsListAt, IsListReady, IsShownList};
+ghost use Rattle.array_trim.specs.TrimSteps.{MayTrim};
 ghost use Rattle.array_trim.specs.TrimWords.{PutsTruncated};
 ghost use Rattle.array_trim.specs.Trims.{TruncatesElements};
 
@@ -15,6 +16,7 @@ use write_barrier::Main;
 /// The store of the list has so many slots. The words behind them are free.
 fn truncate_store(main: &mut Main, list: u32, count: u32, kept: u32)
     requires ready { IsListReady main.old list count }
+    requires may { MayTrim main.old list }
     requires fewer { kept < count }
     ensures { PutsTruncated main.old main.new list kept }
 {

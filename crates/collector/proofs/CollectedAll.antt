@@ -11,5 +11,5 @@ pub swept_shows : (heap after : HeapState) (graph : Graph) → HeapShows heap gr
     → MarkSweeps heap.main after.main graph → HeapShows after graph
 swept_shows heap after graph shown rest swept =
     let space = swept.seat.space in
-    still_shows heap after graph shown rest space
+    still_shows heap after graph shown rest space swept.seat.phase
     (swept.rows ∙ ap (λ (one : Space). one.sizes.pages) space ∙ sym shown.rows) swept.shows

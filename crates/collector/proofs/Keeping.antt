@@ -14,13 +14,15 @@ same_heap heap after main rest noted =
     ∙ ap (λ (s : Rest). record { main = heap.main; rest = s; collected = after.collected }) rest
     ∙ ap (λ (collected : Bool). record heap { collected = collected }) noted
 
--- where the mutator's side shows a graph, and the regions and the number of rows of free runs are the same, the heap
--- shows it
+-- where the mutator's side shows a graph, and the regions, the phase and the number of rows of free runs are the same,
+-- the heap shows it
 pub still_shows : (heap after : HeapState) (graph : Graph) {before : Graph} → HeapShows heap before
     → after.rest ≡ heap.rest → after.main.seat.space ≡ heap.main.seat.space
-    → length after.main.free ≡ length heap.main.free → MainShows after.main graph → HeapShows after graph
-still_shows heap after graph shown rest space rows shows = record {
+    → after.main.seat.phase ≡ heap.main.seat.phase → length after.main.free ≡ length heap.main.free
+    → MainShows after.main graph → HeapShows after graph
+still_shows heap after graph shown rest space phase rows shows = record {
   main = shows;
+  quiet = phase ∙ shown.quiet;
   rows = rows ∙ shown.rows ∙ ap (λ (one : Space). one.sizes.pages) (sym space);
   listed = rw (rest, space) shown.listed;
   marks = ap (λ (s : Rest). s.marks) rest ∙ shown.marks ∙ ap roots_start (sym space);
@@ -31,6 +33,7 @@ pub cycled_shows : (heap : HeapState) (cycle : Bool) (graph : Graph) → HeapSho
     → HeapShows (record heap { rest = with_cycle heap.rest cycle }) graph
 cycled_shows heap cycle graph shown = record {
   main = shown.main;
+  quiet = shown.quiet;
   rows = shown.rows;
   listed = shown.listed;
   marks = shown.marks;
@@ -41,6 +44,7 @@ pub noted_shows : (heap : HeapState) (collected : Bool) (graph : Graph) → Heap
     → HeapShows (with_collected heap collected) graph
 noted_shows heap collected graph shown = record {
   main = shown.main;
+  quiet = shown.quiet;
   rows = shown.rows;
   listed = shown.listed;
   marks = shown.marks;

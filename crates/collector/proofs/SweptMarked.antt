@@ -24,7 +24,7 @@ use Rattle.heap_moves.proofs.AllStands.{shows_for}
 use Rattle.heap_moves.proofs.MovedGraphs.{moves_show}
 use Rattle.live_cells.specs.Exact.{IsWordOf}
 use Rattle.live_cells.specs.Live.{IsLive, IsRootTarget}
-use Rattle.write_barrier.specs.MutatorState.{Mutator, heap_of, IsTied, AvoidsFree, MainShows}
+use Rattle.write_barrier.specs.MutatorState.{Mutator, MayStore, heap_of, IsTied, AvoidsFree, MainShows}
 use Rattle.object_cells.proofs.TakenRuns.{bumped_none}
 use Rattle.weak_pairs.specs.Pairs.{HasPairsAt}
 use Rattle.ephemeron_clear.specs.Clearing.{Clears}
@@ -42,8 +42,9 @@ use Rattle.collector.proofs.SweptObjects.{SweptAfter, marked_cells_stay, used_we
 use Rattle.collector.proofs.SweptObjects.{rooms_no_fuller}
 
 -- From a heap that shows a graph, nothing was granted any more; of cells that were marked, from any starts, dead
--- entries were cleared; and what was not marked was made free.
+-- entries were cleared; and what was not marked was made free. No cycle of marking was open, or it waited.
 pub record Steps (old bare cleared new : Mutator) (graph : Graph) (given maps marked : List ℕ) : Type 0 where
+  pub quiet : MayStore old
   pub shown : MainShows old graph
   pub within : AreWithin bare.seat.space.sizes bare.seat.space.variables
   pub ungrants : Ungrants old bare
@@ -259,7 +260,7 @@ module _ {old bare cleared new : Mutator} {graph : Graph} {given maps marked : L
   still_shows = record {
     tied = tied;
     is_graph = steps.shown.is_graph;
-    quiet = steps.sweeps.seat.phase ∙ steps.clears.takes.whole.quiet;
+    calm = λ mark. absurd (steps.quiet (sym rest.phase ∙ mark));
     shows = shows;
     collectable = collectable;
     free = steps.sweeps.free;

@@ -104,7 +104,7 @@ module _ {old mid : Mutator} {new : Heap} {graph : Graph} {maps marked : List â„
   moved_room number at place =
       let stood = stood_between number at place in
       moves_keep_room (heap_of mid) new (place_if_marked marked) number at at
-      (whole_for (Stays (place_if_marked marked)) after.takes.whole.whole) after.moved stood.0
+      (whole_for (Stays (place_if_marked marked)) after.takes.whole) after.moved stood.0
       (place_of_marked marked at stood.1)
 
   -- it stood there before

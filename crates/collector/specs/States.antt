@@ -2,6 +2,7 @@
 use Rattle.std.specs.Prelude.{◌≡◌, ℕ, ◌≤◌, Bool, length}
 use Rattle.object_graph.specs.Graphs.{Graph}
 use Rattle.page_space.specs.Extents.{roots_start}
+use Rattle.heap_table.specs.Phases.{Quiet}
 use Rattle.write_barrier.specs.MutatorState.{Mutator, MainShows}
 
 -- What the heap has next to the mutator's side: how many places the list of a scavenge has, below which bound addresses
@@ -26,9 +27,11 @@ abbrev pub with_collected : HeapState → Bool → HeapState
 with_collected heap collected = record heap { collected = collected }
 
 -- The mutator's side shows the graph, and each page has a row of free runs; the list of a scavenge has a place for each
--- word of the young generation; and each cell can be marked.
+-- word of the young generation; and each cell can be marked. Nothing is marked between two lines: a cycle that is open
+-- is marked in the pause that ends it.
 pub record HeapShows (heap : HeapState) (graph : Graph) : Type 0 where
   pub main : MainShows heap.main graph
+  pub quiet : heap.main.seat.phase ≡ Quiet
   pub rows : length heap.main.free ≡ heap.main.seat.space.sizes.pages
   pub listed : heap.main.seat.space.sizes.young ≤ heap.rest.places
   pub marks : heap.rest.marks ≡ roots_start heap.main.seat.space

@@ -2,9 +2,8 @@
 ghost use Rattle.std.specs.Prelude.{◌≡◌, ℕ, List, length};
 ghost use Rattle.page_space.specs.Extents.{roots_start};
 ghost use Rattle.object_graph.specs.Graphs.{Graph};
-ghost use Rattle.heap_table.specs.Phases.{Quiet};
 ghost use Rattle.live_cells.specs.Live.{AreLive};
-ghost use Rattle.write_barrier.specs.MutatorState.{MainShows, heap_of};
+ghost use Rattle.write_barrier.specs.MutatorState.{MayStore, MainShows, heap_of};
 ghost use Rattle.collector.specs.MarkSwept.{IsMarkedFrom, MarkSweeps, SweepsMarked, Ungrants};
 
 use ephemeron_clear::clear;
@@ -15,7 +14,7 @@ use write_barrier::Main;
 
 /// Grants nothing any more. What was granted are fillers of a page, which stay.
 fn ungrant(main: &mut Main)
-    requires quiet { main.old.seat.phase ≡ Quiet }
+    requires quiet { MayStore main.old }
     requires tied { main.old.young.space ≡ main.old.seat.space }
     ensures { Ungrants main.old main.new }
 {
@@ -27,6 +26,7 @@ fn ungrant(main: &mut Main)
 /// variables refer to. What was granted is granted no more: its words are fillers of a page, which the sweep
 /// makes free. Where just the live cells are marked, nothing else is kept.
 pub(crate) fn sweep_marked(main: &mut Main, marking: &Marking)
+    requires quiet { MayStore main.old }
     requires shown { (graph : Graph) × MainShows main.old graph }
     requires rows { length main.old.free ≡ main.old.seat.space.sizes.pages }
     requires bound { marking.now.bound ≡ roots_start main.old.seat.space }
@@ -48,6 +48,7 @@ pub(crate) fn sweep_marked(main: &mut Main, marking: &Marking)
 /// whose keys are dead, and sweeps. Only the mutator runs. What was granted is granted no more: its words
 /// are fillers of a page, which the sweep makes free.
 pub(crate) fn mark_sweep(main: &mut Main, marking: &mut Marking)
+    requires quiet { MayStore main.old }
     requires shown { (graph : Graph) × MainShows main.old graph }
     requires rows { length main.old.free ≡ main.old.seat.space.sizes.pages }
     requires bound { marking.old.bound ≡ roots_start main.old.seat.space }

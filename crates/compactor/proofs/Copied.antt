@@ -4,18 +4,17 @@ use Rattle.std.proofs.Common.{slice_set, length-set, refl, sym, ◌∙◌, ap, s
 use Rattle.std.proofs.lemmas.Bool.{cases_lt}
 use Rattle.page_space.specs.Extents.{eden_start, marks_start}
 use Rattle.object_graph.proofs.Lists.{slice_get-set_same, slice_get-set_other}
-use Rattle.heap_table.specs.Phases.{Quiet}
 use Rattle.mark_barrier.specs.CycleSteps.{sure_of_target}
 use Rattle.write_barrier.specs.Seats.{Seat, RestStays, heap_words}
 use Rattle.write_barrier.specs.Staying.{rest_stays_itself, rest_stays_again}
 use Rattle.heap_model.specs.Types.{Cell}
 use Rattle.heap_model.specs.Remembered.{Touch, IsRecordedBy, RefersToYoung}
 use Rattle.heap_model.proofs.RememberedSlots.{refers_to_young_stays}
-use Rattle.write_barrier.specs.MutatorState.{Mutator, with_slot, with_word}
+use Rattle.write_barrier.specs.MutatorState.{Mutator, MayStore, with_slot, with_word}
 use Rattle.write_barrier.specs.Recording.{Touches, touched_one}
 use Rattle.write_barrier.proofs.TouchedRanges.{touched_here, touched_other}
 use Rattle.write_barrier.proofs.Recording.{slot_touch, word_touch}
-use Rattle.write_barrier.proofs.SlotCycles.{cycle_idle, quiet_idle}
+use Rattle.write_barrier.proofs.SlotCycles.{cycle_idle}
 use Rattle.compactor.specs.Tables.{Table, moved_word}
 use Rattle.compactor.specs.Copying.{IsSlotAt, IsCopy, StandsCopied, KeepsRest, IsRecordedAt, Copies, CopiesOne}
 
@@ -74,6 +73,7 @@ seat_stays old new at now is = record {
   home = ap (λ (seat : Seat). seat.home) is;
   out = ap (λ (seat : Seat). seat.out) is;
   lent = ap (λ (seat : Seat). seat.lent) is;
+  marks = ap (λ (seat : Seat). seat.marks) is;
 }
 
 -- there it stands
@@ -89,7 +89,7 @@ stays_beside words others at now other is apart =
     ap (λ (all : List ℕ). slice_get all other) is ∙ slice_get-set_other words at other now apart
 
 module _ {old new : Mutator} {table : Table} {cell : Cell} {to offset word : ℕ}
-    (quiet : old.seat.phase ≡ Quiet) (counted : length (heap_words old.seat) ≡ marks_start old.seat.space)
+    (quiet : MayStore old) (counted : length (heap_words old.seat) ≡ marks_start old.seat.space)
     (within : to + offset < marks_start old.seat.space)
     (read : slice_get (heap_words old.seat) (cell.at + offset) ≡ Some word) where
   -- the word of a slot is put, moved
@@ -109,7 +109,7 @@ module _ {old new : Mutator} {table : Table} {cell : Cell} {to offset word : ℕ
           paths = ap (λ (main : Mutator). main.paths) is;
           young = ap (λ (main : Mutator). main.young) is;
           cycle = ap (λ (main : Mutator). main.cycle) is
-              ∙ cycle_idle old at (sure_of_target (eden_start old.seat.space) old.cycle now) (quiet_idle quiet);
+              ∙ cycle_idle old at (sure_of_target (eden_start old.seat.space) old.cycle now) quiet;
           bound = touches.bound;
         };
         free = touches.free;

@@ -78,6 +78,7 @@ module _ {was now new : Mutator} {table : Table} {count word : ℕ} (before : Ro
         home = ap (λ (main : Mutator). main.seat.home) put;
         out = ap (λ (main : Mutator). main.seat.out) put;
         lent = ap (λ (main : Mutator). main.seat.lent) put;
+        marks = ap (λ (main : Mutator). main.seat.marks) put;
       };
       paths = ap (λ (main : Mutator). main.paths) put;
       young = ap (λ (main : Mutator). main.young) put;

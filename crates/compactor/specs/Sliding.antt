@@ -8,14 +8,13 @@ use Rattle.page_space.specs.Extents.{eden_start}
 use Rattle.page_space.specs.RegionLaws.{IsSpace}
 use Rattle.cell_layout.specs.Cells.{IsRow}
 use Rattle.free_runs.specs.FreeRuns.{row_of}
-use Rattle.heap_table.specs.Phases.{Quiet}
 use Rattle.write_barrier.specs.Seats.{heap_words}
 use Rattle.heap_model.specs.Types.{Cell, Run}
 use Rattle.heap_model.specs.Heaps.{Heap, Row, HasCell}
 use Rattle.heap_model.specs.RegionRows.{IsRowFrom}
 use Rattle.heap_model.specs.Wholeness.{Whole}
 use Rattle.heap_model.specs.Remembered.{RefersToYoung}
-use Rattle.write_barrier.specs.MutatorState.{Mutator, heap_of}
+use Rattle.write_barrier.specs.MutatorState.{Mutator, MayStore, heap_of}
 use Rattle.write_barrier.specs.FreeCells.{with_free_cell}
 use Rattle.compactor.specs.Tables.{Table, place_in}
 use Rattle.compactor.specs.Copying.{IsSlotAt, StandsCopied, KeepsRest}
@@ -83,7 +82,7 @@ AreJudged main table cells from to =
 -- what is known of the mutator with which a compaction began
 pub record IsBegun (first : Mutator) : Type 0 where
   pub limits : IsSpace first.seat.space
-  pub quiet : first.seat.phase ≡ Quiet
+  pub quiet : MayStore first
   pub whole : Whole (heap_of first)
   pub bounded : first.recorded.bound ≡ eden_start first.seat.space
   pub rows : length first.free ≡ first.seat.space.sizes.pages

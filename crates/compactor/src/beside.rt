@@ -2,8 +2,7 @@
 //! of pages comes to refer to their places.
 ghost use Rattle.std.specs.Prelude.{◌≡◌, ℕ, ◌+◌, ◌≤◌};
 ghost use Rattle.page_space.specs.Extents.{marks_start, roots_start};
-ghost use Rattle.heap_table.specs.Phases.{Quiet};
-ghost use Rattle.write_barrier.specs.MutatorState.{Mutator};
+ghost use Rattle.write_barrier.specs.MutatorState.{Mutator, MayStore};
 ghost use Rattle.compactor.specs.Sliding.{IsBegun, Slid};
 ghost use Rattle.compactor.specs.Young.{MayMove, RootsMoved, Stays, YoungMoved};
 
@@ -17,7 +16,7 @@ use write_barrier::Main;
 
 /// Moves the slots of a young cell, if it is not free. The cell stays in place.
 fn move_slots(main: &mut Main, moves: &Moves, cell: &Cell)
-    requires quiet { main.old.seat.phase ≡ Quiet }
+    requires quiet { MayStore main.old }
     requires within { cell.now.at + cell.now.size ≤ marks_start main.old.seat.space }
     ensures { Stays main.old main.new moves.now cell.now }
 {
@@ -56,7 +55,7 @@ pub(crate) fn move_young(main: &mut Main, moves: &Moves)
 
 /// Moves the first root word of each variable. The second one is never a reference.
 pub(crate) fn move_roots(main: &mut Main, moves: &Moves)
-    requires quiet { main.old.seat.phase ≡ Quiet }
+    requires quiet { MayStore main.old }
     ensures { RootsMoved main.old main.new moves.now main.old.seat.space.variables }
 {
     // No address is past 32 bits.

@@ -1,9 +1,8 @@
 //! A compaction from its start to its end.
 ghost use Rattle.std.specs.Prelude.{◌≡◌, length};
 ghost use Rattle.page_space.specs.Extents.{eden_start};
-ghost use Rattle.heap_table.specs.Phases.{Quiet};
 ghost use Rattle.heap_model.specs.Wholeness.{Whole};
-ghost use Rattle.write_barrier.specs.MutatorState.{heap_of};
+ghost use Rattle.write_barrier.specs.MutatorState.{MayStore, heap_of};
 ghost use Rattle.compactor.specs.Compacted.{Compacted};
 
 use crate::beside::{move_roots, move_young};
@@ -15,7 +14,7 @@ use write_barrier::Main;
 /// Moves the cells of each page that are not free together to its front, in their order. What is left of a page
 /// becomes one free cell and one free run. It answers how many cells came to another address. Only the mutator runs.
 pub fn compact(main: &mut Main, moves: &mut Moves) -> u64
-    requires quiet { main.old.seat.phase ≡ Quiet }
+    requires quiet { MayStore main.old }
     requires whole { Whole (heap_of main.old) }
     requires rows { length main.old.free ≡ main.old.seat.space.sizes.pages }
     requires bound { moves.old.bound ≡ eden_start main.old.seat.space }

@@ -1,8 +1,8 @@
 //! One cell at its place: its words are copied there, its slots refer to where cells come.
 ghost use Rattle.std.specs.Prelude.{◌≡◌, ◌+◌, ◌<◌, ◌≤◌};
 ghost use Rattle.page_space.specs.Extents.{marks_start};
-ghost use Rattle.heap_table.specs.Phases.{Quiet};
 ghost use Rattle.compactor.specs.Copying.{Copies, CopiesOne};
+ghost use Rattle.write_barrier.specs.MutatorState.{MayStore};
 
 use crate::moves::Moves;
 use cell_layout::Cell;
@@ -12,7 +12,7 @@ use write_barrier::Main;
 /// Copies the word at an offset of a cell to the same offset from another address, moved if it is a slot's.
 #[inline(always)]
 fn copy_word(main: &mut Main, moves: &Moves, cell: &Cell, to: u32, offset: u32)
-    requires quiet { main.old.seat.phase ≡ Quiet }
+    requires quiet { MayStore main.old }
     requires within { cell.now.at + offset < marks_start main.old.seat.space }
     requires front { to ≤ cell.now.at }
     ensures { CopiesOne main.old main.new moves.now cell.now to offset }
@@ -30,7 +30,7 @@ fn copy_word(main: &mut Main, moves: &Moves, cell: &Cell, to: u32, offset: u32)
 /// Copies a cell to an address at or before its own, word by word from its first on: so no word is written before it
 /// was read. Its slots are moved.
 pub(crate) fn copy_cell(main: &mut Main, moves: &Moves, cell: &Cell, to: u32)
-    requires quiet { main.old.seat.phase ≡ Quiet }
+    requires quiet { MayStore main.old }
     requires within { cell.now.at + cell.now.size ≤ marks_start main.old.seat.space }
     requires front { to ≤ cell.now.at }
     ensures { Copies main.old main.new moves.now cell.now to cell.now.size }

@@ -1,7 +1,6 @@
 //! The pass along the pages: the cells of each come to their places, and what is left of it becomes free.
 ghost use Rattle.std.specs.Prelude.{◌≡◌, ℕ, ◌+◌, ◌<◌, ◌≤◌, length};
-ghost use Rattle.heap_table.specs.Phases.{Quiet};
-ghost use Rattle.write_barrier.specs.MutatorState.{Mutator, heap_of};
+ghost use Rattle.write_barrier.specs.MutatorState.{Mutator, MayStore, heap_of};
 ghost use Rattle.compactor.specs.Sliding.{ArePlacedBefore, EndsPage, InPage, IsBegun, MayPack, MayPass};
 ghost use Rattle.compactor.specs.Sliding.{Slid, page_start};
 
@@ -14,7 +13,7 @@ use write_barrier::Main;
 
 /// Makes the words from an address up to the end of a page one free cell, if there are any, and its only free run.
 fn end_page(main: &mut Main, page: u32, next: u32)
-    requires quiet { main.old.seat.phase ≡ Quiet }
+    requires quiet { MayStore main.old }
     requires there { page < main.old.seat.space.sizes.pages }
     requires rows { length main.old.free ≡ main.old.seat.space.sizes.pages }
     requires from { page_start page ≤ next }

@@ -10,7 +10,6 @@ use Rattle.heap_model.specs.Kinds.{Pair}
 use Rattle.heap_model.specs.Needs.{count_at}
 use Rattle.heap_model.specs.Wholeness.{Whole}
 use Rattle.write_barrier.specs.MutatorState.{Mutator, heap_of, IsTied}
-use Rattle.object_cells.specs.CellsAt.{IsQuietWhole}
 use Rattle.weak_pairs.specs.Pairs.{HasPairsAt}
 use Rattle.ephemeron_table.specs.Probes.{IsWeakCellAt}
 use Rattle.ephemeron_table.proofs.TablesRead.{pairs_counted}
@@ -29,7 +28,7 @@ pub record PassesMaps (old now : Mutator) (maps marked : List ℕ) (at gone : �
   pub counted : gone + sum_by (count_at (heap_of now)) maps ≡ sum_by (count_at (heap_of old)) maps
 
 -- at first none is passed
-pub none_passed : (main : Mutator) (maps marked : List ℕ) → IsQuietWhole main → IsTied main
+pub none_passed : (main : Mutator) (maps marked : List ℕ) → Whole (heap_of main) → IsTied main
     → PassesMaps main main maps marked 0 0
 none_passed main maps marked whole tied = record {
   takes = takes_nothing main maps marked whole tied;
@@ -66,7 +65,7 @@ module _ {old mid new : Mutator} {maps marked : List ℕ} {at gone : ℕ} (whole
       → AreKeysMarked marked pairs
   cleared_here k below pairs has = elim (cases_lt k at) [
     | inl before ↦
-        marked_stay passes.takes.whole.whole clears.takes (there k (omega (arith, before, within)))
+        marked_stay passes.takes.whole clears.takes (there k (omega (arith, before, within)))
         (passes.cleared k before) pairs has
     | inr behind ↦
         let same : k ≡ at = omega (arith, below, behind) in
@@ -78,10 +77,10 @@ module _ {old mid new : Mutator} {maps marked : List ℕ} {at gone : ℕ} (whole
   others_count : (k : ℕ) → k < length maps → k ≢ at
       → count_at (heap_of new) (get_or maps k 0) ≡ count_at (heap_of mid) (get_or maps k 0)
   others_count k inside apart =
-      let some = some_pairs passes.takes.whole.whole (there k inside) in
+      let some = some_pairs passes.takes.whole (there k inside) in
       let now = clears.takes.others (get_or maps k 0) some.pairs
       (λ among. two_places maps k at once inside within apart (one_in here (get_or maps k 0) among)) some.are in
-      pairs_counted clears.takes.whole.whole now ∙ sym (pairs_counted passes.takes.whole.whole some.are)
+      pairs_counted clears.takes.whole now ∙ sym (pairs_counted passes.takes.whole some.are)
 
   -- and one more is passed
   pub one_passed : (less : ℕ) → less + count_at (heap_of new) here ≡ count_at (heap_of mid) here

@@ -91,7 +91,7 @@ module _ {old new : Mutator} {map place : ℕ} {marked : List ℕ} (one : TakesO
     | inr apart ↦
         let some = some_pairs one.whole there in
         let now = one.removes.tables.others other some.pairs (λ same. apart (sym same)) some.are in
-        omega (arith, pairs_counted one.whole some.are, pairs_counted one.removes.whole.whole now)
+        omega (arith, pairs_counted one.whole some.are, pairs_counted one.removes.whole now)
   ]
 
   -- the key of the pair cannot be reached where all is marked that can be

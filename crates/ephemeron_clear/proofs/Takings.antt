@@ -1,11 +1,10 @@
 -- What taking pairs out of the tables of weak maps leaves of other maps, and where nothing is taken.
-use Rattle.std.proofs.Common.{ℕ, List, Contains, refl, subst, arith}
+use Rattle.std.proofs.Common.{ℕ, List, Contains, refl, sym, ◌∙◌, subst, arith}
 use Rattle.write_barrier.specs.Staying.{rest_stays_itself}
 use Rattle.heap_model.specs.Heaps.{Heap}
 use Rattle.heap_model.specs.Kinds.{Pair}
 use Rattle.heap_model.specs.Wholeness.{Whole}
-use Rattle.write_barrier.specs.MutatorState.{Mutator, heap_of, IsTied}
-use Rattle.object_cells.specs.CellsAt.{IsQuietWhole}
+use Rattle.write_barrier.specs.MutatorState.{Mutator, MayStore, heap_of, IsTied}
 use Rattle.object_cells.proofs.NothingUsed.{uses_none}
 use Rattle.object_cells.proofs.OwnPlaces.{has_own_words}
 use Rattle.weak_pairs.specs.Pairs.{HasPairsAt, IsFilledAt}
@@ -33,8 +32,13 @@ cells_themselves heap = record {
   stood = λ cell words has. has_own_words has;
 }
 
+-- while no cycle is open, none is behind it
+pub may_go_on : {old new : Mutator} {maps marked : List ℕ} → TakesUnmarked old new maps marked → MayStore old
+    → MayStore new
+may_go_on takes idle mark = idle (sym takes.uses.beside.phase ∙ mark)
+
 -- where nothing happens, nothing is taken
-pub takes_nothing : (main : Mutator) (maps marked : List ℕ) → IsQuietWhole main → IsTied main
+pub takes_nothing : (main : Mutator) (maps marked : List ℕ) → Whole (heap_of main) → IsTied main
     → TakesUnmarked main main maps marked
 takes_nothing main maps marked whole tied = record {
   whole = whole;

@@ -10,9 +10,9 @@ use Rattle.heap_model.specs.Slots.{IsPlace}
 use Rattle.heap_model.specs.Kinds.{Pair, count_offset}
 use Rattle.heap_model.specs.Needs.{capacity_at, count_at, word_at}
 use Rattle.heap_model.specs.Remembered.{AreRemembered}
+use Rattle.heap_model.specs.Wholeness.{Whole}
 use Rattle.heap_model.specs.Showing.{Shows}
 use Rattle.write_barrier.specs.MutatorState.{Mutator, heap_of, IsTied}
-use Rattle.object_cells.specs.CellsAt.{IsQuietWhole}
 use Rattle.object_cells.specs.Uses.{UsesMore}
 use Rattle.weak_pairs.specs.Pairs.{HasPairsAt}
 use Rattle.ephemeron_table.specs.Pairs.{HasSameCells, IsNoPairWord}
@@ -36,7 +36,7 @@ MarksReached heap marked graph =
 -- Pairs whose keys are not marked were taken out of the tables of these weak maps.
 pub record TakesUnmarked (old new : Mutator) (maps marked : List ℕ) : Type 0 where
   -- the heap is whole again, what is granted stays so, and so does what is known of a cycle
-  pub whole : IsQuietWhole new
+  pub whole : Whole (heap_of new)
   pub tied : IsTied new
   pub paths : new.paths ≡ old.paths
   pub cycle : new.cycle ≡ old.cycle

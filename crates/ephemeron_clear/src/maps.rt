@@ -3,8 +3,8 @@ ghost use Rattle.std.specs.Prelude.{◌≡◌, ◌≢◌, ◌<◌, ◌+◌, List
 ghost use Rattle.page_space.specs.Extents.{roots_start};
 ghost use Rattle.heap_model.specs.Kinds.{Pair};
 ghost use Rattle.heap_model.specs.Needs.{count_at};
-ghost use Rattle.write_barrier.specs.MutatorState.{heap_of, IsTied};
-ghost use Rattle.object_cells.specs.CellsAt.{IsQuietWhole};
+ghost use Rattle.write_barrier.specs.MutatorState.{MayStore, heap_of, IsTied};
+ghost use Rattle.heap_model.specs.Wholeness.{Whole};
 ghost use Rattle.weak_pairs.specs.Pairs.{HasPairsAt};
 ghost use Rattle.ephemeron_table.specs.Probes.{IsWeakCellAt};
 ghost use Rattle.ephemeron_clear.specs.Marked.{IsUnmarkedAt};
@@ -19,7 +19,8 @@ use write_barrier::Main;
 /// pair below it, going down, and answers how many went. What stands behind such a pair has no other
 /// one among it, so a removal moves few, however long the row of those that go is.
 fn take_down(main: &mut Main, map: u32, last: u32, marked: &CellList) -> u64
-    requires whole { IsQuietWhole main.old }
+    requires may_store { MayStore main.old }
+    requires whole { Whole (heap_of main.old) }
     requires tied { IsTied main.old }
     requires there { IsWeakCellAt (heap_of main.old) map }
     requires bound { marked.now.bound ≡ roots_start main.old.seat.space }
@@ -44,7 +45,8 @@ fn take_down(main: &mut Main, map: u32, last: u32, marked: &CellList) -> u64
 /// A pair of the first places that moves back over the end, to the last ones, was not looked at; so it
 /// goes down the table again, until it finds none.
 fn clear_map(main: &mut Main, map: u32, marked: &CellList) -> u64
-    requires whole { IsQuietWhole main.old }
+    requires may_store { MayStore main.old }
+    requires whole { Whole (heap_of main.old) }
     requires tied { IsTied main.old }
     requires there { IsWeakCellAt (heap_of main.old) map }
     requires bound { marked.now.bound ≡ roots_start main.old.seat.space }
@@ -62,7 +64,8 @@ fn clear_map(main: &mut Main, map: u32, marked: &CellList) -> u64
 /// Takes each pair whose key is not marked out of the tables of these weak maps, and answers how many
 /// went. The time goes by the places of the tables and by the pairs that move.
 pub fn clear(main: &mut Main, maps: &[u32], marked: &CellList) -> u64
-    requires whole { IsQuietWhole main.old }
+    requires may_store { MayStore main.old }
+    requires whole { Whole (heap_of main.old) }
     requires tied { IsTied main.old }
     requires maps { AreMaps (heap_of main.old) maps.now }
     requires once { AllPairs (λ map other. map ≢ other) maps.now }

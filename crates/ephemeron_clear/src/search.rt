@@ -4,7 +4,7 @@ ghost use Rattle.tagged_word.specs.Readings.{reference_in};
 ghost use Rattle.page_space.specs.Extents.{roots_start};
 ghost use Rattle.heap_model.specs.Kinds.{Pair};
 ghost use Rattle.write_barrier.specs.MutatorState.{heap_of};
-ghost use Rattle.object_cells.specs.CellsAt.{IsQuietWhole};
+ghost use Rattle.heap_model.specs.Wholeness.{Whole};
 ghost use Rattle.weak_pairs.specs.Pairs.{HasPairsAt};
 ghost use Rattle.weak_pairs.specs.Tables.{TableIsWithin, key_in};
 ghost use Rattle.ephemeron_table.specs.Probes.{IsWeakCellAt};
@@ -35,7 +35,7 @@ fn has_unmarked_key(main: &Main, table: Table, place: u32, marked: &CellList) ->
 
 /// The last place of a map's table, below one, where the key of a pair is not marked.
 pub(crate) fn last_unmarked(main: &Main, map: u32, below: u32, marked: &CellList) -> Option<u32>
-    requires whole { IsQuietWhole main.now }
+    requires whole { Whole (heap_of main.now) }
     requires there { IsWeakCellAt (heap_of main.now) map }
     requires bound { marked.now.bound ≡ roots_start main.now.seat.space }
     ensures { (pairs : List Pair) → HasPairsAt (heap_of main.now) map pairs

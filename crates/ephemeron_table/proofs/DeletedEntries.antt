@@ -136,6 +136,6 @@ module _ {old new : Mutator} {graph : Graph} {map key : ℕ} {weak : WeakObject}
         shows = entries_show old new graph weak (shown its).cell _ [] number None its.shows its.is.object its.is.reached
             its.is_key.reached (shown its).carries (shown its).shows (λ what is. absurd (none-some what is))
             (takes_none removes.rest (room_for_none old is_known.tied is_known.whole)
-            (removes.young ∙ sym (bumped_none old.young))) refills puts_one
+            (removes.young ∙ sym (bumped_none old.young))) removes.stores refills puts_one
             (removed_remembers is_known (some its) removes);
       }

@@ -41,7 +41,7 @@ deletes_pair {old} {new} {graph} {map} {key} {weak} {number} {place} {table} {be
       there = λ at pair theirs.
           let one = one_pair_of shown is_key same told.value told.is_entry place at told.pair pair its theirs in
           subst (λ n. RemovesPair old new map n before) one
-          (removes_pair known before has has its.filled removes shows.quiet are_own);
+          (removes_pair known before has has its.filled removes are_own);
       none = λ lacks. absurd (lacks place told.pair its);
     }
 

@@ -62,5 +62,5 @@ entry_put {old} {new} {graph} {map} {key} {weak} {number} {what = what} puts ent
           same shown.shows)
           (λ one is. subst (IsNewValue graph) (same_Some what one is)
           (record { is = fits; reached = puts.is_held.reached }))
-          puts.takes puts.refills puts.one puts.remembers;
+          puts.takes puts.stores puts.refills puts.one puts.remembers;
     }

@@ -1,18 +1,20 @@
 -- A table may be made in the place of a weak map's that would be too full.
-use Rattle.std.proofs.Common.{◌≡◌, ◌≢◌, ℕ, ◌+◌, ◌*◌, ◌≤◌, ◌<◌, List, refl, subst, arith}
+use Rattle.std.proofs.Common.{◌≢◌, ℕ, ◌+◌, ◌*◌, ◌≤◌, ◌<◌, List, refl, subst, arith}
 use Rattle.tagged_word.specs.declared.layout.Kind.TheVariants as kind
 use Rattle.tagged_word.specs.Cells.{store_head}
 use Rattle.tagged_word.proofs.Readings.{reference_to}
 use Rattle.page_space.specs.Extents.{marks_start}
 use Rattle.heap_model.specs.Types.{Cell}
-use Rattle.heap_table.specs.Phases.{Quiet}
 use Rattle.heap_model.specs.Heaps.{HasCell}
 use Rattle.heap_model.specs.Slots.{IsPlace}
 use Rattle.heap_model.proofs.CellOutcomes.{object_is_no_filler}
 use Rattle.heap_model.proofs.CellsApart.{IsOfCell, first_of_cell}
 use Rattle.write_barrier.specs.MutatorState.{Mutator, heap_of}
+use Rattle.write_barrier.specs.Storing.{IsMadeYoung}
+use Rattle.object_cells.specs.Contents.{next_at}
 use Rattle.object_cells.proofs.CellsRead.{place_before_marks}
 use Rattle.object_cells.proofs.WordsTold.{cell_fits}
+use Rattle.ephemeron_table.specs.MapClaims.{MayPutMap}
 use Rattle.ephemeron_table.specs.Rehashing.{CanGrow, IsUsed, KeysUsed}
 use Rattle.weak_pairs.specs.declared.table.Table.{Table}
 use Rattle.ephemeron_table.proofs.KnownTables.{KnownMap, each_found, found, other_has, other_long, table_no_filler}
@@ -57,12 +59,14 @@ module _ {old : Mutator} {map : ℕ} {table : Table} (known : KnownMap old map t
       (key.at, reference_to pair.key key.at fits key.refers, place_within key.place, place_used key.place)
 
   -- so it may grow
-  pub can_grow : {number : ℕ} (key count : ℕ) → IsPlace (heap_of old) number key → old.seat.phase ≡ Quiet
+  pub can_grow : {number : ℕ} (key count : ℕ) → IsPlace (heap_of old) number key
+      → IsMadeYoung old (next_at old) → MayPutMap old map
       → count < 256
       → table.capacity < 2 * (count + 1) → CanGrow old map table key count
-  can_grow key count key_place quiet few over = record {
+  can_grow key count key_place young may few over = record {
     tied = known.tied;
-    quiet = quiet;
+    young = young;
+    may = may;
     whole = known.whole;
     within = known.is.within;
     few = few;

@@ -2,7 +2,7 @@
 -- has one of these.
 use Rattle.std.proofs.Common.{◌≡◌, ℕ, ◌+◌, ◌*◌, ◌≤◌, ◌<◌, length, slice_get, sym, ◌∙◌, ap, subst, arith}
 use Rattle.tagged_word.specs.Cells.{store_head}
-use Rattle.page_space.specs.Extents.{Space, marks_start}
+use Rattle.page_space.specs.Extents.{Space, layouts_start, marks_start}
 use Rattle.nursery.specs.Young.{HasRoom}
 use Rattle.write_barrier.specs.Seats.{heap_words}
 use Rattle.heap_model.specs.Needs.{grown_table}
@@ -14,7 +14,11 @@ use Rattle.object_cells.specs.Contents.{next_at}
 use Rattle.object_cells.specs.Made.{PutsWords, with_content}
 use Rattle.object_cells.proofs.FilledTouches.{reserved_touch}
 use Rattle.object_cells.proofs.MadeBoxes.{length-with_content, with_content_stays}
-use Rattle.object_cells.proofs.UnusedWords.{next_before_marks}
+use Rattle.object_cells.proofs.UnusedWords.{marks_fit, next_before_layouts, next_before_marks}
+use Rattle.page_space.specs.Sizes.{AreWithin}
+use Rattle.write_barrier.specs.Storing.{IsMadeYoung, MayHold}
+use Rattle.object_cells.proofs.HoldableWords.{young_may_hold}
+use Rattle.ephemeron_table.specs.MapClaims.{MayPutPairs}
 use Rattle.ephemeron_table.specs.Rehashing.{CanGrow, IsUsed, RehashesPairs, new_table}
 use Rattle.weak_pairs.specs.Pairs.{HoldNothing, IsFilledAt}
 use Rattle.weak_pairs.specs.Tables.{TablesDisjoint, KeysMovable, IsOutsidePairs, made_pair, pairs_of}
@@ -22,6 +26,7 @@ use Rattle.weak_pairs.specs.Probes.{HasFree}
 use Rattle.ephemeron_table.specs.Puttings.{InsertsRehashed, begun_table, table_touch}
 use Rattle.weak_pairs.specs.declared.table.Table.{Table}
 use Rattle.ephemeron_table.proofs.BegunTables.{begun_beside, begun_long, begun_nothing}
+use Rattle.ephemeron_table.proofs.ClaimedMaps.{young_may_put}
 use Rattle.ephemeron_table.proofs.UsedWords.{used_not_next}
 use Rattle.weak_pairs.proofs.CountedPairs.{count_filled}
 use Rattle.weak_pairs.proofs.PairLists.{beside_run, pairs_stay}
@@ -50,6 +55,24 @@ module _ {old : Mutator} {map key count : ℕ} {table : Table} (can : CanGrow ol
   -- it and the box behind it end before the marks
   pub grown_before_marks : at + (store_head + 2 * capacity + box) ≤ marks_start old.seat.space
   grown_before_marks = omega (arith, at_is, next_before_marks old (store_head + 2 * capacity + box) can.tied room)
+
+  -- and before the layout words
+  pub grown_before_layouts : at + (store_head + 2 * capacity + box) ≤ layouts_start old.seat.space
+  grown_before_layouts = omega (arith, at_is, next_before_layouts old (store_head + 2 * capacity + box) can.tied room)
+
+  -- where a cycle is open it is young, and so is what stands behind it
+  pub grown_young : (place : ℕ) → at ≤ place → IsMadeYoung old place
+  grown_young place behind mark = omega (arith, can.young mark, at_is, behind)
+
+  -- so pairs may be put in it
+  pub grown_may : MayPutPairs old made
+  grown_may = young_may_put (omega (arith, grown_before_layouts)) (grown_young at (omega arith))
+
+  -- the map may name it
+  pub grown_named : AreWithin old.seat.space.sizes old.seat.space.variables → MayHold old (reference_word at)
+  grown_named sizes =
+      young_may_hold at (omega (arith, grown_before_marks, marks_fit old.seat.space sizes))
+      (grown_young at (omega arith))
 
   grown_within : at + (store_head + 2 * capacity) ≤ length (heap_words old.seat)
   grown_within = omega (arith, grown_before_marks, counted)

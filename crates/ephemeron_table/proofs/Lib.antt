@@ -49,3 +49,8 @@ pub mod PutShown
 mod EntriesPut
 pub mod DeletedPairs
 pub mod ToldPairs
+pub mod PutReaches
+pub mod ClaimedMaps
+pub mod KnownClaims
+pub mod KeptMaps
+pub mod KeptEntries

@@ -214,6 +214,7 @@ module _ {old : Mutator} {graph : Graph} {map key : ℕ} {weak : WeakObject} {nu
       stands = (shown ends.lacks).stands;
       refills = refills_weak comes_there;
       takes = takes_run comes_there;
+      stores = puts.stores;
       remembers = put_remembers map_known (some map_known (below ends) (put_words puts)) (below ends) puts
           (makes_box comes_there);
       one = one;

@@ -46,6 +46,8 @@ use Rattle.write_barrier.specs.MutatorState.{Mutator, heap_of}
 use Rattle.object_cells.proofs.HeldNeeds.{content_need_is, wide_is}
 use Rattle.ephemeron_table.specs.Rehashing.{CanGrow, new_table_need}
 use Rattle.ephemeron_table.proofs.GrowableMaps.{can_grow}
+use Rattle.ephemeron_table.proofs.KnownClaims.{known_map_may, shown_may_change}
+use Rattle.write_barrier.proofs.StoresOn.{next_is_young}
 use Rattle.ephemeron_table.specs.EntryChanges.{map_room}
 use Rattle.ephemeron_table.proofs.NewKeys.{LacksKey, known, no_pair_refers, not_full_for}
 
@@ -64,7 +66,8 @@ module _ {old : Mutator} {graph : Graph} {map key : ℕ} {weak : WeakObject} {nu
   pub growing_can : CanGrow old map table key (count_at (heap_of old) map)
   growing_can =
       can_grow (known growing.lacks) key (count_at (heap_of old) map) growing.lacks.is_key.place
-      growing.lacks.shows.quiet growing.few growing.over
+      (next_is_young growing.lacks.shows)
+      (known_map_may (known growing.lacks) (shown_may_change growing.lacks.shows)) growing.few growing.over
 
   -- twice the new count is over the pairs
   pub over_test : nat_lt (capacity_at (heap_of old) map) (2 * suc (count_at (heap_of old) map)) ≡ true
@@ -160,6 +163,7 @@ module _ {old : Mutator} {graph : Graph} {map key : ℕ} {weak : WeakObject} {nu
       stands = (known growing.lacks).there.stands;
       refills = refills_weak entry;
       takes = takes_run (need grows) (filled grows).beside puts.room (filled grows).young (own_row (filled grows)).row;
+      stores = puts.stores;
       remembers = grown_remembers grows;
       one = puts_one entry (no_pair_refers growing.lacks);
       need = need grows;

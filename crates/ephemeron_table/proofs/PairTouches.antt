@@ -4,12 +4,11 @@ use Rattle.std.proofs.Common.{length-set}
 use Rattle.page_space.specs.Extents.{marks_start}
 use Rattle.write_barrier.specs.Seats.{heap_words}
 use Rattle.heap_model.specs.Remembered.{Touch}
-use Rattle.write_barrier.specs.MutatorState.{Mutator, with_slot}
+use Rattle.write_barrier.specs.MutatorState.{Mutator, with_weak}
 use Rattle.write_barrier.specs.Recording.{Touches, touched, touched_one, touched_again, touched_then}
-use Rattle.write_barrier.proofs.Recording.{touch_alike, slot_touch}
+use Rattle.write_barrier.proofs.Recording.{then_touch, touch_alike, slot_touch}
 use Rattle.write_barrier.proofs.TouchedRanges.{touched_inside, touched_outside}
 use Rattle.object_cells.proofs.TouchedCells.{touched_cases, then_cases}
-use Rattle.object_cells.proofs.TouchedWords.{then_stored}
 use Rattle.weak_pairs.specs.Tables.{IsOutsidePairs, key_offset, value_offset}
 use Rattle.weak_pairs.specs.declared.table.Table.{Table}
 use Rattle.ephemeron_table.specs.Puttings.{pair_touch}
@@ -46,12 +45,19 @@ two_stored from next to at follows ends = elim (touched_cases Touch.Stored next 
       ]
 ]
 
+-- where a word is put that marking does not visit, its slot is stored, as others are
+weak_touch : (main : Mutator) (at word : ℕ) → length (heap_words main.seat) ≡ marks_start main.seat.space
+    → at < marks_start main.seat.space → Touches main (with_weak main at word) (touched_one Touch.Stored at)
+weak_touch main at word counted below =
+    let touch = slot_touch main at word counted below in
+    record { free = touch.free; bound = touch.bound; records = touch.records }
+
 -- where both words of a pair are put, its slots are stored
 pub pair_stored : {old keyed new : Mutator} (table place key value : ℕ)
     → length (heap_words old.seat) ≡ marks_start old.seat.space
     → table + (value_offset place + 1) ≤ marks_start old.seat.space
-    → keyed ≡ with_slot old (table + key_offset place) key
-    → new ≡ with_slot keyed (table + value_offset place) value → Touches old new (pair_touch table place)
+    → keyed ≡ with_weak old (table + key_offset place) key
+    → new ≡ with_weak keyed (table + value_offset place) value → Touches old new (pair_touch table place)
 pair_stored {old} {keyed} table place key value counted within first next =
     let from : ℕ = table + key_offset place in
     let behind : ℕ = table + value_offset place in
@@ -64,9 +70,10 @@ pair_stored {old} {keyed} table place key value counted within first next =
     ∙ counted ∙ sym marks in
     let one : Touches old keyed (touched_one Touch.Stored from) =
     subst (λ (main : Mutator). Touches old main (touched_one Touch.Stored from)) (sym first)
-    (slot_touch old from key counted (omega (arith, within))) in
+    (weak_touch old from key counted (omega (arith, within))) in
     touch_alike (λ at below. two_stored from behind to at (omega arith) (omega arith))
-    (then_stored behind value one next long (omega (arith, within, marks)))
+    (then_touch one (subst (λ (main : Mutator). Touches keyed main (touched_one Touch.Stored behind)) (sym next)
+    (weak_touch keyed behind value long (omega (arith, within, marks)))))
 
 -- of the pairs of a table alone an address was stored, or it was kept
 abbrev pub KeptOrPair : Table → ℕ → Touch → Type 0

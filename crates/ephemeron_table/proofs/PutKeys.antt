@@ -13,7 +13,7 @@ use Rattle.write_barrier.specs.MutatorState.{Mutator, heap_of}
 use Rattle.write_barrier.specs.declared.room.NoRoom.{NoRoom}
 use Rattle.write_barrier.specs.Recording.{Touches, touched_one, touched_then}
 use Rattle.object_cells.specs.Contents.{next_at, box_in, filling_at, filling_of, filling_need, HoldsSlotWord}
-use Rattle.object_cells.specs.Contents.{LacksRoom, FillsSlot}
+use Rattle.object_cells.specs.Contents.{LacksRoom}
 use Rattle.object_cells.specs.HeldValues.{IsValueHeld}
 use Rattle.object_cells.specs.Made.{content_need, content_touch, slot_touch, store_content}
 use Rattle.object_cells.proofs.NothingUsed.{room_for_none}
@@ -24,6 +24,9 @@ use Rattle.object_cells.proofs.SlotBoxes.{box_of_word, lacks_need}
 use Rattle.ephemeron_table.specs.EntryChanges.{map_room, HasPutEntry, PutsEntry}
 use Rattle.ephemeron_table.specs.declared.stop.TableStop.TheVariants as stop
 use Rattle.ephemeron_table.specs.PairLaws.{WrittenEntriesShow}
+use Rattle.ephemeron_table.specs.Puttings.{FillsValue}
+use Rattle.heap_model.specs.Remembered.{Touch}
+use Rattle.object_cells.specs.declared.content.SlotContent.{SlotContent}
 use Rattle.weak_pairs.specs.Tables.{value_in, value_offset}
 use Rattle.weak_pairs.specs.declared.table.Table.{Table}
 use Rattle.ephemeron_table.proofs.BoxedMaps.{box_replaces}
@@ -87,11 +90,31 @@ replaces_by {old} {place = place} {table} value what has is_value held (FilledBy
     ∙ ap (λ put. filling_need (filling_of (Some box) (next_at old) put)) boxed in
     (0, box_replaces v value has box_of same holds is_value boxed, sym none ∙ entry_need has value what held.shows)
 
+-- where the slot of a value was filled, it is as where others are
+value_filled : {old filled new : Mutator} {at word : ℕ} {holds : SlotContent}
+    → new ≡ record filled { cycle = old.cycle } → FilledBy old filled at word holds → FilledBy old new at word holds
+value_filled {old} {at = at} {word} {holds} same (FilledBy.slot room words needs) =
+    subst (λ (main : Mutator). FilledBy old main at word holds) (sym same) (FilledBy.slot room (record {
+      beside = words.beside;
+      paths = words.paths;
+      young = words.young;
+      heap = words.heap;
+    }) needs)
+value_filled {old} {at = at} {word} {holds} same (FilledBy.of_box box v boxed found put) =
+    FilledBy.of_box box v boxed found (same ∙ ap (λ (main : Mutator). record main { cycle = old.cycle }) put)
+
+-- and touched
+value_touched : {old filled new : Mutator} {touch : ℕ → Touch} → new ≡ record filled { cycle = old.cycle }
+    → Touches old filled touch → Touches old new touch
+value_touched {old} {touch = touch} same touches =
+    subst (λ (main : Mutator). Touches old main touch) (sym same)
+    (record { free = touches.free; bound = touches.bound; records = touches.records })
+
 -- so it does where its word was filled
 replaces_value : {old new : Mutator} {graph : Graph} {map key : ℕ} {weak : WeakObject} {number place : ℕ}
     {table : Table} (value : Held) (what : Value) (has : HasEntryPair old graph map key weak number place table)
     → IsValue (length graph.objects) what → IsValueHeld old graph value what
-    → FillsSlot old new (table.at + value_offset place) (store_content value)
+    → FillsValue old new (table.at + value_offset place) (store_content value)
     → (need : ℕ) × ReplacesValue old new (known has) place key what need
     × (need ≡ wput_need (map_room old map weak) weak what number)
 replaces_value {old} {new} {place = place} {table} value what has is_value held fills =
@@ -99,14 +122,16 @@ replaces_value {old} {new} {place = place} {table} value what has is_value held 
     let below : table.at + value_offset place < marks_start old.seat.space =
     omega (arith, has.is_table.within, has.below) in
     replaces_by value what has is_value held
-    (slot_filled fills has.shows.tied below room (λ w. no_raw w (new_value_held false value what held.shows)))
-    (fills_slot_touch fills has.shows.tied has.shows.shows.whole below (value_before has value))
+    (value_filled fills.same (slot_filled fills.fills has.shows.tied below room
+    (λ w. no_raw w (new_value_held false value what held.shows))))
+    (λ need. value_touched fills.same
+    (fills_slot_touch fills.fills has.shows.tied has.shows.shows.whole below (value_before has value) need))
 
 -- and so its pair was put
 pub puts_value_pair : {old new : Mutator} {graph : Graph} {map key : ℕ} {weak : WeakObject} {number place : ℕ}
     {table : Table} (value : Held) (what : Value) (has : HasEntryPair old graph map key weak number place table)
     → FitsHeld value → IsValueHeld old graph value what
-    → FillsSlot old new (table.at + value_offset place) (store_content value)
+    → FillsValue old new (table.at + value_offset place) (store_content value)
     → PutsShown old new graph map key weak number value what
 puts_value_pair {old} {new} {table = table} value what has fits held fills =
     let is_value = held_is_value value what has.shows fits held.shows in
@@ -128,6 +153,7 @@ puts_value_pair {old} {new} {table = table} value what has fits held fills =
       stands = (known has).there.stands;
       refills = replaces.refills;
       takes = replaces.takes;
+      stores = fills.stores;
       remembers = replaces.remembers;
       one = puts_one has replaces;
       need = by.0;
@@ -140,7 +166,7 @@ puts_value_pair {old} {new} {table = table} value what has fits held fills =
 pub has_put_value : {old new : Mutator} {graph : Graph} {map key : ℕ} {weak : WeakObject} {number place : ℕ}
     {table : Table} (value : Held) (what : Value) (has : HasEntryPair old graph map key weak number place table)
     → FitsHeld value → IsValueHeld old graph value what → WrittenEntriesShow
-    → FillsSlot old new (table.at + value_offset place) (store_content value)
+    → FillsValue old new (table.at + value_offset place) (store_content value)
     → HasPutEntry old new graph map key weak number what
 unfolding puts_value_pair
 has_put_value {old} {map = map} {weak = weak} value what has fits held entries_show fills =

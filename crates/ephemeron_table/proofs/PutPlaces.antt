@@ -5,12 +5,11 @@ use Rattle.heap_model.specs.Types.{Held}
 use Rattle.heap_model.specs.Slots.{reference_word}
 use Rattle.heap_model.specs.Needs.{count_at}
 use Rattle.write_barrier.specs.MutatorState.{Mutator, heap_of}
-use Rattle.object_cells.specs.Contents.{FillsSlot}
 use Rattle.object_cells.specs.Made.{store_content}
 use Rattle.ephemeron_table.specs.Rehashing.{PutsInNewTable}
 use Rattle.ephemeron_table.specs.Probes.{ProbingEnds}
 use Rattle.weak_pairs.specs.Tables.{key_in, value_offset}
-use Rattle.ephemeron_table.specs.Puttings.{PutsInTable}
+use Rattle.ephemeron_table.specs.Puttings.{FillsValue, PutsInTable}
 use Rattle.ephemeron_table.specs.PutWords.{PutsAt}
 use Rattle.ephemeron_table.specs.declared.probing.End.TheVariants as probe_end
 use Rattle.weak_pairs.specs.declared.table.Table.{Table}
@@ -25,7 +24,7 @@ module _ {old new : Mutator} {graph : Graph} {map key : ℕ} {weak : WeakObject}
     {value : Held} where
   -- where the key is there, its pair's value is filled
   pub puts_to_pair : {place : ℕ} → HasEntryPair old graph map key weak number place table
-      → FillsSlot old new (table.at + value_offset place) (store_content value) → PutsAt old new map key value
+      → FillsValue old new (table.at + value_offset place) (store_content value) → PutsAt old new map key value
   puts_to_pair {place} has fills =
       let read : key_in (heap_of old) table.at place ≡ reference_word key =
       ap (λ found. unwrap_or found 0) (key_stands has) in

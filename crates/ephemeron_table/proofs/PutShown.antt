@@ -16,6 +16,7 @@ use Rattle.heap_model.specs.Needs.{count_at}
 use Rattle.heap_model.specs.Rooms.{IsMapFull}
 use Rattle.write_barrier.specs.MutatorState.{Mutator, heap_of, MainShows}
 use Rattle.write_barrier.specs.Recording.{Remembers}
+use Rattle.write_barrier.specs.Storing.{StoresOn}
 use Rattle.write_barrier.specs.Values.{held_of_class}
 use Rattle.write_barrier.specs.ValueLaws.{ShownValuesAreHeld}
 use Rattle.object_cells.specs.Capacities.{ChangesObjectUsing}
@@ -86,6 +87,7 @@ pub record PutsShown (old new : Mutator) (graph : Graph) (map key : ℕ) (weak :
   pub stands : cell.at ≡ map
   pub refills : RefillsWeak (heap_of old) (heap_of new) cell others made
   pub takes : TakesRun old new made
+  pub stores : StoresOn old new
   pub remembers : Remembers old new (cell ∷ others) (cell ∷ others) made
   pub one : PutsOne (heap_of old) (heap_of new) refills.pairs number (Some what)
   pub need : ℕ

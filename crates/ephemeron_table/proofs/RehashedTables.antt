@@ -120,7 +120,8 @@ module _ {old now : Mutator} {from to : Table} {at : ℕ}
         rehashed_pairs within_now have_keys inserts ∙ ap (slice_set far inserts.place) pair in
         record {
           changes = pair_changed to inserts.place (made_pair (reference_word key) value) moves.changes
-              (inserted_below within_now have_keys inserts.first) inserts.words inserts.touches;
+              (inserted_below within_now have_keys inserts.first) inserts.words inserts.touches
+              inserts.stores;
           moved = subst (λ all. AreRehashed before all (at + 1)) (sym pairs)
               (rehashed_puts moves.moved next_read.pair there inserts.place
               (inserted_free within_now have_keys inserts.first) (keyed_filled next_read.pair key refers));

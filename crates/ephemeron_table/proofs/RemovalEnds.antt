@@ -13,10 +13,12 @@ use Rattle.heap_model.specs.Needs.{count_at}
 use Rattle.heap_model.specs.Remembered.{Touch}
 use Rattle.write_barrier.specs.MutatorState.{Mutator, heap_of, with_word}
 use Rattle.write_barrier.specs.Recording.{Touches, touched_one, touched_then}
+use Rattle.write_barrier.specs.Storing.{StoresOn}
 use Rattle.object_cells.specs.Made.{PutsWords}
 use Rattle.object_cells.proofs.RestOfWords.{put_rest}
 use Rattle.object_cells.proofs.TouchedCells.{touched_cases}
 use Rattle.object_cells.proofs.TouchedWords.{then_wiped}
+use Rattle.ephemeron_table.specs.MapClaims.{MayPutMap}
 use Rattle.ephemeron_table.specs.Puttings.{pair_touch}
 use Rattle.ephemeron_table.specs.Removals.{ChangesPairs, ShiftsBack, RemovesAt}
 use Rattle.weak_pairs.specs.Removals.{IsRemoved, StaysBelow}
@@ -24,6 +26,7 @@ use Rattle.weak_pairs.specs.Tables.{IsOutsidePairs, pairs_of, numbers, key_numbe
 use Rattle.weak_pairs.specs.Pairs.{IsFilledAt}
 use Rattle.weak_pairs.specs.declared.table.Table.{Table}
 use Rattle.ephemeron_table.proofs.ChangedPairs.{pair_changed}
+use Rattle.ephemeron_table.proofs.ClaimedMaps.{count_stores_on}
 use Rattle.ephemeron_table.proofs.PairTouches.{KeptOrPair, of_both}
 use Rattle.weak_pairs.proofs.PairLists.{pairs_read}
 use Rattle.weak_pairs.proofs.PairsPut.{pairs_now, pairs_beside}
@@ -61,12 +64,14 @@ module _ {old shifted put new : Mutator} (map at hole count : ℕ) (table : Tabl
     (shifts : ShiftsBack old shifted table at hole)
     (puts : PutsWords shifted put (with_pair (heap_words shifted.seat) table.at hole free_pair))
     (still : put.cycle ≡ shifted.cycle) (stored : Touches shifted put (pair_touch table.at hole))
+    (goes : StoresOn shifted put)
     (reads : slice_get (heap_words put.seat) (map + count_offset) ≡ Some count)
     (is : new ≡ with_word put (map + count_offset) (count - 1))
-    (heap : heap_words new.seat ≡ slice_set (heap_words put.seat) (map + count_offset) (count - 1)) where
+    (heap : heap_words new.seat ≡ slice_set (heap_words put.seat) (map + count_offset) (count - 1))
+    (counts : MayPutMap old map) where
   -- words of pairs alone changed before the count
   changes : ChangesPairs old put table
-  changes = pair_changed table hole free_pair shifts.changes shifts.within puts stored
+  changes = pair_changed table hole free_pair shifts.changes shifts.within puts stored goes
 
   within_closed : table.at + (store_head + 2 * table.capacity) ≤ length (heap_words shifted.seat)
   within_closed = omega (arith, within, shifts.changes.long)
@@ -130,4 +135,5 @@ module _ {old shifted put new : Mutator} (map at hole count : ℕ) (table : Tabl
         (touched_one Touch.Wiped (map + count_offset)) a
         (pairs_or_count table (map + count_offset) a (changes.touch a) (changes.touched a))
         (count_alone table (map + count_offset) a);
+    stores = count_stores_on (count - 1) counts changes.stores is;
   }

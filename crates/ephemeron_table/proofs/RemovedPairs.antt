@@ -6,7 +6,6 @@ use Rattle.std.proofs.lemmas.Option.{slice_get_within}
 use Rattle.page_space.specs.Sizes.{AreWithin}
 use Rattle.nursery.specs.Young.{Young}
 use Rattle.write_barrier.specs.Seats.{heap_words}
-use Rattle.heap_table.specs.Phases.{Quiet}
 use Rattle.heap_model.specs.Types.{Cell}
 use Rattle.heap_model.specs.Heaps.{Heap, words_of_cell}
 use Rattle.heap_model.specs.Changes.{CellsChange, IsOwnChange}
@@ -16,7 +15,6 @@ use Rattle.tagged_word.specs.Cells.{store_head, store_slot}
 use Rattle.heap_model.specs.Needs.{capacity_at, count_at, word_at}
 use Rattle.write_barrier.specs.MutatorState.{Mutator, heap_of, IsTied}
 use Rattle.write_barrier.proofs.Recording.{remembers_heap}
-use Rattle.object_cells.specs.CellsAt.{IsQuietWhole}
 use Rattle.object_cells.specs.Capacities.{ChangesObjectUsing}
 use Rattle.object_cells.specs.Contents.{next_at}
 use Rattle.object_cells.proofs.MadeBoxes.{row_of_none}
@@ -42,12 +40,12 @@ use Rattle.ephemeron_table.proofs.MapTouches.{removed_remembers}
 use Rattle.ephemeron_table.proofs.MapsWithout.{refills_weak, slot_stays, map_has, are_after}
 
 -- the map whose pair is to be removed is known
-pub known_map : {old : Mutator} {map : ℕ} {pairs : List Pair} (table : Table) → IsQuietWhole old → IsTied old
+pub known_map : {old : Mutator} {map : ℕ} {pairs : List Pair} (table : Table) → Whole (heap_of old) → IsTied old
     → AreWithin old.seat.space.sizes old.seat.space.variables → HasPairsAt (heap_of old) map pairs
     → IsTableAt (heap_of old) map table → KnownMap old map table
 known_map table whole tied sizes has is = record {
   tied = tied;
-  whole = whole.whole;
+  whole = whole;
   sizes = sizes;
   there = record {
     cell = has.cell;
@@ -117,9 +115,9 @@ still_tied tied whole takes change own = record {
 pub removes_pair : {old new : Mutator} {map place : ℕ} {table : Table} {pairs : List Pair} {pair : Pair}
     → (known : KnownMap old map table) → (before : List Pair) → HasPairsAt (heap_of old) map before
     → HasPairsAt (heap_of old) map pairs → IsFilledAt pairs place pair
-    → RemovesAt old new map table place → old.seat.phase ≡ Quiet → WrittenPairsAreOwn
+    → RemovesAt old new map table place → WrittenPairsAreOwn
     → RemovesPair old new map place before
-removes_pair {old} {new} {map} {place} {table} {pairs} {pair} known before has there filled removes quiet are_own =
+removes_pair {old} {new} {map} {place} {table} {pairs} {pair} known before has there filled removes are_own =
     let some : 0 < table.capacity = omega (arith, place_below table known.is there filled) in
     let is = filled_place known there filled in
     let refills = refills_weak known some removes pair is in
@@ -136,7 +134,7 @@ removes_pair {old} {new} {map} {place} {table} {pairs} {pair} known before has t
       slot = slot_stays known some removes pair is;
     } in
     record {
-      whole = record { quiet = removes.rest.phase ∙ quiet; whole = law.3 };
+      whole = law.3;
       tied = still_tied known.tied known.whole (takes_none removes.rest (room_for_none old known.tied known.whole)
           (removes.young ∙ sym (bumped_none old.young))) law.1 law.2;
       uses = uses_none removes.rest removes.young removes.touches.free;

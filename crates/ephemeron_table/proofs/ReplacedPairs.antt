@@ -40,7 +40,7 @@ module _ {old new : Heap} {cell : Cell} {others made : List Cell} (refills : Ref
   weak_step = own_step weak_owns refills.whole refills.writes
 
   -- the map was sound
-  was_sound : IsWeakCell old (words_of_cell old cell)
+  pub was_sound : IsWeakCell old (words_of_cell old cell)
   was_sound =
       subst (λ k. IsSoundOf k old cell (words_of_cell old cell)) refills.writes.of_kind
       (refills.whole.sound cell (words_of_cell old cell) refills.writes.stood)
@@ -51,7 +51,7 @@ module _ {old new : Heap} {cell : Cell} {others made : List Cell} (refills : Ref
       one_pairs refills.pairs.were (record { store = was_sound.store; slot = was_sound.slot; table = was_sound.table })
 
   -- a pair that held something held an entry
-  before_found : (at : ℕ) (pair : Pair) → IsFilledAt refills.pairs.before at pair
+  pub before_found : (at : ℕ) (pair : Pair) → IsFilledAt refills.pairs.before at pair
       → IsFoundPair old was_sound.pairs at pair
   before_found at pair stood =
       elim (was_sound.each at pair (ap (λ all. slice_get all at) (sym before_are) ∙ stood.stands)) [
@@ -124,7 +124,7 @@ module _ {old new : Heap} {cell : Cell} {others made : List Cell} (refills : Ref
       subst (IsSlotWord new) is (pair_slots at pair there).1
 
   -- the table that the slot refers to is the one of the pairs
-  one_table : refills.pairs.are.store ≡ refills.pairs.refills.store
+  pub one_table : refills.pairs.are.store ≡ refills.pairs.refills.store
   one_table =
       same_Some refills.pairs.are.store refills.pairs.refills.store
       (sym refills.pairs.are.slot ∙ refills.pairs.refills.has_store)

@@ -20,12 +20,16 @@ use Rattle.heap_model.proofs.SlotWords.{All-slice_get}
 use Rattle.write_barrier.specs.MutatorState.{heap_of}
 use Rattle.object_cells.specs.HeldValues.{IsReachedValue}
 use Rattle.object_cells.specs.Refills.{RestsAgain}
-use Rattle.object_cells.proofs.ReplacedObjects.{HasReachedLinks, ReplacesCells, rests_again, replaced_shows}
+use Rattle.object_cells.proofs.ReplacedObjects.{HasReachedLinks, ReplacesCells, replaced, rests_again, replaced_shows}
+use Rattle.object_cells.proofs.ReplacedObjects.{stays_reached}
+use Rattle.object_cells.proofs.OwnCellsKeep.{own_cells_keep}
 use Rattle.object_cells.proofs.OwnSteps.{went_object, of_kind_is_no_object}
 use Rattle.object_cells.proofs.OwnerWrites.{weak_owns, written_own_keeps_cells}
 use Rattle.weak_pairs.specs.Entries.{entries_with}
 use Rattle.ephemeron_table.specs.PairLaws.{IsNewValue, WrittenEntriesShow}
 use Rattle.weak_pairs.proofs.EntryLists.{EntryComes, entry_comes}
+use Rattle.ephemeron_table.proofs.KeptEntries.{entry_from}
+use Rattle.ephemeron_table.proofs.KeptMaps.{map_keeps_cells, map_slot_from}
 use Rattle.ephemeron_table.proofs.PairNames.{pairs_own}
 use Rattle.ephemeron_table.proofs.ShownEntries.{Reweaving, weak_shows}
 use Rattle.ephemeron_table.proofs.ReplacedPairs.{weak_step}
@@ -87,7 +91,7 @@ links_reached graph weak number value is there marked is_new one link =
 -- so the heap shows the graph in which the map has these entries
 pub written_entries_show : WrittenEntriesShow
 written_entries_show old new graph weak cell others made number value shows there marked key_marked carries shown is_new
-    takes refills puts remembers =
+    takes stores refills puts remembers =
     let before : Heap = heap_of old in
     let now : Heap = heap_of new in
     let entries : List Entry = entries_with weak.entries number value in
@@ -117,3 +121,10 @@ written_entries_show old new graph weak cell others made number value shows ther
     (reweaves graph (Ref weak.number) weak entries shows.is_graph at held)
     (refills.paths ∙ shows.shows.paths)
     (links_reached graph weak number value shows.is_graph there marked is_new) rest replaces
+    (λ mark. own_cells_keep (replaced graph weak.number (Weak entries) graph.paths) weak_owns shows mark refills.writes
+    refills.pairs.refills takes
+    (subst (λ n. IsTrue (is_marked (reach (replaced graph weak.number (Weak entries) graph.paths)) n)) (sym carries)
+    (stays_reached graph weak.number (Weak entries) graph.paths marked))
+    (map_keeps_cells shows takes stores refills mark)
+    (λ from at slot among owned. map_slot_from refills from at slot among)
+    (entry_from old new graph weak number value shows there marked key_marked carries is_new refills puts mark))

@@ -9,3 +9,4 @@ pub mod Removals
 pub mod Puttings
 pub mod Rehashing
 pub mod PutWords
+pub mod MapClaims

@@ -15,6 +15,7 @@ use Rattle.heap_model.specs.Showing.{ShowsEntry, ShowsWeak}
 use Rattle.heap_model.specs.Changes.{CellsChange, IsOwnChange}
 use Rattle.write_barrier.specs.MutatorState.{Mutator, heap_of, MainShows}
 use Rattle.write_barrier.specs.Recording.{Remembers}
+use Rattle.write_barrier.specs.Storing.{StoresOn}
 use Rattle.object_cells.specs.HeldValues.{IsReachedValue}
 use Rattle.object_cells.specs.Uses.{TakesRun}
 use Rattle.weak_pairs.specs.Pairs.{IsFilledAt}
@@ -63,7 +64,7 @@ WrittenEntriesShow =
     → slice_get graph.objects weak.number ≡ Some (Weak weak.entries) → IsTrue (is_marked (reach graph) weak.number)
     → IsTrue (is_marked (reach graph) number) → cell.header.object ≡ weak.number
     → ShowsWeak (heap_of old) (reach graph) cell (words_of_cell (heap_of old) cell) weak.entries
-    → ((what : Value) → value ≡ Some what → IsNewValue graph what) → TakesRun old new made
+    → ((what : Value) → value ≡ Some what → IsNewValue graph what) → TakesRun old new made → StoresOn old new
     → (refills : RefillsWeak (heap_of old) (heap_of new) cell others made)
     → PutsOne (heap_of old) (heap_of new) refills.pairs number value
     → Remembers old new (cell ∷ others) (cell ∷ others) made

@@ -9,11 +9,11 @@ use Rattle.heap_model.specs.Slots.{RefersToPlace, reference_word}
 use Rattle.heap_model.specs.Kinds.{Pair, count_offset, free_pair}
 use Rattle.heap_model.specs.Needs.{capacity_at, count_at, word_at}
 use Rattle.heap_model.specs.Remembered.{AreRemembered}
+use Rattle.heap_model.specs.Wholeness.{Whole}
 use Rattle.heap_model.specs.Showing.{Shows}
 use Rattle.page_space.specs.Extents.{eden_start}
 use Rattle.write_barrier.specs.Seats.{heap_words}
 use Rattle.write_barrier.specs.MutatorState.{Mutator, heap_of, IsTied}
-use Rattle.object_cells.specs.CellsAt.{IsQuietWhole}
 use Rattle.object_cells.specs.Uses.{UsesMore}
 use Rattle.object_cells.specs.Capacities.{ChangesObjectUsing}
 use Rattle.weak_pairs.specs.Pairs.{AreWithout, HasPairsAt, IsFilledAt}
@@ -48,7 +48,7 @@ StaysShown old new pair =
 -- so, and so does what is known of a cycle; each cell stands where it stood, and what is recorded stays right. Each
 -- graph in which the pair's key cannot be reached is shown as before.
 pub record RemovesPair (old new : Mutator) (map place : ℕ) (before : List Pair) : Type 0 where
-  pub whole : IsQuietWhole new
+  pub whole : Whole (heap_of new)
   pub tied : IsTied new
   pub paths : new.paths ≡ old.paths
   pub cycle : new.cycle ≡ old.cycle

@@ -5,12 +5,11 @@ use Rattle.heap_model.specs.Heaps.{Heap}
 use Rattle.heap_model.specs.Slots.{reference_word}
 use Rattle.heap_model.specs.Needs.{count_at}
 use Rattle.write_barrier.specs.MutatorState.{Mutator, heap_of}
-use Rattle.object_cells.specs.Contents.{FillsSlot}
 use Rattle.object_cells.specs.Made.{store_content}
 use Rattle.ephemeron_table.specs.Rehashing.{CanGrow, PutsInNewTable}
 use Rattle.ephemeron_table.specs.Probes.{ProbingEnds, IsTableAt}
 use Rattle.weak_pairs.specs.Tables.{key_in, number_at, value_offset}
-use Rattle.ephemeron_table.specs.Puttings.{PutsInTable}
+use Rattle.ephemeron_table.specs.Puttings.{FillsValue, PutsInTable}
 use Rattle.ephemeron_table.specs.declared.probing.End.TheVariants as probe_end
 use Rattle.weak_pairs.specs.declared.table.Table.{Table}
 
@@ -25,7 +24,7 @@ LacksKeyWord heap table key = (place : ℕ) → place < table.capacity → key_i
 pub data PutsAt (old new : Mutator) (map key : ℕ) (value : Held) : Type 0 where
   to_pair : (table : Table) (place : ℕ) → IsTableAt (heap_of old) map table → place < table.capacity
       → key_in (heap_of old) table.at place ≡ reference_word key
-      → FillsSlot old new (table.at + value_offset place) (store_content value) → PutsAt old new map key value
+      → FillsValue old new (table.at + value_offset place) (store_content value) → PutsAt old new map key value
   to_table : (table : Table) (place : ℕ) → IsTableAt (heap_of old) map table
       → ProbingEnds (heap_of old) table (number_at (heap_of old) key) (reference_word key) (probe_end.Free place)
       → 2 * (count_at (heap_of old) map + 1) ≤ table.capacity

@@ -8,7 +8,6 @@ use Rattle.object_graph.specs.Meaning.{weak_most}
 use Rattle.heap_model.specs.Types.{Held}
 use Rattle.linear_probing.specs.Tables.{FindsAll}
 use Rattle.write_barrier.specs.Seats.{heap_words}
-use Rattle.heap_table.specs.Phases.{Quiet}
 use Rattle.heap_model.specs.Slots.{reference_word}
 use Rattle.heap_model.specs.Kinds.{Pair, count_offset}
 use Rattle.heap_model.specs.Needs.{grown_table}
@@ -16,11 +15,13 @@ use Rattle.heap_model.specs.Remembered.{Touch}
 use Rattle.heap_model.specs.Wholeness.{Whole}
 use Rattle.write_barrier.specs.MutatorState.{Mutator, heap_of, IsTied, reserved}
 use Rattle.write_barrier.specs.Recording.{Touches, touched_one, touched_then}
+use Rattle.write_barrier.specs.Storing.{IsMadeYoung, StoresOn}
 use Rattle.object_cells.specs.Contents.{next_at}
 use Rattle.object_cells.specs.Made.{IsUsedRange, PutsWords, with_content, content_need, content_touch, content_word}
 use Rattle.object_cells.specs.Made.{store_content}
 use Rattle.weak_pairs.specs.Pairs.{IsFilledAt}
 use Rattle.weak_pairs.specs.Tables.{TableIsWithin, numbers, pairs_of}
+use Rattle.ephemeron_table.specs.MapClaims.{MayPutMap}
 use Rattle.ephemeron_table.specs.Puttings.{InsertsRehashed, begun_table, table_touch}
 use Rattle.ephemeron_table.specs.Removals.{ChangesPairs}
 use Rattle.weak_pairs.specs.declared.table.Table.{Table}
@@ -49,10 +50,11 @@ KeysUsed main table =
 
 -- A table may be made in the place of a map's, for the pair of this key: with it more than half of the pairs would be
 -- filled, and no more than the map may have entries. The heap is whole, so what is made has no word of the map's table,
--- nor one of a key.
+-- nor one of a key. Where a cycle is open, what is made is young.
 pub record CanGrow (main : Mutator) (map : ℕ) (table : Table) (key count : ℕ) : Type 0 where
   pub tied : IsTied main
-  pub quiet : main.seat.phase ≡ Quiet
+  pub young : IsMadeYoung main (next_at main)
+  pub may : MayPutMap main map
   pub whole : Whole (heap_of main)
   pub within : TableIsWithin (heap_of main) table
   pub few : count < weak_most
@@ -97,3 +99,4 @@ pub record PutsInNewTable (old new : Mutator) (map : ℕ) (table : Table) (key c
       count)
   pub touches : let named = touched_one Touch.Stored (map + store_slot) in
       Touches inserted new (touched_then named (touched_one Touch.Wiped (map + count_offset)))
+  pub stores : StoresOn old new

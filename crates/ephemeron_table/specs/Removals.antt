@@ -7,6 +7,7 @@ use Rattle.heap_model.specs.Needs.{count_at}
 use Rattle.heap_model.specs.Remembered.{Touch}
 use Rattle.write_barrier.specs.MutatorState.{Mutator, heap_of}
 use Rattle.write_barrier.specs.Recording.{Touches}
+use Rattle.write_barrier.specs.Storing.{StoresOn}
 use Rattle.weak_pairs.specs.Pairs.{IsFilledAt}
 use Rattle.weak_pairs.specs.declared.table.Table.{Table}
 use Rattle.weak_pairs.specs.Tables.{IsOutsidePairs, numbers, pairs_of}
@@ -25,6 +26,7 @@ pub record ChangesPairs (old new : Mutator) (table : Table) : Type 0 where
   pub touches : Touches old new touch
   pub touched : (at : ℕ) → (touch at ≡ Touch.Kept)
       ⊎ ((touch at ≡ Touch.Stored) × (IsOutsidePairs table at → ⊥))
+  pub stores : StoresOn old new
 
 -- Once the hole is free, the pair at the place is removed, and probing finds all where it did before.
 pub record ShiftsBack (old new : Mutator) (table : Table) (place hole : ℕ) : Type 0 where
@@ -61,3 +63,4 @@ pub record RemovesAt (old new : Mutator) (map : ℕ) (table : Table) (place : �
   pub touched : (at : ℕ) → (touch at ≡ Touch.Kept)
       ⊎ (((touch at ≡ Touch.Stored) × (IsOutsidePairs table at → ⊥))
       ⊎ ((touch at ≡ Touch.Wiped) × (at ≡ map + count_offset)))
+  pub stores : StoresOn old new

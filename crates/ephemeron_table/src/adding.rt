@@ -8,8 +8,11 @@ ghost use Rattle.object_graph.specs.Meaning.{weak_most};
 ghost use Rattle.heap_model.specs.Kinds.{count_offset};
 ghost use Rattle.heap_model.specs.Needs.{count_at};
 ghost use Rattle.heap_model.specs.Slots.{hole_word, reference_word};
-ghost use Rattle.write_barrier.specs.MutatorState.{MayStore, heap_of, IsTied, MainShows};
+ghost use Rattle.write_barrier.specs.MutatorState.{heap_of, IsTied, MainShows};
+ghost use Rattle.write_barrier.specs.Storing.{IsMadeYoung};
+ghost use Rattle.object_cells.specs.Contents.{next_at};
 ghost use Rattle.object_cells.specs.HeldValues.{IsValueHeld};
+ghost use Rattle.ephemeron_table.specs.MapClaims.{MayPutMap, MayPutPairs};
 ghost use Rattle.ephemeron_table.specs.WeakObjects.{IsKeyAt, IsShownPutting, IsWeakAt};
 ghost use Rattle.weak_pairs.specs.Probes.{ProbesTo};
 ghost use Rattle.ephemeron_table.specs.Probes.{IsTableAt};
@@ -38,7 +41,9 @@ pub(crate) fn put_free(
     key: u32,
     value: Held,
 ) -> Result<(), TableStop>
-    requires may_store { MayStore main.old }
+    requires may { MayPutPairs main.old table }
+    requires counts { MayPutMap main.old map }
+    requires young { IsMadeYoung main.old (next_at main.old) }
     requires tied { IsTied main.old }
     requires within { TableIsWithin (heap_of main.old) table }
     requires place { place < table.capacity }

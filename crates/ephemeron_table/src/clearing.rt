@@ -1,8 +1,8 @@
 //! The call `remove_at`.
 ghost use Rattle.std.specs.Prelude.{List};
 ghost use Rattle.heap_model.specs.Kinds.{Pair};
-ghost use Rattle.write_barrier.specs.MutatorState.{heap_of, IsTied};
-ghost use Rattle.object_cells.specs.CellsAt.{IsQuietWhole};
+ghost use Rattle.write_barrier.specs.MutatorState.{MayStore, heap_of, IsTied};
+ghost use Rattle.heap_model.specs.Wholeness.{Whole};
 ghost use Rattle.weak_pairs.specs.Pairs.{HasPairsAt, IsFilledAt};
 ghost use Rattle.ephemeron_table.specs.Pairs.{RemovesPair};
 
@@ -15,7 +15,8 @@ use write_barrier::Main;
 /// stands below the place stood below it before, so one pass upwards that looks again where it took
 /// one out clears a table.
 pub fn remove_at(main: &mut Main, map: u32, place: u32)
-    requires whole { IsQuietWhole main.old }
+    requires may_store { MayStore main.old }
+    requires whole { Whole (heap_of main.old) }
     requires tied { IsTied main.old }
     requires there { (pairs : List Pair) × (pair : Pair)
         × HasPairsAt (heap_of main.old) map pairs × IsFilledAt pairs place pair }

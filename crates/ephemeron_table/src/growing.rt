@@ -1,16 +1,18 @@
 //! Tables that are made anew, and how pairs come to them.
 ghost use Rattle.std.specs.Prelude.{◌≡◌, ◌+◌, ◌*◌, ◌<◌, ◌≤◌, OnOk, IfErr};
 ghost use Rattle.tagged_word.specs.Cells.{store_head, cell_words_most};
-ghost use Rattle.page_space.specs.Extents.{marks_start};
+ghost use Rattle.page_space.specs.Extents.{layouts_start, marks_start};
 ghost use Rattle.write_barrier.specs.Seats.{heap_words};
 ghost use Rattle.heap_model.specs.Needs as needs;
-ghost use Rattle.write_barrier.specs.MutatorState.{MayStore, heap_of};
+ghost use Rattle.write_barrier.specs.MutatorState.{heap_of};
 ghost use Rattle.write_barrier.specs.Recording.{Touches};
+ghost use Rattle.write_barrier.specs.Storing.{IsMadeYoung, StoresOn};
 ghost use Rattle.object_cells.specs.Made.{PutsWords, RefusesRoom};
 ghost use Rattle.weak_pairs.specs.Pairs.{HoldNothing};
 ghost use Rattle.weak_pairs.specs.Tables.{TablesDisjoint, KeysMovable, TableIsWithin, pairs_of};
 ghost use Rattle.ephemeron_table.specs.Rehashing.{RehashesPairs, CanGrow, PutsInNewTable, new_table_need};
 ghost use Rattle.weak_pairs.specs.Probes.{FreeBy, HasFree};
+ghost use Rattle.ephemeron_table.specs.MapClaims.{MayPutPairs};
 ghost use Rattle.ephemeron_table.specs.Puttings.{InsertsRehashed, begun_table, table_touch};
 
 use crate::probing::{key_of, place};
@@ -35,11 +37,13 @@ pub(crate) fn grown(capacity: u32) -> u32
 
 /// Makes the words at an address a table of pairs that hold nothing, which is no map's.
 pub(crate) fn begin_table(main: &mut Main, table: Table)
-    requires may_store { MayStore main.old }
-    requires within { TableIsWithin (heap_of main.old) table }
+    requires young { IsMadeYoung main.old table.at }
+    requires within { let to = table.at + (store_head + 2 * table.capacity) in
+        to ≤ layouts_start main.old.seat.space }
     ensures puts { let words = heap_words main.old.seat in
         PutsWords main.old main.new (begun_table words table) }
     ensures touches { Touches main.old main.new (table_touch table) }
+    ensures stores { StoresOn main.old main.new }
 {
     main.addresses_fit();
     let header = Header {
@@ -67,7 +71,7 @@ fn free_place(main: &Main, table: Table, number: u32) -> Option<u32>
 
 /// Puts a pair at the first free place on the way of its key's number.
 pub(crate) fn insert_rehashed(main: &mut Main, table: Table, key: u32, value: Word)
-    requires may_store { MayStore main.old }
+    requires may { MayPutPairs main.old table }
     requires within { TableIsWithin (heap_of main.old) table }
     requires key { key < marks_start main.old.seat.space }
     requires free { HasFree (heap_of main.old) table }
@@ -82,7 +86,7 @@ pub(crate) fn insert_rehashed(main: &mut Main, table: Table, key: u32, value: Wo
 
 /// Puts the pairs of a table into another one, which has more places.
 fn rehash(main: &mut Main, from: Table, to: Table)
-    requires may_store { MayStore main.old }
+    requires may { MayPutPairs main.old to }
     requires from { TableIsWithin (heap_of main.old) from }
     requires to { TableIsWithin (heap_of main.old) to }
     requires more { from.capacity < to.capacity }

@@ -5,11 +5,13 @@ ghost use Rattle.linear_probing.specs.Tables.{steps_to};
 ghost use Rattle.page_space.specs.Extents.{marks_start};
 ghost use Rattle.heap_model.specs.Kinds.{count_offset};
 ghost use Rattle.heap_model.specs.Needs.{count_at};
-ghost use Rattle.write_barrier.specs.MutatorState.{MayStore, heap_of};
+ghost use Rattle.write_barrier.specs.MutatorState.{heap_of};
 ghost use Rattle.write_barrier.specs.Recording.{Touches};
+ghost use Rattle.write_barrier.specs.Storing.{StoresOn};
 ghost use Rattle.object_cells.specs.Made.{PutsWords};
 ghost use Rattle.weak_pairs.specs.Tables.{TableIsWithin, key_in, value_in, KeysOutsidePairs, IsOutsidePairs, made_pair};
 ghost use Rattle.weak_pairs.specs.Tables.{with_pair};
+ghost use Rattle.ephemeron_table.specs.MapClaims.{MayPutMap, MayPutPairs};
 ghost use Rattle.ephemeron_table.specs.Puttings.{pair_touch};
 ghost use Rattle.ephemeron_table.specs.Removals.{ShiftsBack, RemovesAt};
 
@@ -32,13 +34,14 @@ fn steps(capacity: u32, number: u32, at: u32) -> u32
 
 /// Puts both words of a pair.
 pub(crate) fn put_pair(main: &mut Main, table: Table, at: u32, key: Word, value: Word)
-    requires may_store { MayStore main.old }
+    requires may { MayPutPairs main.old table }
     requires within { TableIsWithin (heap_of main.old) table }
     requires place { at < table.capacity }
     ensures puts { let words = heap_words main.old.seat in
         PutsWords main.old main.new (with_pair words table.at at (made_pair key.0 value.0)) }
     ensures cycle { main.new.cycle ≡ main.old.cycle }
     ensures touches { Touches main.old main.new (pair_touch table.at at) }
+    ensures stores { StoresOn main.old main.new }
 {
     main.addresses_fit();
     main.store_weak(table.at, STORE_HEAD + 2 * at, key);
@@ -47,7 +50,7 @@ pub(crate) fn put_pair(main: &mut Main, table: Table, at: u32, key: Word, value:
 
 /// Copies a pair to another place.
 fn copy_pair(main: &mut Main, table: Table, from: u32, to: u32)
-    requires may_store { MayStore main.old }
+    requires may { MayPutPairs main.old table }
     requires within { TableIsWithin (heap_of main.old) table }
     requires from { from < table.capacity }
     requires to { to < table.capacity }
@@ -57,6 +60,7 @@ fn copy_pair(main: &mut Main, table: Table, from: u32, to: u32)
         PutsWords main.old main.new (with_pair words table.at to pair) }
     ensures cycle { main.new.cycle ≡ main.old.cycle }
     ensures touches { Touches main.old main.new (pair_touch table.at to) }
+    ensures stores { StoresOn main.old main.new }
 {
     main.addresses_fit();
     let key = key_of(main, table, from);
@@ -67,7 +71,7 @@ fn copy_pair(main: &mut Main, table: Table, from: u32, to: u32)
 /// Moves back those pairs behind a place that probing would no longer find if it were free. What is
 /// to be free then is the place that is told.
 pub(crate) fn backward_shift(main: &mut Main, table: Table, at: u32) -> u32
-    requires may_store { MayStore main.old }
+    requires may { MayPutPairs main.old table }
     requires within { TableIsWithin (heap_of main.old) table }
     requires place { at < table.capacity }
     requires keys { KeysOutsidePairs (heap_of main.old) table }
@@ -95,11 +99,12 @@ pub(crate) fn backward_shift(main: &mut Main, table: Table, at: u32) -> u32
 
 /// Takes the pair at a place out of the table of a weak map.
 pub(crate) fn remove_pair(main: &mut Main, map: u32, table: Table, at: u32)
-    requires may_store { MayStore main.old }
+    requires may { MayPutPairs main.old table }
     requires within { TableIsWithin (heap_of main.old) table }
     requires place { at < table.capacity }
     requires keys { KeysOutsidePairs (heap_of main.old) table }
     requires map { map + count_offset < marks_start main.old.seat.space }
+    requires counts { MayPutMap main.old map }
     requires beside { IsOutsidePairs table (map + count_offset) }
     requires some { 0 < count_at (heap_of main.old) map }
     ensures { RemovesAt main.old main.new map table at }

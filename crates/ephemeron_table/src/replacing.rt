@@ -1,16 +1,17 @@
 //! How the value of an entry that is there becomes another.
-ghost use Rattle.std.specs.Prelude.{◌≡◌, ℕ, ◌<◌};
+ghost use Rattle.std.specs.Prelude.{◌≡◌, ℕ, ◌+◌, ◌<◌};
 ghost use Rattle.object_graph.specs.declared.value.Value.{Value as GraphValue};
 ghost use Rattle.object_graph.specs.Graphs.{Graph, WeakObject};
 ghost use Rattle.heap_model.specs.Slots.{reference_word};
 ghost use Rattle.write_barrier.specs.MutatorState.{heap_of, IsTied, MainShows};
-ghost use Rattle.object_cells.specs.CellsAt.{IsQuietWhole};
-ghost use Rattle.object_cells.specs.Contents.{HoldsSlotWord};
+ghost use Rattle.heap_model.specs.Wholeness.{Whole};
+ghost use Rattle.object_cells.specs.Contents.{HoldsSlotWord, filling_at};
 ghost use Rattle.object_cells.specs.HeldValues.{IsValueHeld};
 ghost use Rattle.object_cells.specs.Made.{store_content};
 ghost use Rattle.ephemeron_table.specs.WeakObjects.{IsKeyAt, IsWeakAt};
+ghost use Rattle.ephemeron_table.specs.MapClaims.{MayPutBox, MayPutPairs};
 ghost use Rattle.ephemeron_table.specs.Probes.{IsTableAt};
-ghost use Rattle.weak_pairs.specs.Tables.{TableIsWithin, key_in, value_in};
+ghost use Rattle.weak_pairs.specs.Tables.{TableIsWithin, key_in, value_in, value_offset};
 ghost use Rattle.ephemeron_table.specs.PairChanges.{PutsBoth};
 
 use crate::laws::laws_of_entries;
@@ -30,7 +31,10 @@ pub(crate) fn put_there(
     place: u32,
     value: Held,
 ) -> Result<(), TableStop>
-    requires whole { IsQuietWhole main.old }
+    requires may { MayPutPairs main.old table }
+    requires boxed { let slot = table.at + value_offset place in
+        MayPutBox main.old (filling_at main.old slot (store_content value)) }
+    requires whole { Whole (heap_of main.old) }
     requires tied { IsTied main.old }
     requires within { TableIsWithin (heap_of main.old) table }
     requires place { place < table.capacity }

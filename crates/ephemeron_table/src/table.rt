@@ -2,7 +2,7 @@
 ghost use Rattle.std.specs.Prelude.{◌≡◌, ◌<◌};
 ghost use Rattle.page_space.specs.Extents.{marks_start};
 ghost use Rattle.write_barrier.specs.MutatorState.{heap_of};
-ghost use Rattle.object_cells.specs.CellsAt.{IsQuietWhole};
+ghost use Rattle.heap_model.specs.Wholeness.{Whole};
 ghost use Rattle.weak_pairs.specs.Tables as tables;
 ghost use Rattle.heap_model.specs.Slots.{IsWeakCellAt};
 ghost use Rattle.ephemeron_table.specs.Probes.{IsTableAt};
@@ -14,7 +14,7 @@ use write_barrier::Main;
 
 /// The table of the weak map at an address; one of no pairs where it has none.
 pub fn table_of(main: &Main, map: u32) -> Table
-    requires whole { IsQuietWhole main.now }
+    requires whole { Whole (heap_of main.now) }
     requires there { IsWeakCellAt (heap_of main.now) map }
     ensures { IsTableAt (heap_of main.now) map result }
 {

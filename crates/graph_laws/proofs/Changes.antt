@@ -19,30 +19,24 @@ use Rattle.object_graph.specs.Graphs.{Graph, PlainObject, ListObject, WeakObject
 use Rattle.object_graph.specs.Meaning.{Limits, refill, relist, reweave, meaning}
 use Rattle.object_graph.specs.Prototypes.{proto_in, with_proto}
 use Rattle.object_graph.proofs.Leads.{Leads, each, if_not, if_there}
-use Rattle.graph_laws.specs.Laws.{changes, MayChange, SameKind, GivesProtos}
+use Rattle.graph_laws.specs.Laws.{changes, MayChange, SameKind, GivesProtos, with_other_proto}
 use Rattle.object_graph.proofs.AddedPaths.{with_path-is}
 use Rattle.graph_laws.proofs.FoundObjects.{plain_at-is, list_at-is, weak_at-is}
-
--- the object with another prototype, if it is a plain one
-abbrev pub with_other : Option ℕ → Object → Object
-with_other other (Plain cap proto fields) = Plain cap other fields
-with_other other (ListOf elements) = ListOf elements
-with_other other (Weak entries) = Weak entries
 
 -- a command that gives no prototype leaves that of the object, and one that gives a prototype leaves all else
 pub record LeavesRest (command : Command) (old new : Object) : Type 0 where
   pub proto : ¬ GivesProtos command → proto_in new ≡ proto_in old
-  pub fields : GivesProtos command → (other : Option ℕ) × (new ≡ with_other other old)
+  pub rest : GivesProtos command → (other : Option ℕ) × (new ≡ with_other_proto other old)
 
 -- a command that gives no prototype leaves the rest where it leaves the prototype
 leaves_proto : (command : Command) (old new : Object) → ¬ GivesProtos command → proto_in new ≡ proto_in old
     → LeavesRest command old new
-leaves_proto command old new none same = record { proto = λ no. same; fields = λ gives. absurd (none gives) }
+leaves_proto command old new none same = record { proto = λ no. same; rest = λ gives. absurd (none gives) }
 
 -- a command that gives a prototype leaves the rest where it leaves all but the prototype
 leaves_fields : (command : Command) (old : Object) (other : Option ℕ) → GivesProtos command
-    → LeavesRest command old (with_other other old)
-leaves_fields command old other gives = record { proto = λ no. absurd (no gives); fields = λ given. (other, refl) }
+    → LeavesRest command old (with_other_proto other old)
+leaves_fields command old other gives = record { proto = λ no. absurd (no gives); rest = λ given. (other, refl) }
 
 -- a command of another kind than those that give a prototype gives none
 gives_none : ⊥ → ⊥
@@ -51,7 +45,7 @@ gives_none gives = gives
 -- the command binds and unbinds variables, makes an object, or puts one in the place of another of its kind
 pub data Changes (graph : Graph) (command : Command) : Graph → Type 0 where
   binds : (bindings : FinMap nat_cmp Value) → Changes graph command (record graph { bindings = bindings })
-  makes : (x : ℕ) (object : Object) → Changes graph command (make graph x object)
+  makes : (x : ℕ) (object : Object) → proto_in object ≡ None → Changes graph command (make graph x object)
   puts : (number : ℕ) (old new : Object) (paths : List Path)
       → MayChange graph command number → slice_get graph.objects number ≡ Some old → SameKind old new
       → LeavesRest command old new → take (length graph.paths) paths ≡ graph.paths
@@ -136,9 +130,9 @@ stays graph command = binds graph.bindings
 -- each command, if it is carried out, changes only so much
 pub changed : (limits : Limits) (names : List (List ℕ)) (graph : Graph) (command : Command)
     → Leads (Changes graph command) (meaning limits names graph command)
-changed limits names graph (command.New x cap) = makes x (Plain cap None [])
-changed limits names graph (command.List x) = makes x (ListOf [])
-changed limits names graph (command.Weak x) = makes x (Weak [])
+changed limits names graph (command.New x cap) = makes x (Plain cap None []) refl
+changed limits names graph (command.List x) = makes x (ListOf []) refl
+changed limits names graph (command.Weak x) = makes x (Weak []) refl
 changed limits names graph (command.LetValue x v) = search (each, binds)
 changed limits names graph (command.DropVar x) = search (each, binds)
 changed limits names graph (command.Add x v) = search (each, if_not, binds) depth 12

@@ -1,6 +1,6 @@
 -- Prototypes stay in order where objects keep theirs.
-use Rattle.std.proofs.Common.{◌≡◌, ℕ, zero, suc, ◌<◌, List, [], ◌∷◌, ◌++◌, length, set, Option, Some, None}
-use Rattle.std.proofs.Common.{refl, sym, ap, ◌∙◌, arith}
+use Rattle.std.proofs.Common.{◌≡◌, ℕ, zero, suc, List, [], ◌∷◌, ◌++◌, set, Option, Some, None}
+use Rattle.std.proofs.Common.{refl, sym, ap, ◌∙◌}
 use Rattle.std.specs.Prelude.{slice_get, option_and_then}
 use Rattle.std.proofs.lemmas.Option.{none-some, same_Some}
 use Rattle.object_graph.specs.declared.object.Object.{Object}
@@ -30,19 +30,12 @@ protos_kept old new same kept are = record {
 }
 
 -- an object more that has no prototype leaves those of all
-proto_push : (objects : List Object) (object : Object) → proto_in object ≡ None
+pub proto_push : (objects : List Object) (object : Object) → proto_in object ≡ None
     → (n : ℕ) → proto_of (objects ++ object ∷ []) n ≡ proto_of objects n
 proto_push [] object bare zero = bare
 proto_push [] object bare (suc n) = refl
 proto_push (first ∷ objects) object bare zero = refl
 proto_push (first ∷ objects) object bare (suc n) = proto_push objects object bare n
-
--- an object more leaves the prototypes of those that were there
-pub proto_before : (objects : List Object) (added : Object) (n : ℕ) → n < length objects
-    → proto_of (objects ++ added ∷ []) n ≡ proto_of objects n
-proto_before [] added n within = absurd (omega (arith, within))
-proto_before (first ∷ objects) added zero within = refl
-proto_before (first ∷ objects) added (suc n) within = proto_before objects added n (omega (arith, within))
 
 -- what was plain is plain with an object more
 plain_push : (objects : List Object) (object : Object) (m n : ℕ) (plain : PlainObject)

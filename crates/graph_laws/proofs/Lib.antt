@@ -26,6 +26,7 @@ pub mod RunGraphs
 pub mod Inside
 pub mod FieldsAlong
 pub mod NearestFields
+mod ProtoSteps
 pub mod InsideChanges
 pub mod NothingNew
 pub mod MadeObjects

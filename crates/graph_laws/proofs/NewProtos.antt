@@ -97,7 +97,7 @@ given_held objects value proto none_given = tt
 given_held objects value proto (one_given plain at) = plain_within objects plain.number (plain, at)
 
 -- the plain object has the prototype that it gets
-renewed_proto : (objects : List Object) (plain : PlainObject) (proto : Option ℕ)
+pub renewed_proto : (objects : List Object) (plain : PlainObject) (proto : Option ℕ)
     → plain_at objects (Ref plain.number) ≡ Some plain
     → proto_of (set objects plain.number (Plain plain.cap proto plain.fields)) plain.number ≡ proto
 renewed_proto objects plain proto at =

@@ -10,7 +10,7 @@ use Rattle.graph_laws.proofs.Reaches.{reach_closed}
 
 -- the prototype of a reached object is reached
 pub proto_is_reached : ProtosAreReached
-proto_is_reached graph plain proto is at marked leads =
+proto_is_reached graph plain proto at marked leads =
     let there = (plain_at-is graph.objects (Ref plain.number) plain at).1 in
     let next = proto_at-is graph.objects plain proto leads in
     let stands = (plain_at-is graph.objects (Ref proto.number) proto next.1).1 in

@@ -1,12 +1,11 @@
 -- Laws of the meaning: what a command leaves as it was, and how a run grows line by line.
-use Rattle.std.specs.Prelude.{◌≡◌, ℕ, ◌<◌, ◌≤◌, List, [], ◌∷◌, ◌++◌, length, take, Option, Some, None}
+use Rattle.std.specs.Prelude.{◌≡◌, ℕ, ◌≤◌, List, [], ◌∷◌, ◌++◌, length, take, Option, Some, None}
 use Rattle.std.specs.Prelude.{slice_get, option_and_then}
 use Rattle.std.specs.FinMap.{get}
 use Rattle.heap_command.specs.declared.command.Command.{Command}
 use Rattle.heap_command.specs.declared.command.Command.TheVariants.{Set, Del, Proto, Push, Put, Shift, Trunc, WPut}
 use Rattle.heap_command.specs.declared.command.Command.TheVariants.{WDel, Scavenge, Mark, Finish, Gc}
 use Rattle.object_graph.specs.declared.value.Value.TheVariants.{Ref}
-use Rattle.object_graph.specs.declared.object.Field.{Field}
 use Rattle.object_graph.specs.declared.object.Object.{Object}
 use Rattle.object_graph.specs.declared.object.Object.TheVariants.{Plain, List as ListOf, Weak}
 use Rattle.object_graph.specs.Graphs.{Graph}
@@ -86,6 +85,12 @@ abbrev pub GivesProtos : Command → Type 0
 GivesProtos (Proto x v) = Unit {0}
 GivesProtos _ = ⊥
 
+-- the object with another prototype, or none, if it is a plain one
+abbrev pub with_other_proto : Option ℕ → Object → Object
+with_other_proto other (Plain cap proto fields) = Plain cap other fields
+with_other_proto other (ListOf elements) = ListOf elements
+with_other_proto other (Weak entries) = Weak entries
+
 -- the objects of the graph are those of the graph after the command, by the same numbers
 pub record ObjectsKept (graph : Graph) (command : Command) (after : Graph) : Type 0 where
   -- none is taken out
@@ -97,12 +102,11 @@ pub record ObjectsKept (graph : Graph) (command : Command) (after : Graph) : Typ
   pub others : (number : ℕ) (object : Object) → slice_get graph.objects number ≡ Some object
       → ¬ MayChange graph command number → slice_get after.objects number ≡ Some object
   -- each keeps its prototype, unless the command gives prototypes
-  pub protos : (number : ℕ) → number < length graph.objects → ¬ GivesProtos command
+  pub protos : (number : ℕ) → ¬ GivesProtos command
       → proto_of after.objects number ≡ proto_of graph.objects number
-  -- a command that gives a prototype leaves the cap and the fields of each plain object
-  pub fields : GivesProtos command → (number cap : ℕ) (proto : Option ℕ) (fields : List Field)
-      → slice_get graph.objects number ≡ Some (Plain cap proto fields)
-      → (other : Option ℕ) × (slice_get after.objects number ≡ Some (Plain cap other fields))
+  -- a command that gives a prototype leaves all else of each object
+  pub rest : GivesProtos command → (number : ℕ) (object : Object) → slice_get graph.objects number ≡ Some object
+      → (other : Option ℕ) × (slice_get after.objects number ≡ Some (with_other_proto other object))
 
 -- a command that is carried out keeps the objects
 abbrev pub ObjectsStay : Type 0

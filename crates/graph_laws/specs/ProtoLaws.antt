@@ -1,13 +1,17 @@
 -- Laws of prototypes: chains are short and come back to no object, what follows by prototypes is reached, and a field
 -- is found in the nearest object that has it.
-use Rattle.std.specs.Prelude.{◌≡◌, ◌≢◌, ℕ, suc, ◌<◌, ◌≤◌, true, false, List, length, Option, Some, None}
+use Rattle.std.specs.Prelude.{◌≡◌, ◌≢◌, ◌⊎◌, ℕ, suc, ◌<◌, ◌≤◌, true, false, List, length, Option, Some, None}
+use Rattle.std.specs.FinMap.{get}
+use Rattle.heap_command.specs.declared.command.Operand.{Operand}
+use Rattle.heap_command.specs.declared.command.Command.TheVariants as command
 use Rattle.object_graph.specs.declared.value.Value.{Value}
-use Rattle.object_graph.specs.declared.value.Value.TheVariants.{Ref}
+use Rattle.object_graph.specs.declared.value.Value.TheVariants.{Ref, Undefined}
 use Rattle.object_graph.specs.declared.object.Object.{Object}
 use Rattle.object_graph.specs.Objects.{field_value}
-use Rattle.object_graph.specs.Graphs.{Graph, PlainObject, plain_at}
+use Rattle.object_graph.specs.Graphs.{Graph, PlainObject, bind, plain_at, value_of}
 use Rattle.object_graph.specs.Prototypes.{after_protos, HasNoRing, AreProtos, proto_at, field_along, leads_to}
-use Rattle.object_graph.specs.Prototypes.{makes_ring, proto_for, with_proto}
+use Rattle.object_graph.specs.Prototypes.{makes_ring, proto_for, proto_of, prototypes_most, with_proto}
+use Rattle.object_graph.specs.Meaning.{Limits, done, meaning}
 use Rattle.object_graph.specs.Reach.{is_marked, reach}
 use Rattle.object_graph.specs.Invariants.{IsGraph}
 
@@ -49,9 +53,9 @@ ProtosDiffer =
 -- the prototype of a reached object is reached
 abbrev pub ProtosAreReached : Type 0
 ProtosAreReached =
-    (graph : Graph) (plain proto : PlainObject) → IsGraph graph
-    → plain_at graph.objects (Ref plain.number) ≡ Some plain → is_marked (reach graph) plain.number ≡ true
-    → proto_at graph.objects plain ≡ Some proto → is_marked (reach graph) proto.number ≡ true
+    (graph : Graph) (plain proto : PlainObject) → plain_at graph.objects (Ref plain.number) ≡ Some plain
+    → is_marked (reach graph) plain.number ≡ true → proto_at graph.objects plain ≡ Some proto
+    → is_marked (reach graph) proto.number ≡ true
 
 -- a graph in which a plain object gets a prototype that makes no ring is a graph
 abbrev pub ProtosStayInOrder : Type 0
@@ -99,3 +103,44 @@ NoneIsFound =
     (objects : List Object) (k name : ℕ) (plain : PlainObject)
     → plain_at objects (Ref plain.number) ≡ Some plain → field_along objects k plain name ≡ None
     → AllLack objects (suc k) plain.number name
+
+-- taking a prototype away never makes a ring
+abbrev pub NoneMakesNoRing : Type 0
+NoneMakesNoRing = (objects : List Object) (number : ℕ) → makes_ring objects number None ≡ false
+
+-- A variable refers to this plain object.
+pub record RefersToPlain (graph : Graph) (x : ℕ) (plain : PlainObject) : Type 0 where
+  pub refers : get graph.bindings x ≡ Some (Ref plain.number)
+  pub stands : plain_at graph.objects (Ref plain.number) ≡ Some plain
+
+-- The variable `y` got the value of the field in the nearest object that has it, of the one that `x` refers to and at
+-- most 64 that follow it by prototypes, or `undefined` where none of them has it. Nothing else changed.
+pub record GetsNearest (graph : Graph) (y x name : ℕ) (after : Graph) : Type 0 where
+  pub plain : PlainObject
+  pub target : RefersToPlain graph x plain
+  pub value : Value
+  pub found : IsNearest graph.objects prototypes_most plain.number name value
+      ⊎ ((value ≡ Undefined) × AllLack graph.objects (suc prototypes_most) plain.number name)
+  pub bound : after ≡ bind graph y value
+
+-- a `get` that is carried out does so
+abbrev pub GetsAreNearest : Type 0
+GetsAreNearest =
+    (limits : Limits) (names : List (List ℕ)) (graph : Graph) (y x name : ℕ) (after : Graph) (text : List ℕ)
+    → meaning limits names graph (command.Get y x name) ≡ done after text → GetsNearest graph y x name after
+
+-- The plain object that `x` refers to got the prototype that the operand's value gives, and nothing else changed.
+pub record GetsProto (graph : Graph) (x : ℕ) (operand : Operand) (after : Graph) : Type 0 where
+  pub plain : PlainObject
+  pub target : RefersToPlain graph x plain
+  pub value : Value
+  pub read : value_of graph operand ≡ Some value
+  pub gives : proto_for graph.objects value ≡ Some (proto_of after.objects plain.number)
+  pub is : after ≡ with_proto graph plain (proto_of after.objects plain.number)
+
+-- a `proto` that is carried out gives it
+abbrev pub ProtosAreGiven : Type 0
+ProtosAreGiven =
+    (limits : Limits) (names : List (List ℕ)) (graph : Graph) (x : ℕ) (operand : Operand) (after : Graph)
+    (text : List ℕ) → meaning limits names graph (command.Proto x operand) ≡ done after text
+    → GetsProto graph x operand after

@@ -19,7 +19,7 @@ pub fn laws_of_runs()
 {}
 
 /// No object is taken out, its number, its kind and its cap never change, and a command changes no
-/// object but the one that it names. A command that gives a prototype leaves the fields of each
+/// object but the one that it names. A command that gives a prototype leaves all else of each
 /// object, and each other command leaves the prototypes. Field paths are only added, after those
 /// that are there. A collection changes nothing and writes nothing.
 pub fn laws_of_commands()

@@ -1,8 +1,8 @@
 //! One worker's part: its room, the 0 behind it, and the headers of the cells that it copied.
 ghost use Rattle.std.specs.Prelude.{◌≡◌, ◌+◌, ◌<◌, ◌≤◌, length, slice_get, Some};
 ghost use Rattle.page_space.specs.Extents.{marks_start};
-ghost use Rattle.heap_table.specs.Phases.{Quiet};
 ghost use Rattle.write_barrier.specs.Seats.{heap_words};
+ghost use Rattle.write_barrier.specs.MutatorState.{MayStore};
 ghost use Rattle.eden_copies.specs.Copied.{AreOfOneEach};
 ghost use Rattle.handed_rooms.specs.Taken.{CanTakeIn, EndsRoom, HasRefs, HasRoom, IsTakenIn, StandBetween};
 ghost use Rattle.handed_rooms.specs.Taken.{StaysBeside};
@@ -14,7 +14,7 @@ use write_barrier::Main;
 
 /// Puts the words of a room, behind all pages, from an address on.
 fn put_room(main: &mut Main, room: &[u64], start: u32)
-    requires quiet { main.old.seat.phase ≡ Quiet }
+    requires quiet { MayStore main.old }
     requires behind { main.old.recorded.bound ≤ start }
     requires within { start + length room.now ≤ marks_start main.old.seat.space }
     ensures room { HasRoom start room.now (length room.now) (heap_words main.old.seat) (heap_words main.new.seat) }
@@ -30,7 +30,7 @@ fn put_room(main: &mut Main, room: &[u64], start: u32)
 
 /// Puts a 0 behind a room, if its segment goes on there.
 fn end_room(main: &mut Main, at: u32, end: u32)
-    requires quiet { main.old.seat.phase ≡ Quiet }
+    requires quiet { MayStore main.old }
     requires behind { main.old.recorded.bound ≤ at }
     requires within { end ≤ marks_start main.old.seat.space }
     ensures ends { EndsRoom at end (heap_words main.old.seat) (heap_words main.new.seat) }
@@ -53,7 +53,7 @@ fn copy_at(copies: &[Home], number: usize) -> Home
 
 /// Puts into the header of each cell that was copied the reference to its copy.
 fn put_headers(main: &mut Main, copies: &[Home])
-    requires quiet { main.old.seat.phase ≡ Quiet }
+    requires quiet { MayStore main.old }
     requires cells { StandBetween main.old.recorded.bound (marks_start main.old.seat.space) copies.now }
     requires one_each { AreOfOneEach copies.now }
     ensures headers { HasRefs copies.now (length copies.now) (heap_words main.old.seat) (heap_words main.new.seat) }
@@ -70,7 +70,7 @@ fn put_headers(main: &mut Main, copies: &[Home])
 /// Takes in what a worker copied: the words of its room come to stand where they stand for, with a 0 behind them if the
 /// segment goes on there; and the header of each cell that it copied becomes the reference to the copy.
 pub fn take_in(main: &mut Main, worker: &Worker)
-    requires quiet { main.old.seat.phase ≡ Quiet }
+    requires quiet { MayStore main.old }
     requires can { CanTakeIn main.old worker.now }
     ensures taken { IsTakenIn worker.now (heap_words main.old.seat) (heap_words main.new.seat) }
     ensures beside { StaysBeside main.old main.new }

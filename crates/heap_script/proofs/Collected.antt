@@ -140,19 +140,22 @@ lacks_behind {graph = graph} keeps shows lacks out = record {
 abbrev pub heap_with : HeapState → Mutator → HeapState
 heap_with heap main = record heap { main = main }
 
--- Where a heap came to be another one between two lines, which shows a graph: it has the same regions and as many rows
--- of free runs, and nothing is granted.
+-- Where a heap came to be another one between two lines, which shows a graph: it has the same regions, the same phase
+-- and as many rows of free runs, and nothing is granted.
 pub record IsBetween (old new : Mutator) (graph : Graph) : Type 0 where
   pub space : new.seat.space ≡ old.seat.space
+  pub phase : new.seat.phase ≡ old.seat.phase
   pub rows : length new.free ≡ length old.free
   pub ungranted : in_eden new.young ≡ true
   pub shows : MainShows new graph
 
 -- a full collection leads to such a heap
 fully_between : {start old new : Mutator} {graph : Graph} → CollectsAll old new graph
-    → old.seat.space ≡ start.seat.space → length old.free ≡ length start.free → IsBetween start new graph
-fully_between collects space rows = record {
+    → old.seat.space ≡ start.seat.space → old.seat.phase ≡ start.seat.phase → length old.free ≡ length start.free
+    → IsBetween start new graph
+fully_between collects space phase rows = record {
   space = collects.seat.space ∙ space;
+  phase = collects.seat.phase ∙ phase;
   rows = collects.rows ∙ rows;
   ungranted = collects.ungranted;
   shows = collects.shows;
@@ -163,12 +166,13 @@ pub begun_between : {old new : Mutator} {graph : Graph} → BeginsCycle old new 
     → IsBetween old new graph
 begun_between {graph = graph} (BeginsCycle.promotes_all scavenges keeps none) shows = record {
   space = scavenges.seat.space;
+  phase = scavenges.seat.phase;
   rows = scavenges.rows;
   ungranted = ungranted_by scavenges;
   shows = keeps.shows graph shows;
 }
 begun_between (BeginsCycle.collects_all mid scavenges keeps some collects) shows =
-    fully_between collects scavenges.seat.space scavenges.rows
+    fully_between collects scavenges.seat.space scavenges.seat.phase scavenges.rows
 
 -- between two lines, on that heap, by what was spent
 abbrev Running-collected : {script : ScriptText} {heap : HeapState} {mid : Mutator} {objects : ℕ} {waiting : List ℕ}
@@ -184,8 +188,8 @@ Running-collected {heap = heap} {mid} r between spends =
       opened = r.opened;
       spends = spends reached;
       ungranted = between.ungranted;
-      shown = still_shows heap (heap_with heap mid) r.reached.so_far.graph r.shown refl between.space between.rows
-          between.shows;
+      shown = still_shows heap (heap_with heap mid) r.reached.so_far.graph r.shown refl between.space between.phase
+          between.rows between.shows;
       left = r.left;
       handed = r.handed;
       made = r.made;
@@ -205,6 +209,7 @@ Running-once {heap = heap} {mid} {n = n} {need = need} r wanted sound lacks scav
     Running-collected r
     (record {
       space = scavenges.seat.space;
+      phase = scavenges.seat.phase;
       rows = scavenges.rows;
       ungranted = ungranted_by scavenges;
       shows = keeps.shows r.reached.so_far.graph r.shown.main;
@@ -218,8 +223,8 @@ Running-once {heap = heap} {mid} {n = n} {need = need} r wanted sound lacks scav
 pub between_fully : {names : List (List ℕ)} {old new : Mutator} {graph : Graph} {command : Command}
     → CollectsFully names old new graph command → IsBetween old new graph
 between_fully (CollectsFully.for_room mid need sound lacks scavenges keeps out collects) =
-    fully_between collects scavenges.seat.space scavenges.rows
-between_fully (CollectsFully.for_pairs entries finds collects) = fully_between collects refl refl
+    fully_between collects scavenges.seat.space scavenges.seat.phase scavenges.rows
+between_fully (CollectsFully.for_pairs entries finds collects) = fully_between collects refl refl refl
 
 -- and is one of the collections that may come between two lines: no free run has the words that the command lacks, nor
 -- eden, or its map is full of pairs

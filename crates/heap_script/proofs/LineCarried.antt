@@ -50,9 +50,8 @@ Running-served script heap after found objects waiting old new at at' ts ts' n n
     record { room = carried.takes; cells = carried.cells; free = carried.shows.free } in
     let done = allocated command r.shown.main r.ungranted served_so unfull takes in
     Running-carried script heap after objects waiting old new at at' ts ts' n number command text carried.after r below
-    goes (rest ∙ sym (rest_stays heap.rest command apart)) done.allocates.space carried.means carried.shows
-    (LineAllocates.allocates command apart done.allocates) done.ungranted
-    done.rows
+    goes (rest ∙ sym (rest_stays heap.rest command apart)) done.allocates.space done.phase carried.means
+    carried.shows (LineAllocates.allocates command apart done.allocates) done.ungranted done.rows
 
 -- it was carried out once a scavenge had made room for the words that it lacked
 Running-scavenged : (script : ScriptText) (heap after : HeapState) (found : Mutator) (objects : ℕ) (waiting : List ℕ)
@@ -140,7 +139,8 @@ Running-asked script heap after objects waiting old new at at' ts ts' n number c
     let uses : Uses command =
     subst Uses (sym is) (LineAllocates.scavenges (collected_by scavenges keeps r.shown.main)) in
     Running-carried script heap after objects waiting old new at at' ts ts' n number command text carried.after r below
-    goes rest scavenges.seat.space carried.means carried.shows uses (ungranted_by scavenges) scavenges.rows
+    goes rest scavenges.seat.space scavenges.seat.phase carried.means carried.shows uses (ungranted_by scavenges)
+    scavenges.rows
 Running-asked script heap after objects waiting old new at at' ts ts' n number command text r below goes rest
     (CarriesAsked.begins is none begins carried) =
     let before = r.reached.so_far.graph in
@@ -152,7 +152,7 @@ Running-asked script heap after objects waiting old new at at' ts ts' n number c
     subst Uses (sym is)
     (LineAllocates.begins (none_began r.opened (sym r.cycle ∙ none)) (begun_by begins r.shown.main)) in
     Running-carried script heap after objects waiting old new at at' ts ts' n number command text carried.after r below
-    goes rest between.space carried.means carried.shows uses between.ungranted between.rows
+    goes rest between.space between.phase carried.means carried.shows uses between.ungranted between.rows
 Running-asked script heap after objects waiting old new at at' ts ts' n number command text r below goes rest
     (CarriesAsked.finishes is there collects carried) =
     let before = r.reached.so_far.graph in
@@ -164,16 +164,17 @@ Running-asked script heap after objects waiting old new at at' ts ts' n number c
     uncollected (Some one) in
     let uses : Uses command = subst Uses (sym is) (LineAllocates.finishes opening began leaves) in
     Running-carried script heap after objects waiting old new at at' ts ts' n number command text carried.after r below
-    goes rest collects.seat.space carried.means carried.shows uses collects.ungranted collects.rows
+    goes rest collects.seat.space collects.seat.phase carried.means carried.shows uses collects.ungranted collects.rows
 Running-asked script heap after objects waiting old new at at' ts ts' n number command text r below goes rest
     (CarriesAsked.collects_all asks collects carried) =
     Running-carried script heap after objects waiting old new at at' ts ts' n number command text carried.after r below
-    goes rest collects.seat.space carried.means carried.shows
+    goes rest collects.seat.space collects.seat.phase carried.means carried.shows
     (LineAllocates.collects_all command asks collects.leaves) collects.ungranted collects.rows
 Running-asked script heap after objects waiting old new at at' ts ts' n number command text r below goes rest
     (CarriesAsked.collects_nothing none same carried) =
     Running-carried script heap after objects waiting old new at at' ts ts' n number command text carried.after r below
-    goes rest (ap (λ (main : Mutator). main.seat.space) same) carried.means carried.shows
+    goes rest (ap (λ (main : Mutator). main.seat.space) same) (ap (λ (main : Mutator). main.seat.phase) same)
+    carried.means carried.shows
     (LineAllocates.collects_nothing command
     (subst (λ in_cycle. CollectsNothing in_cycle command) r.cycle none) (ap stage_of same))
     (ap (λ (main : Mutator). in_eden main.young) same ∙ r.ungranted) (ap (λ (main : Mutator). length main.free) same)

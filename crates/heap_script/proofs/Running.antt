@@ -178,14 +178,14 @@ pub Running-carried : (script : ScriptText) (heap after : HeapState) (objects : 
     → n < lines_most
     → Goes script.lines at' ts' (left_after script n) (executed number (Some command))
     → after.rest ≡ with_cycle heap.rest (cycle_after_command heap.rest.in_cycle command)
-    → after.main.seat.space ≡ heap.main.seat.space
+    → after.main.seat.space ≡ heap.main.seat.space → after.main.seat.phase ≡ heap.main.seat.phase
     → meaning ideal_limits script.fields r.reached.so_far.graph command ≡ done graph text → MainShows after.main graph
     → LineAllocates r.opened (stage_of heap.main) (stage_of after.main) r.reached.so_far.graph graph collections
     (Some command)
     → in_eden after.main.young ≡ true → length after.main.free ≡ length heap.main.free
     → Running script after (objects + objects_made command) (waiting ++ text) old new at' ts' (n + 1) uncollected
 Running-carried script heap after objects waiting old new at at' ts ts' n number command text graph {collections} r
-    below goes rest space does-is shown uses ungranted rows =
+    below goes rest space phase does-is shown uses ungranted rows =
     let so_far = r.reached.so_far in
     let later : Told = record { graph = graph; bytes = so_far.bytes ++ text } in
     let line = executed number (Some command) in
@@ -205,8 +205,8 @@ Running-carried script heap after objects waiting old new at at' ts ts' n number
       spends = Spends.one_more (stage_of heap.main) (stage_of after.main) n collections r.opened line r.spends
           (next_at (executed_lines script.lines) n line goes.rest goes.is) r.reached reached uses;
       ungranted = ungranted;
-      shown = still_shows (cycled heap cycle) after graph (cycled_shows heap cycle so_far.graph r.shown) rest space rows
-          shown;
+      shown = still_shows (cycled heap cycle) after graph (cycled_shows heap cycle so_far.graph r.shown) rest space
+          phase rows shown;
       left = subst (IsLeft script.lines at' ts') (sym (dropped-next script n next)) goes.left;
       handed = Handed-told text r.handed;
       made = ap (λ m. m + objects_made command) r.made

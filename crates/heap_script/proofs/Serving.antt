@@ -47,13 +47,14 @@ served (Serves.eden room is) some needs unfull empty = Served.as_it_is is
 served {need = need} (Serves.granted lacks grants keeps) some needs unfull empty =
     Served.by_grant need some (record { needs = needs; lacks = lacks; unfull = unfull }) empty grants keeps
 
--- What a command that was carried out has done: it allocated, nothing is granted any more, and so many pages have rows
--- of free runs.
+-- What a command that was carried out has done: it allocated, nothing is granted any more, so many pages have rows of
+-- free runs, and the phase is the same.
 pub record HasAllocated (old new : Mutator) (graph after : Graph) (collections : Collections) (command : Command)
     : Type 0 where
   pub allocates : Allocates (stage_of old) (stage_of new) graph after collections command
   pub ungranted : in_eden new.young ≡ true
   pub rows : length new.free ≡ length old.free
+  pub phase : new.seat.phase ≡ old.seat.phase
 
 -- What a command that is carried out takes of the heap that it finds, and leaves: which cells stand, and that free runs
 -- are free cells.
@@ -109,6 +110,7 @@ allocated_in_eden {old} {new} {graph} command shows ungranted unfull takes =
       };
       ungranted = still_ungranted old.young (need_of graph some command) ungranted one.uses.young;
       rows = ap length one.uses.free;
+      phase = one.uses.beside.phase;
     }
 
 -- where all granted words are used, none of an empty eden is
@@ -223,6 +225,7 @@ module _ {old found new : Mutator} {graph after : Graph} {collections : Collecti
         };
         ungranted = ungranted_again old.young found.young grants.run n grants.young words taken.uses.young;
         rows = ap length taken.uses.free ∙ served_rows (Serves.granted lacks.lacks grants keeps);
+        phase = taken.uses.beside.phase ∙ grants.beside.phase;
       }
 
 -- a command that is carried out on what it finds of a heap in which nothing is granted allocates on that heap

@@ -179,13 +179,14 @@ fn eden_gives_its_words_one_behind_another_to_its_end(rt: HostRuntime) -> Result
     Ok(())
 }
 
-/// Carries an act out, at addresses before the marks.
+/// Carries an act out, at addresses before the marks, or before the layout words where a cell is made.
 fn carry_out(rt: &impl Abort, main: &mut Main, act: Act)
     requires { main.old.seat.phase ≡ Quiet }
     ensures { main.new.seat.phase ≡ Quiet }
 {
     let regions = main.regions();
     let end = main.count();
+    let layouts = regions.layout_at(0);
     match act {
         Write(a, word) => {
             assert!(rt; a < end);
@@ -207,14 +208,14 @@ fn carry_out(rt: &impl Abort, main: &mut Main, act: Act)
             );
         }
         MakeBox(a, v) => {
-            assert!(rt; a < end);
-            assert!(rt; end - a > 1);
+            assert!(rt; a < layouts);
+            assert!(rt; layouts - a > 1);
             make_box(main, a, v);
         }
         FillStore(a, capacity) => {
-            assert!(rt; a < end);
-            assert!(rt; end - a > 2);
-            assert!(rt; capacity <= end - a - 2);
+            assert!(rt; a < layouts);
+            assert!(rt; layouts - a > 2);
+            assert!(rt; capacity <= layouts - a - 2);
             fill_store(main, a, capacity);
         }
         CopySlots(from, to, count) => {

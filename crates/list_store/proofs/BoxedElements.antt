@@ -1,19 +1,26 @@
 -- The integer of a wide element is put into the box to which its slot refers.
 use Rattle.std.specs.Prelude.{ℤ}
-use Rattle.std.proofs.Common.{◌≡◌, ℕ, ◌+◌, ◌≤◌, inl, [], ◌∷◌, length, Some, false, sym, ◌∙◌, ap, subst, arith}
+use Rattle.std.proofs.Common.{◌≡◌, ℕ, ◌+◌, ◌≤◌, inl, List, [], ◌∷◌, length, Some, false, sym, ◌∙◌, ap, subst, arith}
 use Rattle.std.proofs.lemmas.Option.{same_Some}
 use Rattle.tagged_word.specs.declared.layout.Kind.TheVariants as kind
+use Rattle.page_space.specs.Extents.{layouts_start}
 use Rattle.object_graph.specs.Graphs.{Graph, ListObject}
 use Rattle.object_graph.specs.Meaning.{relist}
 use Rattle.object_graph.specs.Values.{rep_of}
 use Rattle.object_graph.specs.declared.value.Rep.TheVariants as rep
 use Rattle.heap_model.specs.Types.{Value, Cell, Held}
-use Rattle.heap_model.specs.Heaps.{words_of_cell}
+use Rattle.heap_model.specs.Heaps.{Heap, HasCell, words_of_cell}
 use Rattle.heap_model.specs.Kinds.{HasWord, count_offset}
-use Rattle.heap_model.specs.Needs.{capacity_at}
+use Rattle.heap_model.specs.Needs.{box_words, capacity_at}
 use Rattle.tagged_word.specs.Cells.{is_object_kind}
 use Rattle.heap_model.specs.Slots.{raw_word, RefersToBox}
 use Rattle.write_barrier.specs.MutatorState.{Mutator, heap_of, MainShows, with_word}
+use Rattle.heap_model.proofs.CellWords.{words_by_kind, words_are_size}
+use Rattle.write_barrier.specs.Storing.{MayChange, StoresOn}
+use Rattle.write_barrier.proofs.SlotStores.{word_stores_on}
+use Rattle.write_barrier.proofs.StoresOn.{cell_may_change}
+use Rattle.object_cells.proofs.CellsRead.{cell_before_layouts}
+use Rattle.object_cells.proofs.ChangedPlaces.{box_may_put}
 use Rattle.object_cells.specs.Capacities.{ChangesObjectUsing}
 use Rattle.object_cells.specs.Made.{IsStoreAt, store_content}
 use Rattle.object_cells.specs.OwnSlots.{ComesFrom, Refills}
@@ -22,7 +29,7 @@ use Rattle.object_cells.specs.declared.stores.Store.{Store}
 use Rattle.object_cells.proofs.ContentValues.{box_shows}
 use Rattle.object_cells.proofs.HeldContents.{HoldsValue}
 use Rattle.object_cells.proofs.HeldNeeds.{new_value_held}
-use Rattle.object_cells.proofs.IntegerTouches.{integer_remembers}
+use Rattle.object_cells.proofs.IntegerTouches.{integer_remembers_surely}
 use Rattle.object_cells.proofs.ListSlots.{element_of_number}
 use Rattle.object_cells.proofs.MadeBoxes.{boxed_integer}
 use Rattle.object_cells.proofs.NumberedSlots.{SlotOfNumber}
@@ -34,6 +41,7 @@ use Rattle.object_cells.proofs.OwnPlaces.{slot_names_box, no_other_slot_names}
 use Rattle.object_cells.proofs.OwnerWrites.{list_owns}
 use Rattle.object_cells.proofs.RefilledLists.{written_elements_show}
 use Rattle.object_cells.proofs.SlotBoxes.{IsBoxOf}
+use Rattle.object_cells.proofs.SureCells.{stores_keep_cells}
 use Rattle.object_cells.proofs.TakenRuns.{takes_none}
 use Rattle.object_cells.proofs.ListChanging.{Changing, Elements}
 
@@ -121,14 +129,44 @@ module _ {old new : Mutator} {graph : Graph} {at slot count : ℕ} {list : ListO
       }
 
   -- and the graph is shown in which it is there
-  pub box_shown : MainShows new (relist graph list becomes.after)
-  box_shown =
+  pub box_shown : StoresOn old new → MainShows new (relist graph list becomes.after)
+  box_shown stores =
       written_elements_show old new graph list cell (box_of.cell ∷ []) [] becomes.after known.shows known.is.object
-      known.shown.carries known.shown.shows becomes.are_new
+      known.is.reached known.shown.carries known.shown.shows becomes.are_new
       (takes_none (integer.rest_stays put_it) (room_for_none old known.shows.tied known.shows.shows.whole)
       (integer.same_young put_it)) (ap (λ (m : Mutator). m.paths) puts_it) (integer.writes put_it)
-      (element_refills puts_element) (integer_remembers put_it)
+      (element_refills puts_element) (integer_remembers_surely put_it).remembers
+      (stores_keep_cells list_owns known.shows (integer.writes put_it) (integer_remembers_surely put_it) stores)
 
   -- each store has as many slots as before
   pub box_keeps : ChangesObjectUsing old new 0 cell.at (capacity_at (heap_of old) cell.at)
   box_keeps = integer.capacity_stays put_it known.shown.shows.slot
+
+-- a box has two words
+box_size : {heap : Heap} {cell : Cell} {words : List ℕ} → HasCell heap cell words → cell.layout.kind ≡ kind.Boxed
+    → cell.size ≡ 2
+box_size has is = sym (words_are_size has) ∙ words_by_kind kind.Boxed has is
+
+-- in an open cycle a box of a heap that is shown may be changed
+pub box_may_change : {main : Mutator} {graph : Graph} {word box : ℕ} → MainShows main graph
+    → IsBoxOf (heap_of main) word box → MayChange main box 2 kind.Boxed
+box_may_change {main} shows box_of =
+    let has = box_of.refers.has in
+    subst (λ n. MayChange main n 2 kind.Boxed) box_of.stands
+    (subst (λ n. MayChange main box_of.cell.at n kind.Boxed) (box_size has box_of.box)
+    (subst (MayChange main box_of.cell.at box_of.cell.size) box_of.box (cell_may_change shows has)))
+
+-- it ends before the layout words
+pub box_in_cells : {main : Mutator} {graph : Graph} {word box : ℕ} → MainShows main graph
+    → IsBoxOf (heap_of main) word box → box + box_words ≤ layouts_start main.seat.space
+box_in_cells shows box_of =
+    let has = box_of.refers.has in
+    omega (arith, cell_before_layouts shows.shows.whole has, box_size has box_of.box, box_of.stands)
+
+-- so its integer may be put
+pub box_put_on : {old new : Mutator} {graph : Graph} {word box : ℕ} (v : ℤ) → MainShows old graph
+    → IsBoxOf (heap_of old) word box → new ≡ with_word old (box + 1) (raw_word v) → StoresOn old new
+box_put_on {old} {box = box} v shows box_of is =
+    subst (StoresOn old) (sym is)
+    (word_stores_on (box + 1) (raw_word v) (omega (arith, box_in_cells shows box_of))
+    (box_may_put box (raw_word v) (box_may_change shows box_of)))

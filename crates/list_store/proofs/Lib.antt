@@ -7,3 +7,5 @@ mod TouchedStores
 mod PushOutcomes
 mod BoxedElements
 mod PutOutcomes
+mod PutsInCycle
+mod PushSteps

@@ -68,7 +68,8 @@ has_pushed {old} {new} {at = at} {count} {list} {value} {what} known is few size
           (subst (λ a. ChangesObjectUsing old new (content_need (store_content value)) a (capacity_at heap a))
           known.shown.stands (slot_keeps known becomes can.is room enough pushes.room pushes.words)));
       shows = slot_shown known becomes can.is room enough pushes.room pushes.words
-          (push_remembers known becomes can.is room enough pushes.room pushes.words pushes.touches);
+          (push_remembers known becomes can.is room enough pushes.room pushes.words pushes.touches pushes.surely)
+          pushes.stores;
       held = value;
       holds = known.held.shows;
       puts = subst (λ n. PushesAt old new at n value) is (PushesAt.to_store store can room pushes);

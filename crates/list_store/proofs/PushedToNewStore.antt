@@ -20,7 +20,8 @@ use Rattle.heap_model.proofs.BoundHeaps.{none_in}
 use Rattle.heap_model.proofs.CellOutcomes.{object_is_no_filler}
 use Rattle.heap_model.proofs.CellWords.{words_by_kind}
 use Rattle.write_barrier.specs.MutatorState.{Mutator, heap_of, MainShows}
-use Rattle.write_barrier.specs.Recording.{Remembers}
+use Rattle.object_cells.specs.SureCells.{RemembersSurely}
+use Rattle.object_cells.proofs.SureCells.{stores_keep_cells}
 use Rattle.object_cells.specs.Capacities.{ChangesObjectUsing}
 use Rattle.object_cells.specs.Contents.{next_at}
 use Rattle.object_cells.specs.FilledRuns.{FillsRun}
@@ -210,15 +211,17 @@ module _ {old new : Mutator} {graph : Graph} {at count : ℕ} {list : ListObject
       }
 
   -- and the graph is shown in which it is the last
-  pub to_new_store_shown : Remembers old new (cell ∷ []) (cell ∷ []) (other ∷ made_boxes (store_content value) box)
+  pub to_new_store_shown : RemembersSurely old new (cell ∷ []) (cell ∷ [])
+      (other ∷ made_boxes (store_content value) box)
       → MainShows new (relist graph list (list.elements ++ what ∷ []))
   to_new_store_shown remembered =
       written_elements_show old new graph list cell [] (other ∷ made_boxes (store_content value) box)
-      (list.elements ++ what ∷ []) known.shows known.is.object known.shown.carries known.shown.shows
+      (list.elements ++ what ∷ []) known.shows known.is.object known.is.reached known.shown.carries known.shown.shows
       (pushed_elements_are_new graph list what known.shows.is_graph known.is.object known.is.reached least known.fits
       known.held.reached)
       (takes_run need pushes.words.beside pushes.room pushes.words.young (own_row filled).row) pushes.words.paths
-      takes.writes (element_refills puts_element) remembered
+      takes.writes (element_refills puts_element) remembered.remembers
+      (stores_keep_cells list_owns known.shows takes.writes remembered pushes.stores)
 
   -- the list has as many slots as the store that was made, and each other object as many as before
   pub to_new_store_becomes : AreWithin old.seat.space.sizes old.seat.space.variables

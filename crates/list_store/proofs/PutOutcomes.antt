@@ -1,5 +1,5 @@
 -- What comes of a put: the heap shows the graph in which the value is in the place of the element.
-use Rattle.std.proofs.Common.{◌≡◌, ℕ, ◌+◌, ◌≤◌, ◌<◌, length, Some}
+use Rattle.std.proofs.Common.{◌≡◌, ℕ, ◌+◌, ◌≤◌, ◌<◌, ◌^◌, length, Some}
 use Rattle.std.proofs.Common.{not, ◌&&◌, false, slice_get, get_or, set, length-set, unwrap_or}
 use Rattle.std.proofs.Common.{refl, sym, ◌∙◌, ap, subst, arith}
 use Rattle.std.specs.Prelude.{slice_set}
@@ -23,7 +23,10 @@ use Rattle.heap_model.specs.Remembered.{Touch}
 use Rattle.heap_model.specs.Slots.{IsSlotWord}
 use Rattle.object_cells.specs.declared.stores.Store.{Store}
 use Rattle.object_cells.specs.Capacities.{ChangesObjectUsing}
-use Rattle.object_cells.specs.Contents.{next_at, box_in, filling_at, filling_of, filling_need, FillsSlot}
+use Rattle.page_space.specs.Extents.{marks_start}
+use Rattle.object_cells.specs.declared.content.SlotWrite.{SlotWrite}
+use Rattle.object_cells.specs.declared.content.SlotWrite.TheVariants as filling
+use Rattle.object_cells.specs.Contents.{AllocatesBox, next_at, box_in, filling_at, filling_of, filling_need, FillsSlot}
 use Rattle.object_cells.specs.Made.{IsStoreAt, PutsWords, with_content, content_need, content_word, slot_touch}
 use Rattle.object_cells.specs.Made.{content_touch, store_content, is_wide_held}
 use Rattle.object_cells.specs.declared.content.SlotContent.{SlotContent}
@@ -46,7 +49,8 @@ use Rattle.object_cells.proofs.FilledTouches.{fills_slot_touch}
 use Rattle.object_cells.proofs.NothingUsed.{room_for_none}
 use Rattle.list_store.specs.ListChanges.{HasPut}
 use Rattle.list_store.specs.Pushes.{with_count, with_element}
-use Rattle.list_store.proofs.BoxedElements.{box_shown, box_keeps, put_it}
+use Rattle.list_store.proofs.BoxedElements.{box_shown, box_keeps, box_put_on, put_it}
+use Rattle.list_store.proofs.PutsInCycle.{put_on, put_surely}
 use Rattle.object_cells.proofs.OwnerWrites.{list_owns}
 use Rattle.object_cells.proofs.OwnIntegers.{same_young}
 use Rattle.object_cells.proofs.ElementsRead.{SlotRead, slot_read}
@@ -175,21 +179,36 @@ module _ {old : Mutator} {graph : Graph} {at : ℕ} {list : ListObject} {value :
       (held_before heap (word_at heap (place_at store place)) (store_content value)
       (subst (IsSlotWord heap) (sym word_is) slot.is)) needs)
 
+-- there are as many words where those of a box are used
+used_counted : (old between : Mutator) (fill : SlotWrite) → AllocatesBox old between fill
+    → length (heap_words old.seat) ≡ marks_start old.seat.space
+    → length (heap_words between.seat) ≡ marks_start between.seat.space
+used_counted old between (filling.Tagged word) same counted =
+    subst (λ (main : Mutator). length (heap_words main.seat) ≡ marks_start main.seat.space) (sym same) counted
+used_counted old between (filling.Raw word) same counted =
+    subst (λ (main : Mutator). length (heap_words main.seat) ≡ marks_start main.seat.space) (sym same) counted
+used_counted old between (filling.NewBox box v) more counted =
+    subst (λ (main : Mutator). length (heap_words main.seat) ≡ marks_start main.seat.space) (sym more.1) counted
+used_counted old between (filling.OldBox box v) same counted =
+    subst (λ (main : Mutator). length (heap_words main.seat) ≡ marks_start main.seat.space) (sym same) counted
+
 -- so the element is the value
 pub has_put : {old new : Mutator} {graph : Graph} {at : ℕ} {list : ListObject} {value : Held} {what : Value}
     (store : Store)
     (place : ℕ) → Changing old graph at list value what → IsStoreAt (heap_of old) at store → place < store.capacity
     → place < length list.elements → length list.elements ≤ list_most → length list.elements ≤ store.capacity
-    → AreWithin old.seat.space.sizes old.seat.space.variables
+    → AreWithin old.seat.space.sizes old.seat.space.variables → marks_start old.seat.space < 2 ^ 32
     → FillsSlot old new (place_at store place) (store_content value)
     → FilledBy old new (place_at store place) (word_at (heap_of old) (place_at store place)) (store_content value)
     → HasPut old new graph at list place what
-has_put {old} {new} {at = at} {list} {value} {what} store place known is_store below there few enough sizes fills
+has_put {old} {new} {at = at} {list} {value} {what} store place known is_store below there few enough sizes fit fills
     (FilledBy.slot room words needs) =
     let heap = heap_of old in
     let need = sym needs ∙ need_to_put store place known is_store below sizes there in
     let puts = counted_words store place known is_store below room words in
     let becomes = put_elements place known there few in
+    let counted = used_counted old fills.between (filling_at old (place_at store place) (store_content value))
+    fills.allocates known.shows.shows.whole.sized.words in
     record {
       room = subst (HasRoom old.young) need room;
       uses = subst (UsesMore old new) need (record {
@@ -202,14 +221,16 @@ has_put {old} {new} {at = at} {list} {value} {what} store place known is_store b
           known.shown.stands (slot_keeps known becomes is_store below enough room puts));
       shows = slot_shown known becomes is_store below enough room puts
           (put_remembers known becomes is_store below enough room puts
-          (element_touch store place known is_store below fills needs));
+          (element_touch store place known is_store below fills needs)
+          (put_surely store place known is_store below fit fills needs counted))
+          (put_on store place known is_store below fit fills);
       store = store;
       is_store = is_store;
       held = value;
       holds = known.held.shows;
       puts = fills;
     }
-has_put {old} {new} {at = at} {list} {value} {what} store place known is_store below there few enough sizes fills
+has_put {old} {new} {at = at} {list} {value} {what} store place known is_store below there few enough sizes fit fills
     (FilledBy.of_box box v boxed found same) =
     let heap = heap_of old in
     let w : ℕ = get_or known.shown.shows.slots place 0 in
@@ -232,7 +253,8 @@ has_put {old} {new} {at = at} {list} {value} {what} store place known is_store b
       changes = subst (λ n. ChangesObjectUsing old new n at (capacity_at heap at)) need
           (subst (λ a. ChangesObjectUsing old new 0 a (capacity_at heap a)) known.shown.stands
           (box_keeps w known becomes is_store enough refl read.holds box_of boxed same));
-      shows = box_shown w known becomes is_store enough refl read.holds box_of boxed same;
+      shows = box_shown w known becomes is_store enough refl read.holds box_of boxed same
+          (box_put_on v known.shows box_of same);
       store = store;
       is_store = is_store;
       held = value;

@@ -12,7 +12,7 @@ use Rattle.heap_model.specs.Heaps.{HasCell, words_of_cell}
 use Rattle.heap_model.specs.Kinds.{count_offset}
 use Rattle.heap_model.specs.Remembered.{Touch, TouchesMade}
 use Rattle.write_barrier.specs.MutatorState.{Mutator, heap_of, reserved}
-use Rattle.write_barrier.specs.Recording.{Touches, Remembers, touched_one, touched_then}
+use Rattle.write_barrier.specs.Recording.{Touches, touched_one, touched_then}
 use Rattle.object_cells.specs.Contents.{next_at}
 use Rattle.object_cells.specs.Made.{IsStoreAt, PutsWords, content_need, content_touch, store_content}
 use Rattle.object_cells.specs.declared.stores.Store.{Store}
@@ -24,8 +24,11 @@ use Rattle.object_cells.proofs.OwnContents as beside
 use Rattle.object_cells.proofs.OwnerWrites.{list_owns, written_own_keeps_cells}
 use Rattle.object_cells.proofs.TakenRuns.{taken_run}
 use Rattle.object_cells.proofs.TakenValues as taken
-use Rattle.object_cells.proofs.TouchedCells.{FitsTouch, IsBeside, fits_one_apart, fits_then, made_then, remembers}
+use Rattle.object_cells.proofs.TouchedCells.{FitsTouch, IsBeside, fits_one_apart, fits_then, made_then}
 use Rattle.object_cells.proofs.TouchedCells.{same_cells_touched}
+use Rattle.write_barrier.specs.SureStores.{StoresSurely}
+use Rattle.object_cells.specs.SureCells.{RemembersSurely}
+use Rattle.object_cells.proofs.SureCells.{remembers_surely}
 use Rattle.list_store.specs.Pushes.{with_count, with_element}
 use Rattle.list_store.proofs.TouchedLists.{count_fits, element_fits}
 use Rattle.list_store.proofs.WrittenSlots as slots
@@ -117,19 +120,21 @@ module _ {old new : Mutator} {graph : Graph} {at slot count : ℕ} {list : ListO
       (fits_one_apart boxes boxes Touch.Stored (next_at old) ends place a place_apart above before))
 
   -- so an element that is put is remembered
-  pub put_remembers : Touches old new slot_touch → Remembers old new cells cells boxes
-  put_remembers touches =
-      remembers slot_touch touches
+  pub put_remembers : Touches old new slot_touch → StoresSurely new slot_touch
+      → RemembersSurely old new cells cells boxes
+  put_remembers touches surely =
+      remembers_surely slot_touch touches
       (same_cells_touched (eden_start old.seat.space) (next_at old) ends cells slot_touch
-      (λ a of_page out. slot_fits a out)) of_made
+      (λ a of_page out. slot_fits a out)) of_made surely
 
   -- and so is one that is pushed, where the list's length is another
-  pub push_remembers : Touches old new (touched_then slot_touch counted) → Remembers old new cells cells boxes
-  push_remembers touches =
-      remembers (touched_then slot_touch counted) touches
+  pub push_remembers : Touches old new (touched_then slot_touch counted)
+      → StoresSurely new (touched_then slot_touch counted) → RemembersSurely old new cells cells boxes
+  push_remembers touches surely =
+      remembers_surely (touched_then slot_touch counted) touches
       (same_cells_touched (eden_start old.seat.space) (next_at old) ends cells (touched_then slot_touch counted)
       (λ a of_page out.
       fits_then cells cells slot_touch counted a (slot_fits a out)
       (count_fits (other ∷ []) known.shows.shows.whole known.shown others_stand a)))
       (made_then slot_touch counted of_made (λ a of_page above before.
-      fits_one_apart boxes boxes Touch.Wiped (next_at old) ends (at + count_offset) a count_apart above before))
+      fits_one_apart boxes boxes Touch.Wiped (next_at old) ends (at + count_offset) a count_apart above before)) surely

@@ -12,7 +12,7 @@ use Rattle.heap_model.specs.Remembered.{Touch, TouchesMade}
 use Rattle.heap_model.specs.Wholeness.{HasRows}
 use Rattle.heap_model.proofs.BoundHeaps.{none_in}
 use Rattle.write_barrier.specs.MutatorState.{Mutator, heap_of}
-use Rattle.write_barrier.specs.Recording.{Remembers, touched, touched_one, touched_then}
+use Rattle.write_barrier.specs.Recording.{touched, touched_one, touched_then}
 use Rattle.object_cells.specs.Contents.{next_at}
 use Rattle.object_cells.specs.Made.{store_content, content_touch, store_touch}
 use Rattle.object_cells.specs.declared.stores.Store.{Store}
@@ -26,9 +26,11 @@ use Rattle.object_cells.proofs.OwnerWrites.{list_owns, written_own_keeps_cells}
 use Rattle.object_cells.proofs.TakenRuns.{taken_run}
 use Rattle.object_cells.proofs.TakenValues as taken
 use Rattle.object_cells.proofs.TouchedCells.{FitsTouch, IsBeside, fits_made, fits_one_apart, fits_then, made_then}
-use Rattle.object_cells.proofs.TouchedCells.{remembers, same_cells_touched, then_kept}
+use Rattle.object_cells.proofs.TouchedCells.{same_cells_touched, then_kept}
 use Rattle.object_cells.proofs.TouchedOffsets.{IsBehindHead}
 use Rattle.object_cells.proofs.UnusedWords.{run_beside}
+use Rattle.object_cells.specs.SureCells.{RemembersSurely}
+use Rattle.object_cells.proofs.SureCells.{remembers_surely}
 use Rattle.list_store.specs.Pushes.{CanChange, PushesToNewStore}
 use Rattle.list_store.proofs.PushedToNewStore as pushed
 use Rattle.list_store.proofs.TouchedLists.{count_fits, store_fits}
@@ -159,8 +161,8 @@ module _ {old new : Mutator} {graph : Graph} {at count : ℕ} {list : ListObject
       fits_one_apart all all Touch.Wiped next ends (at + count_offset) a (list_apart 2 (omega arith)) above before)
 
   -- so it is remembered
-  pub new_store_remembers : Remembers old new cells cells all
+  pub new_store_remembers : RemembersSurely old new cells cells all
   new_store_remembers =
-      remembers (touched_then linked counted) pushes.touches
+      remembers_surely (touched_then linked counted) pushes.touches
       (same_cells_touched (eden_start old.seat.space) (next_at old) ends cells (touched_then linked counted)
-      (λ a of_page out. fits a out)) of_made
+      (λ a of_page out. fits a out)) of_made pushes.surely

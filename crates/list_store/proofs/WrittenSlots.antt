@@ -22,7 +22,9 @@ use Rattle.heap_model.specs.Slots.{HoldsStore}
 use Rattle.heap_model.proofs.CellsApart.{IsOfCell}
 use Rattle.heap_model.proofs.CellWords.{words_by_kind}
 use Rattle.write_barrier.specs.MutatorState.{Mutator, heap_of, MainShows, reserved}
-use Rattle.write_barrier.specs.Recording.{Remembers}
+use Rattle.write_barrier.specs.Storing.{StoresOn}
+use Rattle.object_cells.specs.SureCells.{RemembersSurely}
+use Rattle.object_cells.proofs.SureCells.{stores_keep_cells}
 use Rattle.object_cells.specs.Contents.{next_at}
 use Rattle.object_cells.specs.Made.{IsStoreAt, PutsWords, with_content, content_need, content_word}
 use Rattle.object_cells.specs.Made.{store_content}
@@ -253,12 +255,14 @@ module _ {old new : Mutator} {graph : Graph} {at slot count : ℕ} {list : ListO
       }
 
   -- and the graph is shown in which it is the last
-  pub slot_shown : Remembers old new (cell ∷ other ∷ []) (cell ∷ other ∷ [])
-      (made_boxes (store_content value) (next_at old)) → MainShows new (relist graph list becomes.after)
-  slot_shown remembered =
+  pub slot_shown : RemembersSurely old new (cell ∷ other ∷ []) (cell ∷ other ∷ [])
+      (made_boxes (store_content value) (next_at old)) → StoresOn old new
+      → MainShows new (relist graph list becomes.after)
+  slot_shown remembered stores =
       written_elements_show old new graph list cell (other ∷ []) (made_boxes (store_content value) (next_at old))
-      becomes.after known.shows known.is.object known.shown.carries known.shown.shows becomes.are_new
-      (takes_run need puts.beside room puts.young row) puts.paths takes.writes (element_refills puts_element) remembered
+      becomes.after known.shows known.is.object known.is.reached known.shown.carries known.shown.shows becomes.are_new
+      (takes_run need puts.beside room puts.young row) puts.paths takes.writes (element_refills puts_element)
+      remembered.remembers (stores_keep_cells list_owns known.shows takes.writes remembered stores)
 
   -- each store has as many slots as before
   pub slot_keeps : ChangesObjectUsing old new need cell.at (capacity_at (heap_of old) cell.at)

@@ -9,7 +9,7 @@ ghost use Rattle.object_cells.specs.HeldValues.{IsValueHeld};
 ghost use Rattle.object_cells.specs.ListObjects.{IsListAt, IsListReady};
 ghost use Rattle.object_cells.specs.Made.{RefusesRoom, content_need, store_content, is_wide_held};
 ghost use Rattle.heap_model.specs.Needs.{box_need, capacity_at, grown_list, list_store_need};
-ghost use Rattle.list_store.specs.Pushes.{CanChange, PushesToStore, PushesToNewStore};
+ghost use Rattle.list_store.specs.Pushes.{CanChange, MayPush, PushesToStore, PushesToNewStore};
 ghost use Rattle.list_store.specs.Pushes.{PushesAt};
 ghost use Rattle.list_store.specs.ListChanges.{IsShownSetting, PushesElement};
 
@@ -34,11 +34,13 @@ fn push_to_store(
     store: Store,
 ) -> Result<(), NoRoom>
     requires can { CanChange main.old list count store }
+    requires may { MayPush main.old list value }
     requires room { count < store.capacity }
     ensures ok { OnOk result (PushesToStore main.old main.new list count value store) }
     ensures refused { let need = content_need (store_content value) in
         IfErr result (RefusesRoom main.old main.new need) }
 {
+    main.addresses_fit();
     let content = content_for(value);
     let at = room_for(main, need_of(content))?;
     let word = boxed_word(main, content, at);
@@ -56,6 +58,7 @@ fn push_to_new_store(
     store: Store,
 ) -> Result<(), NoRoom>
     requires can { CanChange main.old list count store }
+    requires may { MayPush main.old list value }
     requires full { count ≡ store.capacity }
     requires few { count < list_most }
     ensures ok { OnOk result (PushesToNewStore main.old main.new list count value store) }
@@ -80,6 +83,7 @@ fn push_to_new_store(
 /// The value comes behind the elements of the list, to its store or to a new one.
 fn push_value(main: &mut Main, list: u32, count: u32, value: Held) -> Result<(), NoRoom>
     requires ready { IsListReady main.old list count }
+    requires may { MayPush main.old list value }
     requires few { count < list_most }
     ensures ok { OnOk result (PushesAt main.old main.new list count value) }
     ensures refused { let store = list_store_need (capacity_at (heap_of main.old) list) count in

@@ -4,9 +4,10 @@ ghost use Rattle.page_space.specs.Extents.{marks_start};
 ghost use Rattle.object_graph.specs.declared.value.Value.{Value as GraphValue};
 ghost use Rattle.object_graph.specs.Graphs.{Graph, ListObject};
 ghost use Rattle.heap_model.specs.Needs.{word_at};
+ghost use Rattle.heap_model.specs.Wholeness.{Whole};
 ghost use Rattle.write_barrier.specs.MutatorState.{heap_of, IsTied, MainShows};
-ghost use Rattle.object_cells.specs.CellsAt.{IsQuietWhole};
-ghost use Rattle.object_cells.specs.Contents.{HoldsSlotWord, FillsOrRefuses};
+ghost use Rattle.object_cells.specs.Contents.{HoldsSlotWord, FillsOrRefuses, filling_at};
+ghost use Rattle.object_cells.specs.CycleChanges.{MayFillSlot};
 ghost use Rattle.object_cells.specs.HeldValues.{IsValueHeld};
 ghost use Rattle.object_cells.specs.ListObjects.{IsListAt};
 ghost use Rattle.object_cells.specs.Made.{store_content};
@@ -22,11 +23,13 @@ use write_barrier::{Main, NoRoom};
 /// stands there, or in one that is made.
 #[inline(always)]
 fn fill_slot(main: &mut Main, store: u32, offset: u32, value: Held) -> Result<(), NoRoom>
-    requires whole { IsQuietWhole main.old }
+    requires whole { Whole (heap_of main.old) }
     requires tied { IsTied main.old }
     requires within { store + offset < marks_start main.old.seat.space }
     requires held { let word = word_at (heap_of main.old) (store + offset) in
         HoldsSlotWord (heap_of main.old) word (store_content value) }
+    requires may { let slot = store + offset in
+        MayFillSlot main.old slot (filling_at main.old slot (store_content value)) }
     ensures { let content = store_content value in
         FillsOrRefuses main.old main.new (store + offset) content result }
 {

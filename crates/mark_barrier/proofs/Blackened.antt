@@ -26,11 +26,14 @@ use Rattle.mark_world.specs.Steps.{black, free_slot_words, words_in_slots}
 use Rattle.shared_table.specs.declared.colour.Colour.{Colour}
 use Rattle.shared_table.specs.Colours.{number_of}
 use Rattle.shared_table.specs.Worlds.{world_at_home}
-use Rattle.heap_table.specs.Overviews.{overview, stepped}
+use Rattle.heap_table.specs.Overviews.{cycle_in, overview, stepped}
 use Rattle.heap_table.specs.Seats.{Seat}
+use Rattle.mark_barrier.specs.CycleSteps.{made_black}
 use Rattle.mark_barrier.specs.Owing.{EachTarget, IsToCome, Owes, own_cell, page_words_of, slot_word}
 use Rattle.mark_barrier.specs.Paid.{IsBlackened, ListsGrey, ListsAllBut, StepsTo}
 use Rattle.mark_barrier.specs.Waiting.{Waiting}
+use Rattle.mark_barrier.proofs.Listed.{black_still}
+use Rattle.mark_barrier.proofs.Steps.{IsFound, black_steps}
 
 module _ (seat : Seat) (at : ℕ) (colour : Colour) where
   abbrev main : MainView
@@ -40,8 +43,9 @@ module _ (seat : Seat) (at : ℕ) (colour : Colour) where
   blackened_seat = stepped seat (event.Blacken at) (number_of colour)
 
   -- it waits no more, and may be on the lists still
-  pub black_lists : (grey : Waiting) → ListsAllBut seat grey at → ListsGrey blackened_seat grey
-  black_lists grey lists = record {
+  pub black_lists : (grey : Waiting) → IsFound seat at (number_of colour) → ListsAllBut seat grey at
+      → ListsGrey blackened_seat grey
+  black_lists grey found lists = record {
     room = lists.room;
     waits = lists.waits;
     was = λ one on. elim (cases_eq one at) [
@@ -52,6 +56,9 @@ module _ (seat : Seat) (at : ℕ) (colour : Colour) where
       ]
     ];
     born = lists.born;
+    passed = black_still seat blackened_seat grey grey seat.table
+        (made_black (overview seat).old (overview seat).words (overview seat).layouts (cycle_in seat) at)
+        (black_steps seat at colour found).moves (λ one on. on) lists.passed;
   }
 
   -- where it was black nothing more is owed

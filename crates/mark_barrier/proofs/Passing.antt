@@ -1,5 +1,5 @@
 -- Listed cells that are black are passed over, until one is found that is not.
-use Rattle.std.proofs.Common.{◌≡◌, ◌≢◌, ◌↔◌, ◌<◌, inl, inr, ℕ, Bool, List, [], ◌∷◌, ◌++◌, All, Contains}
+use Rattle.std.proofs.Common.{◌≡◌, ◌≢◌, ◌↔◌, ◌<◌, inl, inr, ℕ, Bool, List, [], ◌∷◌, ◌++◌, Contains}
 use Rattle.std.proofs.Common.{IsTrue, refl, sym, ap, subst, ◌∙◌, append_assoc, append-nil}
 use Rattle.std.proofs.lemmas.Bool.{cases_eq}
 use Rattle.std.proofs.lemmas.List.Elements.{All-contains}
@@ -11,7 +11,7 @@ use Rattle.mark_laws.proofs.Joins.{all_from}
 use Rattle.mark_world.specs.Soundness.{AreIn}
 use Rattle.heap_table.specs.Overviews.{overview}
 use Rattle.heap_table.specs.Seats.{Seat}
-use Rattle.mark_barrier.specs.Paid.{FindsLast, FindsNone, IsBlackened, IsNotBlack, IsPaid, IsPassedOver}
+use Rattle.mark_barrier.specs.Paid.{FindsLast, FindsNone, IsNotBlack, IsPaid, PassedAreBlack}
 use Rattle.mark_barrier.specs.Waiting.{IsOn, Waiting}
 use Rattle.mark_barrier.proofs.Listed.{others_on}
 use Rattle.mark_barrier.proofs.Popped.{listed_before, still_listed, was_listed}
@@ -21,7 +21,6 @@ pub record Passes (seat : Seat) (before now : Waiting) : Type 0 where
   pub behind : List ℕ
   pub listed : before.list.addresses ≡ now.list.addresses ++ behind
   pub passed : AreIn now.passed.addresses behind
-  pub known : (at : ℕ) → Contains now.passed.addresses at → IsPassedOver seat before at
   pub paid : IsPaid seat now
 
 -- at first none is
@@ -30,7 +29,6 @@ passes_none seat grey paid = record {
   behind = [];
   listed = sym (append-nil grey.list.addresses);
   passed = all_from (Contains grey.passed.addresses) [] (λ at on. absurd (in_none [] at refl on));
-  known = λ at on. inr on;
   paid = paid;
 }
 
@@ -43,7 +41,6 @@ finds_none seat before mid passes none =
     record {
       none = none;
       passed = subst (AreIn mid.passed.addresses) (sym all) passes.passed;
-      known = passes.known;
       paid = passes.paid;
     }
 
@@ -55,7 +52,7 @@ pub record LooksAt (seat : Seat) (mid now : Waiting) (at : ℕ) (result : Bool) 
   pub bound : now.passed.bound ≡ mid.passed.bound
   pub told : IsTrue result ↔ Contains now.passed.addresses at
   pub mine : Contains (overview seat).view.mine at → IsTrue result
-  pub black : IsTrue result → IsPassedOver seat mid at
+  pub black : PassedAreBlack seat now
   pub not_black : ¬ IsTrue result → IsNotBlack seat at
   pub others : (one : ℕ) → one ≢ at
       → Contains now.passed.addresses one ↔ Contains mid.passed.addresses one
@@ -66,7 +63,7 @@ pub looks_at : (seat turn : Seat) (mid popped now : Waiting) (at : ℕ) (result 
     → mid.list ≡ pushed popped.list at → (Contains popped.list.addresses at → ⊥)
     → popped.list.bound ≡ mid.list.bound → popped.passed ≡ mid.passed → now.list ≡ popped.list
     → now.passed.bound ≡ popped.passed.bound → (IsTrue result ↔ Contains now.passed.addresses at)
-    → (Contains (overview turn).view.mine at → IsTrue result) → (IsTrue result → IsPassedOver turn popped at)
+    → (Contains (overview turn).view.mine at → IsTrue result) → PassedAreBlack turn now
     → (¬ IsTrue result → IsNotBlack turn at)
     → ((one : ℕ) → one ≢ at → Contains now.passed.addresses one ↔ Contains popped.passed.addresses one)
     → (Contains popped.passed.addresses at → IsTrue result) → LooksAt seat mid now at result
@@ -78,10 +75,7 @@ looks_at seat turn mid popped now at result same last gone bound passed list roo
       bound = room ∙ ap (λ (l : Listing). l.bound) passed;
       told = told;
       mine = subst (λ (s : Seat). Contains (overview s).view.mine at → IsTrue result) same mine;
-      black = λ is. elim (black is) [
-        | inl looked ↦ inl (subst (λ (s : Seat). IsBlackened s at) same looked)
-        | inr was ↦ inr (subst (λ (l : Listing). Contains l.addresses at) passed was)
-      ];
+      black = subst (λ (s : Seat). PassedAreBlack s now) same black;
       not_black = subst (λ (s : Seat). ¬ IsTrue result → IsNotBlack s at) same bright;
       others = subst (λ (l : Listing). (one : ℕ) → one ≢ at
           → Contains now.passed.addresses one ↔ Contains l.addresses one) passed others;
@@ -108,16 +102,6 @@ module _ (seat : Seat) (before mid now : Waiting) (at : ℕ) (result : Bool) (pa
   behind_on : AreIn now.passed.addresses passes.behind
   behind_on = all_from (Contains now.passed.addresses) passes.behind (λ one on.
       passed_on one (All-contains (Contains mid.passed.addresses) passes.behind one passes.passed on))
-
-  -- what is passed over is black, or was passed over before
-  known_then : IsTrue result → (one : ℕ) → Contains now.passed.addresses one → IsPassedOver seat before one
-  known_then is one on = elim (cases_eq one at) [
-    | inl same ↦ subst (IsPassedOver seat before) (sym same) (elim (looks.black is) [
-      | inl black ↦ inl black
-      | inr was ↦ passes.known at was
-    ])
-    | inr other ↦ passes.known one ((looks.others one other).0 on)
-  ]
 
   -- what is on the lists was on them
   on_before : (one : ℕ) → IsOn now one → IsOn mid one
@@ -146,7 +130,6 @@ module _ (seat : Seat) (before mid now : Waiting) (at : ℕ) (result : Bool) (pa
           | inl same ↦ subst (Contains now.passed.addresses) same (looks.told.0 is)
           | inr later ↦ All-contains (Contains now.passed.addresses) passes.behind one behind_on later
         ]);
-    known = known_then is;
     paid = record {
       lists = record {
         room = record {
@@ -159,17 +142,11 @@ module _ (seat : Seat) (before mid now : Waiting) (at : ℕ) (result : Bool) (pa
         ];
         was = λ one on. passes.paid.lists.was one (on_before one on);
         born = λ one on. passes.paid.lists.born one (on_before one on);
+        passed = looks.black;
       };
       owed = passes.paid.owed;
     };
   }
-
-  -- what is passed over then was so already, where the cell was not
-  known_still : (IsTrue result → ⊥) → (one : ℕ) → Contains now.passed.addresses one → IsPassedOver seat before one
-  known_still other one on = elim (cases_eq one at) [
-    | inl same ↦ absurd (other (looks.told.1 (subst (Contains now.passed.addresses) same on)))
-    | inr apart ↦ passes.known one ((looks.others one apart).0 on)
-  ]
 
   -- another one waits
   pub finds_last : (IsTrue result → ⊥) → at < eden_start seat.space → FindsLast seat before now at
@@ -177,7 +154,6 @@ module _ (seat : Seat) (before mid now : Waiting) (at : ℕ) (result : Bool) (pa
     behind = passes.behind;
     listed = listed_then;
     passed = behind_on;
-    known = known_still other;
     not_black = looks.not_black other;
     waits = elim (passes.paid.lists.was at (inl (was_listed mid.list now.list at looks.last))) [
       | inl waits ↦ waits
@@ -189,6 +165,6 @@ module _ (seat : Seat) (before mid now : Waiting) (at : ℕ) (result : Bool) (pa
     lists = others_on seat mid now at passes.paid.lists (record {
       list = looks.list;
       passed = looks.bound ∙ passes.paid.lists.room.passed ∙ sym passes.paid.lists.room.list;
-    }) others_still on_before;
+    }) others_still on_before looks.black;
     owed = passes.paid.owed;
   }

@@ -41,6 +41,7 @@ module _ (list rest : Listing) (at : ℕ) (last : list ≡ pushed rest at) where
         | inr over ↦ inr over
       ];
       none_more = λ one on. elim on [ inl listed ↦ inl (listed_before one listed) | inr over ↦ inr over ];
+      over = λ one on. on;
       fewer = omega (arith, one_fewer);
     }
 
@@ -55,6 +56,7 @@ module _ (list rest : Listing) (at : ℕ) (last : list ≡ pushed rest at) where
         | inr over ↦ inr (still_listed one over apart)
       ];
       none_more = λ one on. elim on [ inl listed ↦ inl listed | inr over ↦ inr (listed_before one over) ];
+      over = listed_before;
       fewer = omega (arith, one_fewer);
     }
 

@@ -87,4 +87,4 @@ taken_off seat grey rest at lists off =
     others_on seat grey rest at lists (record {
       list = off.list;
       passed = off.passed ∙ lists.room.passed ∙ sym lists.room.list;
-    }) off.others off.none_more
+    }) off.others off.none_more (λ one on. lists.passed one (off.over one on))

@@ -1,5 +1,5 @@
 -- What holds between the whole steps of the mutator, and what such a step leaves.
-use Rattle.std.specs.Prelude.{◌≡◌, ◌≢◌, ◌⊎◌, ℕ, ◌+◌, ◌<◌, ◌≤◌, ◌==◌, true, IsTrue, is_some, List, [], ◌∷◌, ◌++◌, All}
+use Rattle.std.specs.Prelude.{◌≡◌, ◌≢◌, ◌⊎◌, ℕ, ◌+◌, ◌<◌, ◌≤◌, ◌==◌, true, IsTrue, is_some, List, [], ◌∷◌, ◌++◌}
 use Rattle.std.specs.Prelude.{Contains}
 use Rattle.std.specs.Prelude.{length, replicate, slice_index, slice_set, Option, Some, None, count_by}
 use Rattle.page_space.specs.Extents.{eden_start}
@@ -18,13 +18,22 @@ use Rattle.shared_table.specs.Worlds.{world_at_home}
 use Rattle.heap_table.specs.Overviews.{cycle_in, known, overview, unopened}
 use Rattle.heap_table.specs.Seats.{Seat}
 
+-- where colours are at home, that of a cell is black
+abbrev pub IsBlackened : Seat → ℕ → Type 0
+IsBlackened seat at = (overview seat).home ≡ true → slice_index (overview seat).colours at ≡ black
+
+-- where colours are at home, each cell that was passed over is black
+abbrev pub PassedAreBlack : Seat → Waiting → Type 0
+PassedAreBlack seat grey = (at : ℕ) → Contains grey.passed.addresses at → IsBlackened seat at
+
 -- Each cell that waits with the mutator is listed or passed over. Each cell that is so is born, and waits or is one
--- that the mutator made black.
+-- that the mutator made black. Where colours are at home, those that were passed over are black.
 pub record ListsGrey (seat : Seat) (grey : Waiting) : Type 0 where
   pub room : HasRoom grey (eden_start seat.space)
   pub waits : (at : ℕ) → Contains (overview seat).view.grey at → IsOn grey at
   pub was : (at : ℕ) → IsOn grey at → Contains (overview seat).view.grey at ⊎ Contains (overview seat).view.mine at
   pub born : (at : ℕ) → IsOn grey at → Contains (overview seat).view.born at
+  pub passed : PassedAreBlack seat grey
 
 -- The same, but that one cell that waits may be on neither list.
 pub record ListsAllBut (seat : Seat) (grey : Waiting) (cell : ℕ) : Type 0 where
@@ -32,6 +41,7 @@ pub record ListsAllBut (seat : Seat) (grey : Waiting) (cell : ℕ) : Type 0 wher
   pub waits : (at : ℕ) → Contains (left (overview seat).view.grey cell) at → IsOn grey at
   pub was : (at : ℕ) → IsOn grey at → Contains (overview seat).view.grey at ⊎ Contains (overview seat).view.mine at
   pub born : (at : ℕ) → IsOn grey at → Contains (overview seat).view.born at
+  pub passed : PassedAreBlack seat grey
 
 -- Grey cells that wait with the mutator are on its lists, and it owes nothing.
 pub record IsPaid (seat : Seat) (grey : Waiting) : Type 0 where
@@ -70,8 +80,9 @@ pub record StepsTo (old new : Seat) (words : List ℕ) (its_cycle : Cycle) : Typ
   pub moves : MovesTo old new words its_cycle
   pub board : IsTakenFrom (overview old).board (overview new).board
 
--- A place of the board was taken from, by one step that found a word there. The cell that it refers to, if any, waits
--- with the mutator then.
+-- A place of the board was taken from, by one step that found a word there: the one that the place had, where the
+-- board is at home. The place has 0 then, the step is in the log, and the cell that the word refers to, if any, waits
+-- with the mutator.
 pub record Takes (old new : Seat) (place : ℕ) : Type 0 where
   pub found : ℕ
   pub there : (overview old).home ≡ true → found ≡ slice_index (overview old).board place
@@ -79,8 +90,9 @@ pub record Takes (old new : Seat) (place : ℕ) : Type 0 where
   pub log : (overview new).view.log ≡ noted (overview old).view.log (Took place found)
   pub grey : (overview new).view.grey ≡ taker_joined (overview old).view.grey found
 
--- A cell was given to a place of the board, by one step that found a word there. Where that was not 0, the place keeps
--- it, and the cell waits with the mutator still.
+-- A cell was given to a place of the board, by one step that found a word there: the one that the place had, where the
+-- board is at home. Where that was 0, the place has a reference to the cell then, and the cell does not wait with the
+-- mutator. Else the place keeps its word, and what waits with the mutator is as it was. The step is in the log.
 pub record IsGivenTo (old new : Seat) (place at : ℕ) : Type 0 where
   pub found : ℕ
   pub there : (overview old).home ≡ true → found ≡ slice_index (overview old).board place
@@ -88,25 +100,17 @@ pub record IsGivenTo (old new : Seat) (place at : ℕ) : Type 0 where
   pub log : (overview new).view.log ≡ noted (overview old).view.log (Gave place found)
   pub grey : (overview new).view.grey ≡ giver_left (overview old).view.grey found at
 
--- where colours are at home, that of a cell is black
-abbrev pub IsBlackened : Seat → ℕ → Type 0
-IsBlackened seat at = (overview seat).home ≡ true → slice_index (overview seat).colours at ≡ black
-
 -- where colours are at home, that of a cell is not black
 abbrev pub IsNotBlack : Seat → ℕ → Type 0
 IsNotBlack seat at = (overview seat).home ≡ true → slice_index (overview seat).colours at ≢ black
 
--- A cell is black where colours are at home, or was passed over before.
-abbrev pub IsPassedOver : Seat → Waiting → ℕ → Type 0
-IsPassedOver seat before at = IsBlackened seat at ⊎ Contains before.passed.addresses at
-
--- Of the listed cells the last one was found that waits and is not black. It is on neither list any more. Those that
--- were listed after it are passed over. No cell is that is neither black nor was passed over before.
+-- Of the listed cells the last one was found that is not passed over. It waits, it is not black where colours are at
+-- home, and it is on neither list any more. Those that were listed after it are passed over: they were before, or were
+-- found black. So where colours are at home it is the last listed cell that is not black.
 pub record FindsLast (seat : Seat) (before after : Waiting) (at : ℕ) : Type 0 where
   pub behind : List ℕ
   pub listed : before.list.addresses ≡ after.list.addresses ++ at ∷ behind
   pub passed : AreIn after.passed.addresses behind
-  pub known : (one : ℕ) → Contains after.passed.addresses one → IsPassedOver seat before one
   pub not_black : IsNotBlack seat at
   pub waits : Contains (overview seat).view.grey at
   pub born : Contains (overview seat).view.born at
@@ -115,15 +119,14 @@ pub record FindsLast (seat : Seat) (before after : Waiting) (at : ℕ) : Type 0 
   pub lists : ListsAllBut seat after at
   pub owed : (overview seat).view.owed ≡ []
 
--- No listed cell was found that is not black: each is passed over, and no cell that is neither black nor was passed
--- over before.
+-- Each listed cell is passed over, and none is listed any more. So where colours are at home each is black.
 pub record FindsNone (seat : Seat) (before after : Waiting) : Type 0 where
   pub none : after.list.addresses ≡ []
   pub passed : AreIn after.passed.addresses before.list.addresses
-  pub known : (one : ℕ) → Contains after.passed.addresses one → IsPassedOver seat before one
   pub paid : IsPaid seat after
 
--- The last listed cell that waits and is not black was given. Those that were listed after it are passed over.
+-- The last listed cell that is not passed over was given to a place of the board. Those that were listed after it are
+-- passed over. It is on neither list then, unless the place had a word.
 pub record GivesLast (old new : Seat) (before after : Waiting) (place : ℕ) : Type 0 where
   pub at : ℕ
   pub found : Waiting
@@ -131,7 +134,7 @@ pub record GivesLast (old new : Seat) (before after : Waiting) (place : ℕ) : T
   pub passed : after.passed ≡ found.passed
   pub given : IsGivenTo old new place at
 
--- a listed cell that waits and is not black was given, if there was one
+-- the last listed cell that is not passed over was given, if there was one; else the seat is as it was
 abbrev pub Gives : Seat → Seat → Waiting → Waiting → ℕ → Type 0
 Gives old new before after place =
     (FindsNone old before after × (new ≡ old)) ⊎ GivesLast old new before after place

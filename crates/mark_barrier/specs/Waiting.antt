@@ -32,11 +32,12 @@ empty_to bound = record {
 abbrev pub count_on : Waiting → ℕ
 count_on waiting = length waiting.list.addresses + length waiting.passed.addresses
 
--- one cell was taken off, and no other; there is as much room as before
+-- One cell was taken off, and no other. None is passed over that was not. There is as much room as before.
 pub record TakesOff (old new : Waiting) (at : ℕ) : Type 0 where
   pub list : new.list.bound ≡ old.list.bound
   pub passed : new.passed.bound ≡ old.passed.bound
   pub was : IsOn old at
   pub others : (one : ℕ) → IsOn old one → one ≢ at → IsOn new one
   pub none_more : (one : ℕ) → IsOn new one → IsOn old one
+  pub over : (one : ℕ) → Contains new.passed.addresses one → Contains old.passed.addresses one
   pub fewer : count_on new + 1 ≡ count_on old

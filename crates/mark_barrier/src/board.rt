@@ -5,7 +5,7 @@ ghost use Rattle.cell_list.specs.Listing.{pushed};
 ghost use Rattle.shared_table.specs.declared.phase.Phase.TheVariants.{Mark};
 ghost use Rattle.heap_table.specs.Overviews.{cycle_in, overview};
 ghost use Rattle.mark_barrier.specs.Paid.{FindsLast, FindsNone, Gives, IsGivenTo, IsPaid, ListsAllBut, MovesTo};
-ghost use Rattle.mark_barrier.specs.Paid.{IsNotBlack, IsPassedOver, StepsTo, Takes};
+ghost use Rattle.mark_barrier.specs.Paid.{IsNotBlack, PassedAreBlack, StepsTo, Takes};
 ghost use Rattle.mark_barrier.specs.Waiting.{IsOn};
 
 use crate::grey_cells::GreyCells;
@@ -30,8 +30,8 @@ impl GreyCells {
         }
     }
 
-    /// Gives the cell that was listed last, of those that are not black, to a place of the board, if no cell stands
-    /// there. Else it stays listed. Black ones are passed over.
+    /// Gives the cell that was listed last, of those that are not passed over, to a place of the board, if no cell
+    /// stands there. Else it stays listed. Black ones are passed over.
     pub fn give(&mut self, seat: &mut MainSeat, place: u32)
         requires mark { seat.old.phase ≡ Mark }
         requires paid { IsPaid seat.old self.old }
@@ -46,8 +46,8 @@ impl GreyCells {
         }
     }
 
-    /// Takes the cell off the list that was listed last, of those that are not black: it waits. Black ones that were
-    /// listed after it are passed over. None where each listed one is black.
+    /// Takes the cell off the list that was listed last, of those that are not passed over: it waits. Black ones that
+    /// were listed after it are passed over. None where each listed one is.
     fn last_not_black(&mut self, seat: &mut MainSeat) -> Option<u32>
         requires mark { seat.old.phase ≡ Mark }
         requires paid { IsPaid seat.old self.old }
@@ -81,12 +81,13 @@ impl GreyCells {
         requires mark { seat.old.phase ≡ Mark }
         requires within { at < eden_start seat.old.space }
         requires room { self.old.passed.bound ≡ eden_start seat.old.space }
+        requires black { PassedAreBlack seat.old self.old }
         ensures same { seat.new ≡ seat.old }
         ensures list { self.new.list ≡ self.old.list }
         ensures bound { self.new.passed.bound ≡ self.old.passed.bound }
         ensures told { IsTrue result ↔ Contains self.new.passed.addresses at }
         ensures mine { Contains (overview seat.old).view.mine at → IsTrue result }
-        ensures black { IsTrue result → IsPassedOver seat.old self.old at }
+        ensures black { PassedAreBlack seat.old self.new }
         ensures not_black { ¬ IsTrue result → IsNotBlack seat.old at }
         ensures others { (one : ℕ) → one ≢ at
             → Contains self.new.passed.addresses one ↔ Contains self.old.passed.addresses one }

@@ -27,7 +27,7 @@ use tagged_word::{NoMemory, Word};
 pub struct GreyCells {
     pub(crate) list: CellList,
     // Cells that were found black when one was to be given. They are kept, since one of them may wait still, and apart,
-    // so that each is looked at once.
+    // so that each is looked at once. When a seat comes back they are listed again.
     pub(crate) passed: CellList,
 }
 

@@ -11,8 +11,8 @@ use cell_list::CellList;
 use heap_table::{HelperSeat, MainSeat};
 
 impl GreyCells {
-    /// Takes a seat back that the main seat lent, and lists the cells that waited with it. After the last one the
-    /// colours and the board are known again.
+    /// Takes a seat back that the main seat lent, and lists the cells that waited with it. Those that were passed over
+    /// are listed again. After the last seat the colours and the board are known again.
     pub fn take_back(&mut self, seat: &mut MainSeat, helper: HelperSeat, waiting: &mut CellList)
         requires mark { seat.old.phase ≡ Mark }
         requires paid { IsPaid seat.old self.old }
@@ -23,7 +23,7 @@ impl GreyCells {
         requires listed { (at : ℕ) → Contains waiting.old.addresses at ↔ Contains helper.lent.view.grey at }
         requires room { waiting.old.bound ≤ eden_start seat.old.space }
         ensures paid { IsPaid seat.new self.new }
-        ensures passed { self.new.passed ≡ self.old.passed }
+        ensures passed { self.new.passed.addresses ≡ [] }
         ensures taken { 1 < (overview seat.old).out →
             seat.new ≡ knowing seat.old seat.old.table (taking (overview seat.old) helper.lent.view) }
         ensures last { (overview seat.old).out ≡ 1 → (colours : List ℕ) × (board : List ℕ)
@@ -36,5 +36,8 @@ impl GreyCells {
         seat.sound();
         self.list.join(waiting);
         waiting.clear();
+        // The colours may be known from now on, and tell nothing of those that were found black before.
+        self.list.join(&self.passed);
+        self.passed.clear();
     }
 }

@@ -1,11 +1,9 @@
--- The mutator's part, and what is known, but of the cells that it is making or changing, along lists of events.
+-- The mutator's part, but for the cells that it is making or changing, along lists of events.
 use Rattle.std.proofs.Common.{ℕ, List, [], ◌∷◌}
 use Rattle.mark_laws.specs.Types.{Event, World}
 use Rattle.mark_world.specs.AfterEvents.{after, after_all}
 use Rattle.mark_world.specs.Unfinished.{EachSpares, SettlingBut, made_after, made_after_all}
-use Rattle.mark_world.specs.Knowing.{EachSparesKnown, KnownBut}
 use Rattle.mark_laws.specs.Runs.{IsSoundAndBorn}
-use Rattle.mark_laws.proofs.Knowing.{known_stays}
 use Rattle.mark_laws.proofs.SettlingSteps.{settling_stays}
 use Rattle.mark_laws.proofs.SoundWorlds.{sound_stays}
 
@@ -17,12 +15,3 @@ settling_along world made [] whole has spare = has
 settling_along world made (of ∷ rest) whole has spare =
     settling_along (after world of) (made_after made of) rest (sound_stays world of whole.0 whole.1 spare.0)
     (settling_stays world made of whole.0.cells has spare.0 spare.1) spare.2
-
--- what is known stays so but of these cells
-pub known_along : (world : World) (made roots young reached : List ℕ) (count : ℕ) (events : List Event)
-    → KnownBut world made roots young reached count → EachSparesKnown world made young events
-    → KnownBut (after_all world events) (made_after_all made events) roots young reached count
-known_along world made roots young reached count [] known spare = known
-known_along world made roots young reached count (of ∷ rest) known spare =
-    known_along (after world of) (made_after made of) roots young reached count rest
-    (known_stays world made roots young reached count of known spare.0 spare.1) spare.2

@@ -70,12 +70,7 @@ pub mod SettlingSteps
 pub mod Settled
 pub mod RestartSettles
 pub mod MainStays
-pub mod KnownCells
-pub mod AnyCells
-pub mod Knowing
-pub mod KnowingStores
 pub mod ChangeSteps
 pub mod Changes
 pub mod BetweenRuns
 pub mod ChangesEnd
-pub mod KnownChanges

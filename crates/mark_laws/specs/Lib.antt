@@ -16,6 +16,4 @@ pub mod Visits
 pub mod Growing
 pub mod Settling
 pub mod Changes
-pub mod KnownChanges
 pub mod LayoutChanges
-pub mod Knowing

@@ -1,11 +1,8 @@
 //! What holds between the steps of a command, and what only grows.
 ghost use Rattle.mark_laws.specs.Changes.{ApartIsSpared, ChangesKeep, ChangesSettle, StoredIsSure, WordsAreStored};
 ghost use Rattle.mark_laws.specs.LayoutChanges.{LayoutChangesSettle};
-ghost use Rattle.mark_laws.specs.KnownChanges.{BesideIsSpared};
 ghost use Rattle.mark_laws.specs.Growing.{ListsGrow, ListsGrowAlong, MomentsGrow};
 ghost use Rattle.mark_laws.specs.Growing.{LendCounts, ReturnCounts, OthersKeepCount, NoneIsZero};
-ghost use Rattle.mark_laws.specs.Knowing.{NoneMadeIsKnown, MoreMayBeUnknown, KnownLeaves, RootsMayChange};
-ghost use Rattle.mark_laws.specs.Knowing.{YoungMayJoin, KnownAlong, KnownStays};
 ghost use Rattle.mark_laws.specs.Settling.{AllDoneLeave, DoneLeaves, MoreMayBeMade, NoneMadeIsSettled};
 ghost use Rattle.mark_laws.specs.Settling.{NoneOwedIsSettled};
 ghost use Rattle.mark_laws.specs.Settling.{PaidLeaves, SettlingAlong, SettlingStays, SettledStays, ShadesSettle};
@@ -36,18 +33,6 @@ pub fn laws_of_settling()
     ensures shades { ShadesSettle }
     ensures settle { StepsSettle }
     ensures along { SettlingAlong }
-{}
-
-/// What is known, but of the cells that the mutator is making or changing, from step to step.
-pub fn laws_of_knowing()
-    ensures none_made { NoneMadeIsKnown }
-    ensures more { MoreMayBeUnknown }
-    ensures leaves { KnownLeaves }
-    ensures roots { RootsMayChange }
-    ensures young { YoungMayJoin }
-    ensures stays { KnownStays }
-    ensures along { KnownAlong }
-    ensures beside { BesideIsSpared }
 {}
 
 /// Changes of cells among a list of events, whatever helpers do in between: what they store, and that

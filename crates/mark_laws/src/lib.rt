@@ -15,7 +15,7 @@ mod snapshots;
 mod soundness;
 mod steadiness;
 
-pub use between::{laws_of_changes, laws_of_growing, laws_of_knowing, laws_of_settling};
+pub use between::{laws_of_changes, laws_of_growing, laws_of_settling};
 pub use births::laws_of_births;
 pub use cycles::{laws_of_cycles, laws_of_pages};
 pub use ends::laws_of_ends;

@@ -11,4 +11,3 @@ pub mod BetweenCommands
 pub mod Cycles
 pub mod OneLayouts
 pub mod Unfinished
-pub mod Knowing

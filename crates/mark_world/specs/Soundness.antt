@@ -119,7 +119,8 @@ abbrev pub HasSnaps : World → Type 0
 HasSnaps world =
     All (λ view. IfSome view.snap (λ snap. colour_of world snap.cell ≡ grey → IsTrueSnap world snap)) world.helpers
 
--- The world is sound: no event from here on can lose a cell that was reached when the cycle began.
+-- The world is sound: from here on no event loses a cell that is reached without cells that the mutator made black. Of
+-- the slots of these `Settled` speaks.
 pub record Sound (world : World) : Type 0 where
   pub sizes : HasSizes world
   pub cells : HasCells world

@@ -58,6 +58,7 @@ pub record BindsFirst (old mid bound new : Mutator) (x at : ℕ) (one : NewCell)
   pub put : new.seat ≡ (with_table bound (with_range bound.seat.table at one.words)).seat
   pub paths : new.paths ≡ bound.paths
   pub young : new.young ≡ bound.young
+  pub cycle : new.cycle ≡ bound.cycle
   pub touches : Touches bound new (new_touch one.head one.size at)
   pub within : at + length one.words ≤ length mid.seat.table
   pub behind : at + length one.words ≤ root_at mid.seat.space x
@@ -110,6 +111,7 @@ module _ {old mid bound new : Mutator} {x at : ℕ} {one : NewCell} (binds : Bin
     heap = refl;
     paths = binds.paths ∙ ap (λ (main : Mutator). main.paths) binds.held;
     young = binds.young ∙ ap (λ (main : Mutator). main.young) binds.held;
+    cycle = binds.cycle ∙ ap (λ (main : Mutator). main.cycle) binds.held;
     touches = touches;
     holds = record {
       held = ap (λ (seat : Seat). record new { seat = seat }) seat_is;

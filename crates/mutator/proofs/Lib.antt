@@ -21,6 +21,8 @@ pub mod PutCells
 mod PutRows
 mod MadeRecords
 pub mod MadeHeaps
+pub mod CalmHeaps
+mod Makings
 mod MadeObjects
 pub mod MadeCells
 pub mod FieldMeanings

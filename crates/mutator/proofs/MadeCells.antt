@@ -23,7 +23,7 @@ use Rattle.object_cells.specs.Contents.{next_at}
 use Rattle.mutator.proofs.PutCells.{with_cell_words}
 use Rattle.heap_command.specs.declared.command.Command.TheVariants as command
 use Rattle.mutator.proofs.MadeHeaps.{IsSoundNewCell, made_heap, room_for}
-use Rattle.mutator.proofs.MadeObjects.{IsMaking}
+use Rattle.mutator.proofs.Makings.{IsMaking}
 
 -- what `new` makes
 pub plain_making : (graph : Graph) (x cap : ℕ) → FitsCommand (command.New x cap)

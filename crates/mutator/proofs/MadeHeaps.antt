@@ -1,6 +1,6 @@
 -- How an object is made: words are taken, its cell is put there, and a variable holds it.
 use Rattle.std.proofs.Common.{◌≡◌, ℕ, ◌<◌, List, length, sym}
-use Rattle.std.proofs.Common.{refl, ◌∙◌, ap, arith}
+use Rattle.std.proofs.Common.{refl, ◌∙◌, ap, subst, arith}
 use Rattle.heap_model.specs.Types.{Object, Path}
 use Rattle.tagged_word.specs.Layouts.{layout_bits}
 use Rattle.tagged_word.specs.Shapes.{shapes_most}
@@ -8,7 +8,7 @@ use Rattle.object_graph.specs.Graphs.{Graph, make}
 use Rattle.object_graph.specs.Reach.{reach}
 use Rattle.page_space.specs.Extents.{Space}
 use Rattle.shape_tree.specs.ShapeLayouts.{layout_word}
-use Rattle.nursery.specs.Young.{Young, HasRoom, bumped}
+use Rattle.nursery.specs.Young.{Young, HasRoom, bumped, next_of}
 use Rattle.handle_roots.specs.declared.held.Held.TheVariants as held
 use Rattle.handle_roots.specs.Roots.{with_root}
 use Rattle.write_barrier.specs.Seats.{Seat, heap_words}
@@ -19,7 +19,9 @@ use Rattle.heap_model.specs.Laws.{bound}
 use Rattle.write_barrier.specs.MutatorState.{Mutator, heap_of, MainShows, reserved}
 use Rattle.write_barrier.specs.MutatorState.{with_table}
 use Rattle.write_barrier.specs.Recording.{Touches}
+use Rattle.write_barrier.specs.Storing.{IsMadeYoung}
 use Rattle.write_barrier.specs.Values.{with_range}
+use Rattle.write_barrier.proofs.StoresOn.{next_is_young}
 use Rattle.object_cells.specs.Contents.{next_at}
 use Rattle.object_cells.proofs.TakenRuns.{room_stays, taken_run}
 use Rattle.object_cells.proofs.UnusedWords.{next_run}
@@ -61,8 +63,16 @@ pub record MakesObject (old mid filled new : Mutator) (x at : ℕ) (one : NewCel
   pub heap : heap_words filled.seat ≡ with_range (heap_words mid.seat) at one.words
   pub paths : filled.paths ≡ mid.paths
   pub young : filled.young ≡ mid.young
+  pub cycle : filled.cycle ≡ mid.cycle
   pub touches : Touches mid filled (new_touch one.head one.size at)
   pub holds : HoldsAnew filled new x (held.Ref at)
+
+-- where words are taken for a cell, it is young if a cycle is open
+pub run_is_young : {old mid : Mutator} {graph : Graph} {at : ℕ} (more : ℕ) → mid ≡ reserved old more
+    → at ≡ next_of old.young → MainShows old graph → IsMadeYoung mid at
+run_is_young {at = at} more taken next shows =
+    subst (λ (main : Mutator). IsMadeYoung main at) (sym taken)
+    (λ mark. let young = next_is_young shows mark in omega (arith, young, next))
 
 -- the heap with the cell
 abbrev pub made_heap : Mutator → NewCell → Heap
@@ -78,6 +88,10 @@ module _ {old mid filled new : Mutator} {x at : ℕ} {one : NewCell}
   pub filled_seat : filled.seat ≡ (with_table old (with_range old.seat.table at one.words)).seat
   filled_seat =
       makes.put ∙ ap (λ (main : Mutator). (with_table main (with_range main.seat.table at one.words)).seat) makes.taken
+
+  -- what is known of the cycle stays
+  pub filled_cycle : filled.cycle ≡ old.cycle
+  filled_cycle = makes.cycle ∙ ap (λ (main : Mutator). main.cycle) makes.taken
 
   pub filled_space : filled.seat.space ≡ old.seat.space
   filled_space = ap (λ (seat : Seat). seat.space) filled_seat

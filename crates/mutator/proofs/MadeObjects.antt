@@ -1,38 +1,35 @@
 -- A heap in which an object was made and bound shows the graph in which it is.
 use Rattle.std.proofs.Common.{◌≡◌, ℕ, ◌+◌, ◌<◌, ◌≤◌, ◌^◌, List, [], ◌∷◌, length, Ok, Err, sym}
-use Rattle.std.proofs.Common.{refl, ◌∙◌, ap, subst, arith, inl, inr}
+use Rattle.std.proofs.Common.{refl, ◌∙◌, ap, subst, arith}
 use Rattle.heap_model.specs.Types.{Command, Object, Cell, Held, Run}
 use Rattle.tagged_word.proofs.Members.{one_in}
-use Rattle.object_graph.specs.declared.object.Object.TheVariants.{Weak}
 use Rattle.object_graph.specs.Graphs.{Graph, make}
-use Rattle.object_graph.specs.Meaning.{done, meaning}
+use Rattle.object_graph.specs.Reach.{reach}
+use Rattle.object_graph.specs.Meaning.{done}
 use Rattle.object_graph.specs.Limits.{ideal_limits}
-use Rattle.object_graph.specs.Invariants.{IsGraph, IsObject, IsEntry}
-use Rattle.graph_laws.specs.GraphLaws.{FitsCommand}
 use Rattle.graph_laws.proofs.FieldLimits.{ideal_field_limit}
 use Rattle.graph_laws.proofs.GraphsStay.{graphs_stay}
-use Rattle.graph_laws.proofs.NothingNew.{only_made_is_new}
 use Rattle.page_space.specs.Extents.{Space, eden_start, marks_start}
 use Rattle.nursery.specs.Young.{Young, HasRoom, other_half}
 use Rattle.handle_roots.specs.declared.held.Held.TheVariants as held
 use Rattle.write_barrier.specs.Seats.{Seat, RestStays}
 use Rattle.write_barrier.specs.Staying.{rest_stays_again}
-use Rattle.heap_model.specs.Heaps.{Heap}
+use Rattle.heap_model.specs.Heaps.{Heap, words_of_cell}
 use Rattle.heap_model.specs.Wholeness.{Whole}
 use Rattle.heap_model.specs.Changes.{AreFillers, CellsChange, IsOwnChange}
 use Rattle.heap_model.specs.Collectable.{IsCollectable, AreFreeRuns}
 use Rattle.heap_model.specs.Remembered.{AreRemembered, TouchesCells}
-use Rattle.heap_model.specs.Rooms.{Room, bare_room, need_of, rooms_after, with_room}
 use Rattle.heap_model.specs.Showing.{Shows}
-use Rattle.heap_model.specs.Laws.{IsNoEntryKey, ReachesOneMore, bound}
-use Rattle.heap_model.proofs.SlotWords.{All-slice_get}
+use Rattle.heap_model.specs.Laws.{bound}
 use Rattle.heap_model.proofs.NewObjects.{new_objects_show}
+use Rattle.heap_model.proofs.ShownObjects.{object_of_shown}
 use Rattle.heap_model.proofs.RememberedAlike.{bound_stays_remembered}
 use Rattle.heap_model.proofs.StaysCollectable.{own_changes_stay_collectable, bound_stays_collectable}
 use Rattle.heap_model.proofs.FreeStays.{own_changes_keep_free, bound_keeps_free, bound_keeps_fillers}
-use Rattle.write_barrier.specs.MutatorState.{Mutator, heap_of, AreGranted, AvoidsFree, IsTied, MainShows}
+use Rattle.write_barrier.specs.MutatorState.{Mutator, heap_of, AreGranted, AvoidsFree, IsCalm, IsTied, MainShows}
 use Rattle.write_barrier.specs.Recording.{Touches, Remembers}
 use Rattle.write_barrier.proofs.Recording.{remembers_heap}
+use Rattle.write_barrier.proofs.StoresOn.{next_is_young}
 use Rattle.object_cells.specs.Contents.{next_at}
 use Rattle.object_cells.specs.Uses.{TakesRun, UsesMore}
 use Rattle.object_cells.proofs.FilledTouches.{reserved_touch}
@@ -42,42 +39,19 @@ use Rattle.object_cells.proofs.UnusedWords.{run_before_marks}
 use Rattle.mutator.specs.CarriesOut.{Carries}
 use Rattle.mutator.specs.Changing.{KeepsOtherWords, MakesNoOtherCell}
 use Rattle.mutator.specs.Making.{new_touch}
-use Rattle.mutator.proofs.NewCells.{NewCell, cell_of}
+use Rattle.mutator.proofs.CalmHeaps.{made_is_calm}
+use Rattle.mutator.proofs.NewCells.{NewCell, cell_of, fresh_refers_not}
 use Rattle.mutator.proofs.ChangedWords.{making_keeps}
+use Rattle.mutator.proofs.Makings.{IsMaking, no_entry_key, none_left, reaches_one_more}
 use Rattle.mutator.proofs.MadeRecords.{new_touches}
 use Rattle.mutator.proofs.MadeRooms.{MakesOne, makes_one, keeps_made}
-use Rattle.mutator.proofs.PutCells.{IsPutCell, with_cell_put}
+use Rattle.mutator.proofs.PutCells.{IsPutCell, before_words, with_cell_put}
+use Rattle.mutator.proofs.PutWords.{with_range_before}
 use Rattle.mutator.proofs.Rebinding.{heap_bound}
 use Rattle.mutator.proofs.StandingCells.{put_stands}
 use Rattle.mutator.specs.declared.stop.Stop.TheVariants.{NoRoom}
-use Rattle.mutator.proofs.MadeHeaps.{MakesObject, made_heap, IsSoundNewCell, filled_young, filled_seat}
+use Rattle.mutator.proofs.MadeHeaps.{MakesObject, made_heap, IsSoundNewCell, filled_cycle, filled_young, filled_seat}
 use Rattle.mutator.proofs.MadeHeaps.{filled_space, filled_free, filled_bound, filled_heap, bound_heap}
-
--- no entry has the object that comes next as its key
-no_entry_key : (graph : Graph) → IsGraph graph → IsNoEntryKey graph.objects (length graph.objects)
-no_entry_key graph is holder at entries entry there stands same =
-    let count : ℕ = length graph.objects in
-    let object : IsObject count (Weak entries) =
-    All-slice_get (IsObject count) graph.objects holder (Weak entries) is.made there in
-    let one : IsEntry count entry = All-slice_get (IsEntry count) entries at entry object.keys_and_values stands in
-    omega (arith, one.key, same)
-
--- what a command is that makes an object: it needs the words of its cell, and changes no store
-pub record IsMaking (graph : Graph) (command : Command) (x size : ℕ) (what : Object) : Type 0 where
-  pub fits : FitsCommand command
-  pub done : (names : List (List ℕ)) → meaning ideal_limits names graph command ≡ done (make graph x what) []
-  pub need : (rooms : ℕ → Room) → need_of graph rooms command ≡ size
-  pub gives : (rooms : ℕ → Room) (number : ℕ)
-      → rooms_after graph rooms command number ≡ with_room rooms (length graph.objects) bare_room number
-
--- a new object is the only one that can be reached and could not be before
-reaches_one_more : {graph : Graph} {command : Command} {x size : ℕ} {what : Object} → IsGraph graph
-    → IsMaking graph command x size what → ReachesOneMore graph (make graph x what) (length graph.objects)
-reaches_one_more {graph = graph} {command} {x} {what = what} is making number marked apart =
-    elim (only_made_is_new ideal_limits [] graph command (make graph x what) [] number is (making.done []) marked) [
-      | inl before ↦ before
-      | inr made ↦ absurd (apart made.1)
-    ]
 
 module _ {old mid filled new : Mutator} {graph : Graph} {command : Command} {x at : ℕ} {one : NewCell} {what : Object}
     (shows : MainShows old graph) (making : IsMaking graph command x one.size what)
@@ -135,12 +109,30 @@ module _ {old mid filled new : Mutator} {graph : Graph} {command : Command} {x a
   new_heap = heap_bound x (held.Ref at) makes.holds
 
   -- so the heap shows the graph in which the object is made
-  made_shows : Shows (heap_of new) (make graph x what)
-  made_shows =
-      subst (λ h. Shows h (make graph x what)) (sym (bound_heap makes))
-      (new_objects_show (heap_of old) now graph x cell what below shows.shows put.whole shows.shows.paths put.cells
+  now_shows : Shows (bound now x refers) (make graph x what)
+  now_shows =
+      new_objects_show (heap_of old) now graph x cell what below shows.shows put.whole shows.shows.paths put.cells
       put.own (subst (λ a. a < 2 ^ 32) makes.run small) made.carries made.shows (no_entry_key graph shows.is_graph)
-      (reaches_one_more shows.is_graph making))
+      (reaches_one_more shows.is_graph making)
+
+  made_shows : Shows (heap_of new) (make graph x what)
+  made_shows = subst (λ h. Shows h (make graph x what)) (sym (bound_heap makes)) now_shows
+
+  -- in an open cycle it rests again: no word is granted, so the cell is young
+  made_calm : IsCalm new (make graph x what)
+  made_calm =
+      made_is_calm now x cell what shows below put.whole refl refl
+      (put.whole.sized.words ∙ sym shows.shows.whole.sized.words)
+      (λ a before.
+      with_range_before (heap_of old).words one.words (next_at old) a (before_words made.fits) before)
+      put.cells (object_of_shown now (reach (make graph x what)) cell (words_of_cell now cell) what made.shows)
+      (fresh_refers_not now (next_at old) made.fits.fresh put.words) (next_is_young shows) made.carries
+      (reaches_one_more shows.is_graph making) now_shows
+      (ap (λ (main : Mutator). main.seat.phase) makes.holds.held ∙ ap (λ (seat : Seat). seat.phase) (filled_seat makes))
+      (ap (λ (main : Mutator). main.cycle) makes.holds.held ∙ filled_cycle makes)
+      (λ none. ap (λ (main : Mutator). main.young.granted.words) makes.holds.held
+      ∙ ap (λ (young : Young). young.granted.words) (filled_young makes) ∙ none_left old.young one.size none)
+      (bound_heap makes)
 
   -- the halves are as they were
   same_half : new.young.half ≡ old.young.half
@@ -224,8 +216,7 @@ module _ {old mid filled new : Mutator} {graph : Graph} {command : Command} {x a
     tied = made_tied;
     is_graph = graphs_stay ideal_limits [] graph command (make graph x what) [] ideal_field_limit making.fits
         (making.done []) shows.is_graph;
-    quiet = ap (λ (main : Mutator). main.seat.phase) makes.holds.held
-        ∙ ap (λ (seat : Seat). seat.phase) (filled_seat makes) ∙ shows.quiet;
+    calm = made_calm;
     shows = made_shows;
     collectable = made_collectable;
     free = made_free;

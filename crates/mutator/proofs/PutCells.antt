@@ -43,7 +43,7 @@ pub record HasRoomFor (heap : Heap) (at used : ℕ) (one : NewCell) : Type 0 whe
   pub few : heap.survivors + used ≤ heap.space.sizes.young
 
 -- the cell ends before the roots
-before_words : {heap : Heap} {at used : ℕ} {one : NewCell} → HasRoomFor heap at used one
+pub before_words : {heap : Heap} {at used : ℕ} {one : NewCell} → HasRoomFor heap at used one
     → at + length one.words ≤ length heap.words
 before_words {heap} fits =
     omega (

@@ -1,15 +1,23 @@
 -- Words that are put in a row, where a cell is made: its header, its slot for a store, and what is behind them.
 use Rattle.std.proofs.Common.{◌≡◌, ℕ, ◌+◌, ◌≤◌, inl, inr, List, ◌∷◌, ◌∙◌, refl, sym, ap, subst, arith}
-use Rattle.std.proofs.lemmas.Bool.{cases_eq}
+use Rattle.std.proofs.lemmas.Bool.{cases_eq, cases_lt}
 use Rattle.std.proofs.Common.{length, length-set, slice_get}
 use Rattle.std.specs.Prelude.{slice_set}
-use Rattle.page_space.specs.Extents.{marks_start}
+use Rattle.page_space.specs.Extents.{Space, eden_start, marks_start}
 use Rattle.tagged_word.specs.Cells.{store_slot}
+use Rattle.mark_barrier.specs.CycleSteps.{sure_of_target}
+use Rattle.mark_world.specs.Cycles.{Cycle}
+use Rattle.mark_world.specs.declared.event.Event.{Event}
 use Rattle.write_barrier.specs.Seats.{Seat, heap_words}
+use Rattle.write_barrier.specs.Marking.{MayPut}
+use Rattle.write_barrier.specs.Storing.{IsMadeYoung}
 use Rattle.heap_model.specs.Remembered.{Touch}
 use Rattle.write_barrier.specs.MutatorState.{Mutator, forgets, with_slot, with_table, with_word}
 use Rattle.write_barrier.specs.Recording.{Touches, touched, touched_again, touched_one, touched_then}
 use Rattle.write_barrier.specs.Values.{with_range}
+use Rattle.write_barrier.proofs.JudgedSlots.{wiped_bound}
+use Rattle.write_barrier.proofs.SlotCycles.{cycle_behind, cycle_idle}
+use Rattle.write_barrier.proofs.PutWords.{judged_keeps}
 use Rattle.write_barrier.proofs.PutRanges.{with_range-put, with_range_before, with_range_behind}
 use Rattle.write_barrier.proofs.Recording.{then_touch, touch_alike, wiped_touch, word_touch}
 use Rattle.write_barrier.proofs.TouchedRanges.{touched_inside, touched_outside, touched_other}
@@ -29,6 +37,24 @@ pub counted_after : (main mid : Mutator) (at word : ℕ) → mid ≡ with_word m
 counted_after main mid at word is heap counted =
     ap length heap ∙ length-set (heap_words main.seat) at word ∙ counted
     ∙ sym (ap (λ (now : Mutator). marks_start now.seat.space) is)
+
+-- behind the start of a cell that is young where a cycle is open, nothing is asked of a step
+pub young_may : (main : Mutator) {now : Mutator} {at place : ℕ} {of : Event} → now.seat.space ≡ main.seat.space
+    → now.seat.phase ≡ main.seat.phase → at ≤ place → IsMadeYoung main at → MayPut now place of
+young_may main space phase after young of_page mark =
+    let from = young (sym phase ∙ mark) in
+    absurd (omega (arith, from, of_page, after, ap (λ (one : Space). eden_start one) space))
+
+-- a slot that is stored there leaves what is known of the cycle
+pub young_slot_keeps : (main : Mutator) {now : Mutator} {place : ℕ} (word : ℕ)
+    → main.recorded.bound ≡ eden_start main.seat.space → IsMadeYoung main place → now ≡ with_slot main place word → now.cycle ≡ main.cycle
+young_slot_keeps main {now} {place} word bounded young is =
+    let next : Cycle = sure_of_target (eden_start main.seat.space) main.cycle word in
+    ap (λ (one : Mutator). one.cycle) is
+    ∙ elim (cases_lt place main.recorded.bound) [
+      | inl below ↦ cycle_idle main place next (λ mark. absurd (omega (arith, young mark, below, bounded)))
+      | inr behind ↦ cycle_behind main place next behind
+    ]
 
 -- A word was put that is no slot's, and behind it one that is.
 pub record PutsTwo (main mid next : Mutator) (at first second : ℕ) : Type 0 where
@@ -64,6 +90,35 @@ module _ {main mid next : Mutator} {at first second : ℕ} (puts : PutsTwo main 
 
   pub two_young : next.young ≡ main.young
   two_young = ap (λ (now : Mutator). now.young) puts.two ∙ ap (λ (now : Mutator). now.young) puts.one
+
+  -- regions and phase are too
+  pub two_space : next.seat.space ≡ main.seat.space
+  two_space = ap (λ (seat : Seat). seat.space) two_seat
+
+  pub two_phase : next.seat.phase ≡ main.seat.phase
+  two_phase = ap (λ (seat : Seat). seat.phase) two_seat
+
+  -- what is recorded is of pages
+  pub two_bound : main.recorded.bound ≡ eden_start main.seat.space
+      → next.recorded.bound ≡ eden_start next.seat.space
+  two_bound bounded =
+      ap (λ (now : Mutator). now.recorded.bound) puts.two ∙ judged_keeps mid.recorded (at + store_slot) second
+      ∙ ap (λ (now : Mutator). now.recorded.bound) puts.one ∙ wiped_bound main.recorded at (at + 1) ∙ bounded
+      ∙ ap eden_start (sym two_space)
+
+  -- so is what is known of a cycle, where the words are those of a cell that is young where one is open
+  pub two_cycle : main.recorded.bound ≡ eden_start main.seat.space → IsMadeYoung main at → next.cycle ≡ main.cycle
+  two_cycle bounded young =
+      let space : mid.seat.space ≡ main.seat.space = ap (λ (now : Mutator). now.seat.space) puts.one in
+      let phase : mid.seat.phase ≡ main.seat.phase = ap (λ (now : Mutator). now.seat.phase) puts.one in
+      let bound : mid.recorded.bound ≡ eden_start mid.seat.space =
+      ap (λ (now : Mutator). now.recorded.bound) puts.one ∙ wiped_bound main.recorded at (at + 1) ∙ bounded
+      ∙ ap eden_start (sym space) in
+      young_slot_keeps mid second bound
+      (λ mark.
+      let from = young (sym phase ∙ mark) in
+      subst (λ (one : Space). eden_start one ≤ at + store_slot) (sym space) (omega (arith, from))) puts.two
+      ∙ ap (λ (now : Mutator). now.cycle) puts.one
 
   -- how records are touched
   pub two_touch : Touches main next (head_touch 2 at)

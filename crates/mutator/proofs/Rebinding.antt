@@ -15,7 +15,6 @@ use Rattle.graph_laws.proofs.NothingNew.{only_made_is_new}
 use Rattle.page_space.specs.Extents.{eden_start}
 use Rattle.nursery.specs.Young.{HasRoom, other_half}
 use Rattle.handle_roots.specs.Roots.{FitsHeld, with_root}
-use Rattle.heap_table.specs.Phases.{Quiet}
 use Rattle.write_barrier.specs.Seats.{heap_words, RestStays}
 use Rattle.heap_model.specs.Heaps.{Heap}
 use Rattle.heap_model.specs.Changes.{AreFillers}
@@ -37,6 +36,7 @@ use Rattle.object_cells.proofs.RestOfWords.{variable_beside}
 use Rattle.object_cells.proofs.TakenRuns.{bumped_none}
 use Rattle.mutator.specs.Binding.{Binds}
 use Rattle.mutator.specs.CarriesOut.{Carries}
+use Rattle.mutator.proofs.CalmHeaps.{bound_is_calm}
 use Rattle.mutator.proofs.ChangedWords.{rebound_keeps}
 use Rattle.mutator.proofs.KeptStores.{keeps_bound}
 use Rattle.mutator.proofs.StandingCells.{bound_stands}
@@ -124,7 +124,7 @@ rebound_shows {old} {new} {graph} {after} names command text x one shows carried
     record {
       tied = bound_tied x one below shows holds;
       is_graph = graphs_stay ideal_limits names graph command after text ideal_field_limit fits carried shows.is_graph;
-      quiet = subst (λ (main : Mutator). main.seat.phase ≡ Quiet) (sym holds.held) shows.quiet;
+      calm = bound_is_calm x one shows below anew fewer bound_shows holds.held (heap_bound x one holds);
       shows = subst (λ heap. Shows heap after) (sym (heap_bound x one holds)) bound_shows;
       collectable = subst (λ heap. IsCollectable heap (other_half new.young.half)) (sym (heap_bound x one holds))
           (subst (λ (half : ℕ). IsCollectable (bound heap x one) (other_half half))

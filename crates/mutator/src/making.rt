@@ -7,7 +7,8 @@ ghost use Rattle.heap_command.specs.Commands.{IsWithin};
 ghost use Rattle.object_graph.specs.Graphs.{Graph};
 ghost use Rattle.heap_model.specs.Kinds.{count_offset};
 ghost use Rattle.write_barrier.specs.Seats.{heap_words};
-ghost use Rattle.write_barrier.specs.MutatorState.{MayStore, MainShows, with_table};
+ghost use Rattle.write_barrier.specs.MutatorState.{MainShows, with_table};
+ghost use Rattle.write_barrier.specs.Storing.{IsMadeYoung};
 ghost use Rattle.write_barrier.specs.Values.{with_range};
 ghost use Rattle.mutator.specs.Binding.{BindsMade};
 ghost use Rattle.mutator.specs.CarriesOut.{Carries, field_numbers};
@@ -90,7 +91,7 @@ pub fn new_plain(main: &mut Main, x: u32, object: u32, cap: u32) -> Result<(), S
 /// Makes the words at an address the cell of a plain object without fields and without a prototype.
 #[inline(always)]
 fn fill_plain(main: &mut Main, at: u32, header: Header, cap: u32)
-    requires may_store { MayStore main.old }
+    requires young { IsMadeYoung main.old at }
     requires is { IsHeader header }
     requires within { at + (PLAIN_HEAD + cap) ≤ marks_start main.old.seat.space }
     ensures filled { let words = empty_plain header cap in
@@ -99,6 +100,7 @@ fn fill_plain(main: &mut Main, at: u32, header: Header, cap: u32)
         heap_words main.new.seat ≡ with_range (heap_words main.old.seat) at words }
     ensures paths { main.new.paths ≡ main.old.paths }
     ensures young { main.new.young ≡ main.old.young }
+    ensures cycle { main.new.cycle ≡ main.old.cycle }
     ensures touches { Touches main.old main.new (new_touch plain_head (plain_head + cap) at) }
 {
     main.addresses_fit();
@@ -135,7 +137,7 @@ pub(crate) fn new_counted<C: Counted>(main: &mut Main, x: u32, object: u32) -> R
 /// Makes the words at an address the cell of a list without elements, or of a weak map without entries.
 #[inline(always)]
 fn fill_counted(main: &mut Main, at: u32, header: Header)
-    requires may_store { MayStore main.old }
+    requires young { IsMadeYoung main.old at }
     requires is { IsHeader header }
     requires within { at + COUNTED_WORDS ≤ marks_start main.old.seat.space }
     ensures filled { let words = empty_counted header in
@@ -144,6 +146,7 @@ fn fill_counted(main: &mut Main, at: u32, header: Header)
         heap_words main.new.seat ≡ with_range (heap_words main.old.seat) at words }
     ensures paths { main.new.paths ≡ main.old.paths }
     ensures young { main.new.young ≡ main.old.young }
+    ensures cycle { main.new.cycle ≡ main.old.cycle }
     ensures touches { Touches main.old main.new (new_touch count_offset 3 at) }
 {
     main.addresses_fit();

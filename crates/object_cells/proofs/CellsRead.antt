@@ -10,18 +10,19 @@ use Rattle.tagged_word.specs.Layouts.{layout_bits, kind_number}
 use Rattle.tagged_word.specs.Shapes.{box_shape, first_path_shape, fixed_layout_words}
 use Rattle.tagged_word.proofs.Layouts.{parts, same_kind}
 use Rattle.page_space.specs.Sizes.{AreWithin}
-use Rattle.page_space.specs.Extents.{Space, marks_start}
+use Rattle.page_space.specs.Extents.{Space, layouts_start, marks_start}
 use Rattle.page_space.proofs.Limits.{words_count_most}
-use Rattle.page_space.proofs.Starts.{marks_start_is, board_start_is, words_count_is}
+use Rattle.page_space.proofs.Starts.{layouts_start_is, marks_start_is, board_start_is, words_count_is}
 use Rattle.std.proofs.Common.{Fits, w32}
 use Rattle.shape_tree.specs.ShapeLayouts.{layout_of, layout_word, layout_words}
 use Rattle.cell_layout.proofs.CellsThere.{slice_get-layouts_in}
 use Rattle.heap_model.specs.Heaps.{Heap, HasCell}
 use Rattle.heap_model.specs.Slots.{IsPlace}
 use Rattle.heap_model.specs.Kinds.{HasWord}
-use Rattle.heap_model.specs.Wholeness.{HasSizes}
-use Rattle.heap_model.proofs.CellsApart.{has_is_cell, first_of_cell}
+use Rattle.heap_model.specs.Wholeness.{HasSizes, Whole}
+use Rattle.heap_model.proofs.CellsApart.{has_is_cell, first_of_cell, used_few}
 use Rattle.heap_model.proofs.CellWords.{slice_get-take, slice_get-drop, words_are_size}
+use Rattle.heap_model.proofs.WordsAlike.{cell_below_roots}
 
 -- a word of a cell stands at its address
 pub word_stands : {heap : Heap} {cell : Cell} {words : List ℕ} (k word : ℕ) → HasCell heap cell words
@@ -50,6 +51,12 @@ fits_address {space} below within =
 pub cell_before_marks : {heap : Heap} {cell : Cell} {words : List ℕ} → HasSizes heap → HasCell heap cell words
     → cell.at + cell.size ≤ marks_start heap.space
 cell_before_marks sized has = omega (arith, (has_is_cell has).reads.there, sized.words)
+
+-- and before the layout words
+pub cell_before_layouts : {heap : Heap} {cell : Cell} {words : List ℕ} → Whole heap → HasCell heap cell words
+    → cell.at + cell.size ≤ layouts_start heap.space
+cell_before_layouts {heap} whole has =
+    omega (arith, cell_below_roots (used_few whole.rows) has, layouts_start_is heap.space)
 
 -- a cell begins before the marks
 pub cell_at_before_marks : {heap : Heap} {cell : Cell} {words : List ℕ} → HasSizes heap → HasCell heap cell words

@@ -3,7 +3,7 @@ use Rattle.std.proofs.Common.{◌≡◌, ℕ, ◌+◌, ◌<◌, ◌≤◌, Optio
 use Rattle.std.proofs.Common.{length-set}
 use Rattle.std.specs.Prelude.{ℤ, slice_set}
 use Rattle.tagged_word.specs.Headers.{header_bits}
-use Rattle.page_space.specs.Extents.{marks_start}
+use Rattle.page_space.specs.Extents.{layouts_start, marks_start}
 use Rattle.write_barrier.specs.Seats.{Seat, heap_words}
 use Rattle.heap_model.specs.Remembered.{Touch}
 use Rattle.heap_model.specs.Needs.{box_words, word_at}
@@ -17,14 +17,14 @@ use Rattle.object_cells.specs.declared.content.SlotContent.TheVariants as conten
 use Rattle.object_cells.specs.declared.content.SlotWrite.{SlotWrite}
 use Rattle.object_cells.specs.declared.content.SlotWrite.TheVariants as filling
 use Rattle.object_cells.specs.Contents.{next_at, filling_of, filling_at, filled, filled_touch, box_in, with_box}
-use Rattle.object_cells.specs.Contents.{filling_need, AllocatesBox, FillsSlot, HoldsSlotWord, IsBeforeMarks}
+use Rattle.object_cells.specs.Contents.{filling_need, AllocatesBox, FillsSlot, HoldsSlotWord, IsBeforeLayouts}
 use Rattle.object_cells.specs.Formats.{box_header}
 use Rattle.object_cells.specs.Made.{content_need, content_touch, slot_touch as touch_of}
-use Rattle.object_cells.proofs.RestOfWords.{allocates_seat}
+use Rattle.object_cells.proofs.RestOfWords.{allocates_seat, layouts_before_marks}
 use Rattle.object_cells.proofs.SlotBoxes.{box_of_word}
-use Rattle.object_cells.proofs.SlotTargets.{target_before_marks}
+use Rattle.object_cells.proofs.SlotTargets.{target_before_layouts}
 use Rattle.object_cells.proofs.TouchedCells.{then_next}
-use Rattle.object_cells.proofs.UnusedWords.{next_before_marks}
+use Rattle.object_cells.proofs.UnusedWords.{next_before_layouts}
 use Rattle.object_cells.proofs.WipedRanges.{two_wiped}
 
 -- both words of a box that is made are wiped
@@ -35,7 +35,7 @@ box_touch main at v within =
     two_wiped {one = headed} at (header_bits box_header) (raw_word v) refl refl (omega (arith, within))
 
 -- there are as many words with it
-box_counted : (main : Mutator) (at : ℕ) (v : ℤ) → at + box_words ≤ marks_start main.seat.space
+pub box_counted : (main : Mutator) (at : ℕ) (v : ℤ) → at + box_words ≤ marks_start main.seat.space
     → length (heap_words main.seat) ≡ marks_start main.seat.space
     → length (heap_words (with_box main at v).seat) ≡ marks_start main.seat.space
 box_counted main at v within counted =
@@ -47,14 +47,16 @@ box_counted main at v within counted =
 -- so are addresses touched where a slot is filled
 pub filled_touches : (main : Mutator) (at : ℕ) (filling : SlotWrite)
     → length (heap_words main.seat) ≡ marks_start main.seat.space → at < marks_start main.seat.space
-    → IsBeforeMarks main.seat.space filling → Touches main (filled main at filling) (filled_touch filling at)
+    → IsBeforeLayouts main.seat.space filling → Touches main (filled main at filling) (filled_touch filling at)
 filled_touches main at (filling.Tagged word) counted below room = slot_touch main at word.0 counted below
 filled_touches main at (filling.Raw word) counted below room = word_touch main at word below
 filled_touches main at (filling.NewBox box v) counted below room =
-    then_touch (box_touch main box v room)
-    (slot_touch (with_box main box v) at (reference_word box) (box_counted main box v room counted) below)
+    let before : box + box_words ≤ marks_start main.seat.space =
+    omega (arith, room, layouts_before_marks main.seat.space) in
+    then_touch (box_touch main box v before)
+    (slot_touch (with_box main box v) at (reference_word box) (box_counted main box v before counted) below)
 filled_touches main at (filling.OldBox box v) counted below room =
-    word_touch main (box + 1) (raw_word v) (omega (arith, room))
+    word_touch main (box + 1) (raw_word v) (omega (arith, room, layouts_before_marks main.seat.space))
 
 -- that words were reserved touches nothing
 pub reserved_touch : {old new : Mutator} {touch : ℕ → Touch} (n : ℕ) → Touches (reserved old n) new touch
@@ -73,35 +75,35 @@ allocates_touch {new = new} {touch} (filling.NewBox at v) more touches =
 allocates_touch {new = new} {touch} (filling.OldBox at v) same touches =
     subst (λ (main : Mutator). Touches main new touch) same touches
 
--- the box to which a slot's word refers has two words before the marks
-old_before_marks : (main : Mutator) (word box : ℕ) → Whole (heap_of main) → IsSlotWord (heap_of main) word
-    → box_in (heap_of main) word ≡ Some box → box + box_words ≤ marks_start main.seat.space
-old_before_marks main word box whole slot is =
+-- the box to which a slot's word refers has two words before the layout words
+old_before_layouts : (main : Mutator) (word box : ℕ) → Whole (heap_of main) → IsSlotWord (heap_of main) word
+    → box_in (heap_of main) word ≡ Some box → box + box_words ≤ layouts_start main.seat.space
+old_before_layouts main word box whole slot is =
     let one = box_of_word word box whole.sized slot is in
-    target_before_marks word box whole.sized slot (one.refers.refers ∙ ap reference_word one.stands)
+    target_before_layouts word box whole slot (one.refers.refers ∙ ap reference_word one.stands)
 
 -- so does the box of what a slot comes to hold, an old one or a new one
-pub fills_before_marks : (old between : Mutator) (word : ℕ) (holds : SlotContent) (found : Option ℕ) → IsTied old
+pub fills_before_layouts : (old between : Mutator) (word : ℕ) (holds : SlotContent) (found : Option ℕ) → IsTied old
     → Whole (heap_of old) → HoldsSlotWord (heap_of old) word holds → box_in (heap_of old) word ≡ found
     → AllocatesBox old between (filling_of found (next_at old) holds)
-    → IsBeforeMarks old.seat.space (filling_of found (next_at old) holds)
-fills_before_marks old between word (content.Tagged one) found tied whole slot is allocates = tt
-fills_before_marks old between word (content.Raw one) found tied whole slot is allocates = tt
-fills_before_marks old between word (content.Boxed v) None tied whole slot is allocates =
-    next_before_marks old box_words tied allocates.0
-fills_before_marks old between word (content.Boxed v) (Some box) tied whole slot is allocates =
-    old_before_marks old word box whole slot is
+    → IsBeforeLayouts old.seat.space (filling_of found (next_at old) holds)
+fills_before_layouts old between word (content.Tagged one) found tied whole slot is allocates = tt
+fills_before_layouts old between word (content.Raw one) found tied whole slot is allocates = tt
+fills_before_layouts old between word (content.Boxed v) None tied whole slot is allocates =
+    next_before_layouts old box_words tied allocates.0
+fills_before_layouts old between word (content.Boxed v) (Some box) tied whole slot is allocates =
+    old_before_layouts old word box whole slot is
 
 -- a slot is filled once the words of its box are used
 fills_between : (old between : Mutator) (at : ℕ) (filling : SlotWrite) → AllocatesBox old between filling
-    → Whole (heap_of old) → at < marks_start old.seat.space → IsBeforeMarks old.seat.space filling
+    → Whole (heap_of old) → at < marks_start old.seat.space → IsBeforeLayouts old.seat.space filling
     → Touches between (filled between at filling) (filled_touch filling at)
 fills_between old between at filling allocates whole below room =
     let same : between.seat ≡ old.seat = allocates_seat old between filling allocates in
     filled_touches between at filling
     (subst (λ (seat : Seat). length (heap_words seat) ≡ marks_start seat.space) (sym same) whole.sized.words)
     (subst (λ (seat : Seat). at < marks_start seat.space) (sym same) below)
-    (subst (λ (seat : Seat). IsBeforeMarks seat.space filling) (sym same) room)
+    (subst (λ (seat : Seat). IsBeforeLayouts seat.space filling) (sym same) room)
 
 -- so they are where a slot came to hold something
 pub fills_touch : {old new : Mutator} {at : ℕ} {holds : SlotContent} → FillsSlot old new at holds → IsTied old
@@ -111,7 +113,7 @@ pub fills_touch : {old new : Mutator} {at : ℕ} {holds : SlotContent} → Fills
 fills_touch {old} {new} {at} {holds} fills tied whole below slot =
     let write : SlotWrite = filling_at old at holds in
     let word : ℕ = word_at (heap_of old) at in
-    let room = fills_before_marks old fills.between word holds (box_in (heap_of old) word) tied whole slot refl
+    let room = fills_before_layouts old fills.between word holds (box_in (heap_of old) word) tied whole slot refl
     fills.allocates in
     allocates_touch write fills.allocates
     (subst (λ (main : Mutator). Touches fills.between main (filled_touch write at)) (sym fills.fills)

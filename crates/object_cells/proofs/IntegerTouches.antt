@@ -7,7 +7,7 @@ use Rattle.heap_model.specs.Types.{Kind, Cell}
 use Rattle.heap_model.specs.Heaps.{HasCell, words_of_cell}
 use Rattle.heap_model.specs.Slots.{raw_word}
 use Rattle.heap_model.specs.Remembered.{Touch}
-use Rattle.write_barrier.specs.MutatorState.{Mutator, heap_of}
+use Rattle.write_barrier.specs.MutatorState.{Mutator, heap_of, with_word}
 use Rattle.write_barrier.specs.Recording.{Touches, touched_one, Remembers}
 use Rattle.write_barrier.proofs.Recording.{word_touch}
 use Rattle.object_cells.proofs.FittingCells.{word_fits}
@@ -15,6 +15,10 @@ use Rattle.object_cells.proofs.OwnIntegers.{PutsInteger, others, one_box, box_ha
 use Rattle.object_cells.proofs.SlotsOfCells.{all_stand, one_stands}
 use Rattle.object_cells.proofs.TouchedCells.{FitsTouch, same_cells_touched, fits_one, none_made, remembers}
 use Rattle.object_cells.proofs.TouchedOffsets.{box_has_no_slots}
+use Rattle.write_barrier.specs.SureStores.{StoresSurely}
+use Rattle.write_barrier.proofs.SureStores.{wiped_surely}
+use Rattle.object_cells.specs.SureCells.{RemembersSurely}
+use Rattle.object_cells.proofs.SureCells.{remembers_surely}
 
 module _ {owner owned : Kind} {old new : Mutator} {cell : Cell} {word box : ℕ} {v : ℤ}
     (writing : PutsInteger owner owned old new cell word box v) where
@@ -47,3 +51,14 @@ module _ {owner owned : Kind} {old new : Mutator} {cell : Cell} {word box : ℕ}
       (same_cells_touched (eden_start old.seat.space) 0 0 cells touch
       (λ at below beside. fits_one cells cells Touch.Wiped (box + 1) at integer_fits))
       (none_made (heap_of old) touch)
+
+  -- and no word of a slot is put
+  pub integer_remembers_surely : RemembersSurely old new (cell ∷ others writing) (cell ∷ others writing) []
+  integer_remembers_surely =
+      let touch : ℕ → Touch = touched_one Touch.Wiped (box + 1) in
+      remembers_surely touch integer_touches
+      (same_cells_touched (eden_start old.seat.space) 0 0 cells touch
+      (λ at below beside. fits_one cells cells Touch.Wiped (box + 1) at integer_fits))
+      (none_made (heap_of old) touch)
+      (subst (λ (main : Mutator). StoresSurely main touch) (sym writing.puts_it)
+      (wiped_surely (with_word old (box + 1) (raw_word v)) (box + 1)))

@@ -28,6 +28,12 @@ pub mod SlotPlaces
 pub mod FieldsFound
 pub mod PlainFields
 pub mod GrantedRests
+pub mod RestsInCycle
+pub mod YoungStores
+pub mod StoredRuns
+pub mod OwnCellsKeep
+pub mod OwnersKeep
+pub mod CalmCells
 pub mod ReplacedObjects
 pub mod Refills
 pub mod NewFields
@@ -77,3 +83,11 @@ pub mod ListChanging
 pub mod ProtoWrites
 pub mod ProtoChanges
 pub mod ProtosRead
+pub mod HoldableWords
+pub mod ChangedPlaces
+pub mod SureCells
+pub mod SureFields
+pub mod ListsInCycle
+pub mod FillsOn
+pub mod ContentsHeld
+pub mod BlackCells

@@ -70,7 +70,7 @@ pub store_has_room : {main : Mutator} {list count : ℕ} (store : Store) → IsL
     → IsStoreAt (heap_of main) list store → count ≤ store.capacity
 store_has_room store ready is =
     let there = ready.there in
-    let sound = sound_at ready.whole.whole there in
+    let sound = sound_at ready.whole there in
     omega (
       arith,
       sound.hold.room,

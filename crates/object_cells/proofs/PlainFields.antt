@@ -20,7 +20,7 @@ use Rattle.write_barrier.specs.MutatorState.{Mutator, heap_of, MainShows}
 use Rattle.object_cells.specs.PlainObjects.{IsPlainAt}
 use Rattle.object_cells.proofs.FieldsFound.{path_long}
 use Rattle.heap_model.proofs.OneBeside.{one_slots}
-use Rattle.object_cells.specs.CellsAt.{IsQuietWhole, HasPlainSlot, HasField, IsCapAt}
+use Rattle.object_cells.specs.CellsAt.{HasPlainSlot, HasField, IsCapAt}
 
 -- a plain cell of a whole heap is sound
 pub plain_sound : {heap : Heap} {cell : Cell} {words : List ℕ} → Whole heap → HasCell heap cell words
@@ -127,5 +127,5 @@ names_distinct {graph = graph} {plain = plain} shows is =
     (Plain plain.cap plain.proto plain.fields) shows.is_graph.made is.object).are.distinct
 
 -- the heap is whole
-pub shown_whole : {main : Mutator} {graph : Graph} → MainShows main graph → IsQuietWhole main
-shown_whole shows = record { quiet = shows.quiet; whole = shows.shows.whole }
+pub shown_whole : {main : Mutator} {graph : Graph} → MainShows main graph → Whole (heap_of main)
+shown_whole shows = shows.shows.whole

@@ -1,14 +1,16 @@
 -- Where the word in the slot for the prototype of a plain object was put, the change of cells is the object's own, and
 -- its cell shows the fields that it showed, and the prototype to which the word refers.
 use Rattle.std.proofs.Common.{◌≡◌, ℕ, ◌+◌, List, [], ◌∷◌, Option, Some, None}
-use Rattle.std.proofs.Common.{nat_lt, inl, refl, sym, ◌∙◌, ap, subst, arith}
+use Rattle.std.proofs.Common.{nat_lt, IsTrue, inl, refl, sym, ◌∙◌, ap, subst, arith}
 use Rattle.std.proofs.lemmas.Option.{same_Some}
 use Rattle.tagged_word.specs.declared.layout.Kind.TheVariants as kind
 use Rattle.tagged_word.specs.Cells.{store_slot, proto_slot}
 use Rattle.tagged_word.proofs.Members.{first_in}
 use Rattle.tagged_word.proofs.Offsets.{plain_has_proto}
 use Rattle.page_space.specs.Extents.{eden_start}
+use Rattle.mark_world.specs.declared.event.Event.TheVariants as event
 use Rattle.object_graph.specs.Graphs.{Graph}
+use Rattle.object_graph.specs.Reach.{is_marked, reach}
 use Rattle.shape_tree.specs.Shapes.{IsPathShape, shape_path}
 use Rattle.heap_model.specs.Types.{Field, Cell}
 use Rattle.heap_model.specs.Heaps.{Heap, words_of_cell}
@@ -23,9 +25,16 @@ use Rattle.heap_model.proofs.CellWords.{slots_by_kind}
 use Rattle.heap_model.proofs.SlotWords.{proto_names_nothing}
 use Rattle.heap_model.proofs.WordsStay.{BoxStays, field_stays, shown_field, refers_to_place_stays}
 use Rattle.write_barrier.specs.MutatorState.{Mutator, heap_of, MainShows}
-use Rattle.write_barrier.specs.Recording.{Touches, touched_one, Remembers}
+use Rattle.write_barrier.specs.Marking.{MayPut}
+use Rattle.write_barrier.specs.Recording.{Touches, touched_one}
+use Rattle.write_barrier.specs.Storing.{StoresOn}
+use Rattle.write_barrier.specs.SureStores.{StoresSurely}
+use Rattle.write_barrier.proofs.SlotStores.{slot_stores_on}
+use Rattle.write_barrier.proofs.SureStores.{slot_surely}
 use Rattle.write_barrier.proofs.Recording.{slot_touch}
 use Rattle.object_cells.specs.Contents.{next_at}
+use Rattle.object_cells.specs.CycleChanges.{KeepsOpenCycle}
+use Rattle.object_cells.specs.SureCells.{RemembersSurely}
 use Rattle.object_cells.specs.Capacities.{ChangesObjectUsing, WritesBeside}
 use Rattle.object_cells.specs.OwnSlots.{ComesFrom, Refills}
 use Rattle.object_cells.specs.SlotChanges.{HasTagged}
@@ -38,14 +47,18 @@ use Rattle.object_cells.proofs.NothingUsed.{room_for_none, uses_none}
 use Rattle.object_cells.proofs.NumberedSlots.{IsNumbered, ProtoNamesNone, slot_of_number, slot_kind, has_numbers}
 use Rattle.object_cells.proofs.OwnCapacities.{object_keeps}
 use Rattle.object_cells.proofs.OwnNames.{Renames, refills_rename, renamed_own}
+use Rattle.object_cells.proofs.OwnersKeep.{own_cells_keep_cycle}
+use Rattle.object_cells.proofs.OwnCells.{cell_below_layouts}
+use Rattle.object_cells.proofs.SureCells.{remembers_surely, stores_keep_cells}
 use Rattle.object_cells.proofs.OwnSteps.{own_places_stay, own_proto_stays, own_box_stays}
 use Rattle.object_cells.proofs.OwnerWrites.{plain_owns, written_own_keeps_cells}
 use Rattle.object_cells.proofs.PlainFields.{plain_sound}
 use Rattle.object_cells.proofs.ReplacedObjects.{rests_again}
 use Rattle.object_cells.proofs.TakenRuns.{takes_none}
-use Rattle.object_cells.proofs.TouchedCells.{same_cells_touched, fits_one, none_made, remembers}
+use Rattle.object_cells.proofs.TouchedCells.{same_cells_touched, fits_one, none_made}
 use Rattle.object_cells.proofs.WordsPut.{word_beside}
-use Rattle.object_cells.proofs.ProtoWrites.{PutsProto, slot_before, word_put, others_stay, none_used, proto_writes}
+use Rattle.object_cells.proofs.ProtoWrites.{PutsProto, slot_in_cell, slot_before, word_put, others_stay, none_used}
+use Rattle.object_cells.proofs.ProtoWrites.{proto_writes}
 use Rattle.object_cells.proofs.ProtoWrites.{proto_step, now_stands, proto_stands, store_now, slots_stay}
 
 -- the word in the slot for a prototype shows this one, or none
@@ -158,8 +171,8 @@ module _ {old new : Mutator} {cell : Cell} {word : ℕ} (puts : PutsProto old ne
       subst (λ (main : Mutator). Touches old main (touched_one Touch.Stored (cell.at + proto_slot))) (sym puts.is)
       (slot_touch old (cell.at + proto_slot) word puts.whole.sized.words (slot_before puts))
 
-  -- so the change is remembered
-  proto_remembered : Remembers old new (cell ∷ []) (cell ∷ []) []
+  -- so the change is remembered, and the word was put surely
+  proto_remembered : RemembersSurely old new (cell ∷ []) (cell ∷ []) []
   proto_remembered =
       let touch = touched_one Touch.Stored (cell.at + proto_slot) in
       let of_slot : IsSlotOf cell (cell.at + proto_slot) = record {
@@ -167,11 +180,13 @@ module _ {old new : Mutator} {cell : Cell} {word : ℕ} (puts : PutsProto old ne
         visited = slots_by_kind cell kind.Plain proto_slot puts.plain (plain_has_proto cell.layout);
         stands = refl;
       } in
-      remembers touch proto_touches
+      remembers_surely touch proto_touches
       (same_cells_touched (eden_start old.seat.space) 0 0 (cell ∷ []) touch (λ at below beside.
       fits_one (cell ∷ []) (cell ∷ []) Touch.Stored (cell.at + proto_slot) at
       (slot_fits puts.has (first_in cell []) (first_in cell []) of_slot)))
       (none_made (heap_of old) touch)
+      (subst (λ (main : Mutator). StoresSurely main touch) (sym puts.is)
+      (slot_surely old (cell.at + proto_slot) word (omega (arith, slot_before puts, puts.whole.sized.words))))
 
   -- and the mutator rests again
   pub proto_rests : {graph : Graph} → MainShows old graph → RestsAgain old new []
@@ -180,7 +195,20 @@ module _ {old new : Mutator} {cell : Cell} {word : ℕ} (puts : PutsProto old ne
       rests_again (cell ∷ []) (cell ∷ []) [] shows
       (takes_none (word_beside (word_put puts) (slot_before puts)) (room_for_none old puts.tied puts.whole)
       (none_used puts))
-      (proto_writes puts).sized kept.0 kept.1 proto_remembered
+      (proto_writes puts).sized kept.0 kept.1 proto_remembered.remembers
+
+  -- where the word may be stored, an open cycle is kept
+  pub proto_keeps_cycle : {graph : Graph} (after : Graph) → MainShows old graph
+      → IsTrue (is_marked (reach after) cell.header.object)
+      → MayPut old (cell.at + proto_slot) (event.StoreSlot (cell.at + proto_slot) word)
+      → KeepsOpenCycle old new after (cell ∷ []) (cell ∷ []) []
+  proto_keeps_cycle after shows reached may =
+      let before = cell_below_layouts puts.whole puts.has (slot_in_cell puts) in
+      let stores : StoresOn old new =
+      subst (StoresOn old) (sym puts.is) (slot_stores_on (cell.at + proto_slot) word before may) in
+      own_cells_keep_cycle after (inl refl) plain_owns shows (proto_writes puts) slots_refill proto_own
+      (proto_rests shows).takes reached
+      (stores_keep_cells plain_owns shows (proto_writes puts) proto_remembered stores)
 
   -- no word more is used, and what stands beside the words stays
   pub proto_uses : UsesMore old new 0

@@ -47,7 +47,7 @@ pub record PutsProto (old new : Mutator) (cell : Cell) (word : ℕ) : Type 0 whe
 
 module _ {old new : Mutator} {cell : Cell} {word : ℕ} (puts : PutsProto old new cell word) where
   -- the slot is a word of the cell
-  slot_in_cell : IsOfCell cell (cell.at + proto_slot)
+  pub slot_in_cell : IsOfCell cell (cell.at + proto_slot)
   slot_in_cell = record { from = omega arith; below = omega (arith, plain_cell_size puts.has puts.plain) }
 
   -- so it is before the marks

@@ -61,7 +61,7 @@ module _ {main : Mutator} {graph : Graph} {object : ℕ} {plain : PlainObject} (
         place = subst (λ n. IsPlace (heap_of main) n refers.at) carried refers.place;
         object = known.1;
         reached =
-            proto_is_reached graph plain proto shows.is_graph (plain_found graph plain is.object) is.reached leads;
+            proto_is_reached graph plain proto (plain_found graph plain is.object) is.reached leads;
       })
 
   -- and by the word that stands in the heap

@@ -1,12 +1,13 @@
 -- Where words of a plain object's own cells were written and its slots show other fields, the change of cells is its
 -- own, and the heap shows the graph in which the object has these fields.
-use Rattle.std.proofs.Common.{◌≡◌, ℕ, List, ◌∷◌, Some, slice_get, IsTrue, refl, sym, ◌∙◌, ap, subst}
+use Rattle.std.proofs.Common.{◌≡◌, ℕ, List, ◌∷◌, Some, slice_get, IsTrue, inl, refl, sym, ◌∙◌, ap, subst}
 use Rattle.tagged_word.specs.declared.layout.Kind.TheVariants as kind
 use Rattle.tagged_word.specs.Cells.{is_object_kind}
 use Rattle.tagged_word.proofs.Members.{first_in}
 use Rattle.heap_model.specs.Types.{Cell}
 use Rattle.object_graph.specs.declared.object.Object.TheVariants.{Plain}
 use Rattle.object_graph.specs.Graphs.{Graph, PlainObject}
+use Rattle.object_graph.specs.Meaning.{refill}
 use Rattle.object_graph.specs.Reach.{is_marked, reach}
 use Rattle.heap_model.specs.Heaps.{HasCell, words_of_cell}
 use Rattle.heap_model.specs.Slots.{IsPlace}
@@ -16,13 +17,14 @@ use Rattle.write_barrier.specs.MutatorState.{Mutator, heap_of, MainShows}
 use Rattle.object_cells.specs.CellWrites.{reshaped}
 use Rattle.object_cells.specs.Refills.{RestsAgain}
 use Rattle.object_cells.specs.SlotChanges.{SlotsRefill, WrittenFieldsShow}
-use Rattle.object_cells.proofs.ReplacedObjects.{rests_again}
+use Rattle.object_cells.proofs.ReplacedObjects.{rests_again, stays_reached}
 use Rattle.object_cells.proofs.Refills.{refills_show}
 use Rattle.object_cells.proofs.OwnerWrites.{plain_owns, written_own_keeps_cells}
 use Rattle.object_cells.proofs.OwnSteps.{OwnStep, own_step, went_object, of_kind_is_no_object}
 use Rattle.object_cells.proofs.RefilledFields.{fields_rename, cell_shows, proto_shown}
 use Rattle.object_cells.proofs.RefilledCells.{fields_sound}
 use Rattle.object_cells.proofs.OwnNames.{renamed_own}
+use Rattle.object_cells.proofs.OwnersKeep.{own_cells_keep_cycle}
 
 -- the change of cells is the object's own, and its cell shows the fields
 pub slots_refill : SlotsRefill
@@ -68,7 +70,7 @@ proto_there {main} {plain = plain} {cell} {words} shows there marked carries has
 -- so the heap shows the graph in which it has them
 pub written_fields_show : WrittenFieldsShow
 written_fields_show old new graph plain cell shape others made fields shows there marked carries cap shown are added
-    takes writes slots remembers =
+    takes writes slots remembers keeps =
     let whole = shows.shows.whole in
     let kept = written_own_keeps_cells plain_owns whole writes in
     let gone : List Cell = cell ∷ others in
@@ -79,3 +81,6 @@ written_fields_show old new graph plain cell shape others made fields shows ther
     slots_refill (heap_of old) (heap_of new) plain cell shape others made fields whole carries cap shown
     (proto_there shows there marked carries writes.stood writes.of_kind) writes slots in
     refills_show old new graph plain fields gone came made shows there marked are added rest refills
+    (own_cells_keep_cycle (refill graph plain fields new.paths) (inl refl) plain_owns shows writes slots.refills
+    refills.own takes (subst (λ n. IsTrue (is_marked (reach (refill graph plain fields new.paths)) n)) (sym carries)
+    (stays_reached graph plain.number (Plain plain.cap plain.proto fields) new.paths marked)) keeps)

@@ -1,6 +1,6 @@
 -- Where words of a list's own cells were written and its slots show other elements, the heap shows the graph in which
 -- the list has these.
-use Rattle.std.proofs.Common.{List, ◌∷◌, sym, ◌∙◌, ap}
+use Rattle.std.proofs.Common.{List, ◌∷◌, IsTrue, inr, refl, subst, sym, ◌∙◌, ap}
 use Rattle.std.specs.Prelude.{option_and_then}
 use Rattle.std.proofs.lemmas.List.Elements.{All-contains}
 use Rattle.tagged_word.proofs.Members.{first_in}
@@ -8,6 +8,8 @@ use Rattle.heap_model.specs.Types.{Value, Cell}
 use Rattle.object_graph.specs.declared.value.Value.TheVariants.{Ref}
 use Rattle.object_graph.specs.declared.object.Object.TheVariants.{List as ListOf}
 use Rattle.object_graph.specs.Graphs.{Graph, as_list}
+use Rattle.object_graph.specs.Meaning.{relist}
+use Rattle.object_graph.specs.Reach.{is_marked, reach}
 use Rattle.graph_laws.proofs.MadeGraphs.{relists}
 use Rattle.heap_model.specs.Heaps.{Heap}
 use Rattle.write_barrier.specs.MutatorState.{heap_of}
@@ -15,9 +17,11 @@ use Rattle.object_cells.specs.HeldValues.{IsReachedValue}
 use Rattle.object_cells.specs.Refills.{RestsAgain}
 use Rattle.object_cells.specs.ElementChanges.{AreNewElements, WrittenElementsShow}
 use Rattle.object_cells.proofs.OwnerWrites.{list_owns, written_own_keeps_cells}
+use Rattle.object_cells.proofs.OwnersKeep.{own_cells_keep_cycle}
 use Rattle.object_cells.proofs.OwnSteps.{own_step, went_object, of_kind_is_no_object}
 use Rattle.object_cells.proofs.RefilledElements.{list_shows, elements_own}
 use Rattle.object_cells.proofs.ReplacedObjects.{HasReachedLinks, ReplacesCells, rests_again, replaced_shows}
+use Rattle.object_cells.proofs.ReplacedObjects.{stays_reached}
 
 -- what a list links to is what one of its elements refers to
 pub links_reached : (graph : Graph) (elements : List Value) → AreNewElements graph elements
@@ -27,8 +31,8 @@ links_reached graph elements are number link =
 
 -- so the heap shows the graph in which the list has these elements
 pub written_elements_show : WrittenElementsShow
-written_elements_show old new graph list cell others made elements shows there carries shown are takes same writes
-    slots remembers =
+written_elements_show old new graph list cell others made elements shows there reached carries shown are takes
+    same writes slots remembers keeps =
     let before : Heap = heap_of old in
     let now : Heap = heap_of new in
     let whole = shows.shows.whole in
@@ -54,3 +58,6 @@ written_elements_show old new graph list cell others made elements shows there c
     (ap (λ found. option_and_then (as_list list.number) found) there) are.are)
     (same ∙ shows.shows.paths)
     (links_reached graph elements are) rest replaces
+    (own_cells_keep_cycle (relist graph list elements) (inr refl) list_owns shows writes slots.refills replaces.own
+    takes (subst (λ n. IsTrue (is_marked (reach (relist graph list elements)) n)) (sym carries)
+    (stays_reached graph list.number (ListOf elements) graph.paths reached)) keeps)

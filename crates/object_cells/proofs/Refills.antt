@@ -61,7 +61,7 @@ refills_are_graphs graph plain fields paths is there new added =
 
 -- so the heap shows it
 pub refills_show : RefillsShow
-refills_show old new graph plain fields gone came made shows there marked are added rest refills =
+refills_show old new graph plain fields gone came made shows there marked are added rest refills keeps =
     let replaces : ReplacesCells (heap_of old) (heap_of new) graph plain.number (Plain plain.cap plain.proto fields)
     gone came made = record {
       cells = refills.cells;
@@ -79,5 +79,5 @@ refills_show old new graph plain fields gone came made shows there marked are ad
       shows = replaced_shows plain.number (Plain plain.cap plain.proto fields) new.paths shows
           (refills_are_graphs graph plain fields new.paths shows.is_graph there are added) refl
           (links_reached graph plain.cap plain.proto fields
-          (proto_reached graph plain shows.is_graph there marked) are.reached) rest replaces;
+          (proto_reached graph plain shows.is_graph there marked) are.reached) rest replaces keeps;
     }

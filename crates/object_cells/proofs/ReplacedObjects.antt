@@ -10,6 +10,8 @@ use Rattle.heap_model.specs.Types.{Object, Path, Cell}
 use Rattle.object_graph.specs.Graphs.{Graph}
 use Rattle.object_graph.specs.Reach.{is_marked, reach}
 use Rattle.object_graph.specs.Invariants.{IsGraph}
+use Rattle.core_parts.proofs.Joining.{decided}
+use Rattle.object_graph.proofs.Lists.{slice_get-set_other}
 use Rattle.graph_laws.specs.ReachLaws.{LinksTo, HasBound, IsClosed}
 use Rattle.graph_laws.proofs.Reaches.{reach_has_bound, reach_closed, reach_least}
 use Rattle.heap_model.specs.Heaps.{Heap, words_of_cell}
@@ -25,9 +27,11 @@ use Rattle.heap_model.proofs.FreeStays.{own_changes_keep_free}
 use Rattle.write_barrier.specs.MutatorState.{Mutator, heap_of, MainShows}
 use Rattle.write_barrier.specs.Recording.{Remembers}
 use Rattle.write_barrier.proofs.Recording.{remembers_heap}
+use Rattle.object_cells.specs.CycleChanges.{KeepsOpenCycle}
 use Rattle.object_cells.specs.Uses.{TakesRun}
 use Rattle.object_cells.specs.Refills.{RestsAgain}
 use Rattle.object_cells.proofs.GrantedRests.{made_avoid_free, left_avoids_free, left_are_granted}
+use Rattle.object_cells.proofs.RestsInCycle.{cycle_rests}
 
 -- after one was put in the place of another, an element stood at another place, or is that one
 put_cases : {X : Type 0} (xs : List X) (place : ℕ) (put : X) (i : ℕ) (x : X) → slice_get (set xs place put) i ≡ Some x
@@ -66,6 +70,28 @@ reaches_no_more graph number object paths other links marked =
       | inr new ↦ links one (subst (λ (o : Object). LinksTo inside o one) (sym new.1) linked)
     ] in
     reach_least after inside bound closed other marked
+
+-- an object that another takes the place of can be reached still, by its number: else all that can be reached is as it
+-- was, so that it could not
+pub stays_reached : (graph : Graph) (number : ℕ) (object : Object) (paths : List Path)
+    → IsTrue (is_marked (reach graph) number)
+    → IsTrue (is_marked (reach (replaced graph number object paths)) number)
+stays_reached graph number object paths marked =
+    let after : Graph = replaced graph number object paths in
+    let inside = is_marked (reach after) in
+    let long : length after.objects ≡ length graph.objects = length-set graph.objects number object in
+    elim (decided (inside number)) [
+      | inl is ↦ is
+      | inr lost ↦
+          let bound : HasBound graph inside =
+          λ x one within at. reach_has_bound after x one (omega (arith, long, within)) at in
+          let closed : IsClosed graph inside = λ holder what one there held within linked.
+          let other : holder ≢ number = λ same. false≢true (sym lost ∙ ap inside (sym same) ∙ held) in
+          reach_closed after holder what one
+          (slice_get-set_other graph.objects number holder object other ∙ there) held
+          (omega (arith, long, within)) linked in
+          reach_least graph inside bound closed number marked
+    ]
 
 -- nothing is marked but what can be reached
 abbrev pub MarksReached : Graph → List Bool → Type 0
@@ -137,8 +163,10 @@ pub replaced_shows : {old new : Mutator} {graph : Graph} (number : ℕ) (object 
     {gone came made : List Cell} → MainShows old graph → IsGraph (replaced graph number object paths)
     → new.paths ≡ paths → HasReachedLinks graph object → RestsAgain old new made
     → ReplacesCells (heap_of old) (heap_of new) graph number object gone came made
+    → KeepsOpenCycle old new (replaced graph number object paths) gone came made
     → MainShows new (replaced graph number object paths)
-replaced_shows {old} {new} {graph} number object paths {gone} {came} {made} shows is_graph same links rest replaces =
+replaced_shows {old} {new} {graph} number object paths {gone} {came} {made} shows is_graph same links rest replaces
+    keeps =
     let before : Heap = heap_of old in
     let now : Heap = heap_of new in
     let after : Graph = replaced graph number object paths in
@@ -154,7 +182,9 @@ replaced_shows {old} {new} {graph} number object paths {gone} {came} {made} show
         granted = left_are_granted takes shows.shows.whole replaces.cells replaces.own shows.tied;
       };
       is_graph = is_graph;
-      quiet = takes.phase ∙ shows.quiet;
+      calm = λ mark.
+          let was = sym takes.phase ∙ mark in
+          cycle_rests shows was shown replaces.cells replaces.own change takes (keeps was);
       shows = shown;
       collectable = subst (λ (half : ℕ). IsCollectable now (other_half half))
           (sym (ap (λ (young : Young). young.half) takes.young))

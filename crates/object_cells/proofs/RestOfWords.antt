@@ -2,7 +2,7 @@
 use Rattle.std.proofs.Common.{◌≡◌, ℕ, ◌+◌, ◌≤◌, ◌<◌, List, length, refl, sym, ap, subst, arith}
 use Rattle.std.specs.Prelude.{ℤ, slice_set}
 use Rattle.tagged_word.specs.Headers.{header_bits}
-use Rattle.page_space.specs.Extents.{Space, marks_start}
+use Rattle.page_space.specs.Extents.{Space, layouts_start, marks_start}
 use Rattle.page_space.proofs.Starts.{layouts_start_is, marks_start_is}
 use Rattle.heap_model.specs.Types.{Held}
 use Rattle.handle_roots.specs.Roots.{root_at, first_word, second_word}
@@ -16,7 +16,11 @@ use Rattle.write_barrier.proofs.PutRanges.{length-with_range}
 use Rattle.object_cells.specs.Formats.{box_header}
 use Rattle.object_cells.specs.declared.content.SlotWrite.{SlotWrite}
 use Rattle.object_cells.specs.declared.content.SlotWrite.TheVariants as filling
-use Rattle.object_cells.specs.Contents.{filled, with_box, AllocatesBox, IsBeforeMarks}
+use Rattle.object_cells.specs.Contents.{filled, with_box, AllocatesBox, IsBeforeLayouts}
+
+-- the layout words stand before the marks
+pub layouts_before_marks : (space : Space) → layouts_start space ≤ marks_start space
+layouts_before_marks space = omega (arith, marks_start_is space)
 
 -- where nothing has changed, all this stays
 pub same_rest : {old new : Mutator} → new ≡ old → RestStays old.seat new.seat
@@ -54,12 +58,12 @@ box_beside main at v within =
 
 -- where a slot before the marks is filled
 pub filled_beside : (main : Mutator) (at : ℕ) (filling : SlotWrite) → at < marks_start main.seat.space
-    → IsBeforeMarks main.seat.space filling → RestStays main.seat (filled main at filling).seat
+    → IsBeforeLayouts main.seat.space filling → RestStays main.seat (filled main at filling).seat
 filled_beside main at (filling.Tagged word) below room = stays_beside-put main.seat at word.0
 filled_beside main at (filling.Raw word) below room = stays_beside-put main.seat at word
 filled_beside main at (filling.NewBox box v) below room =
     put_rest {last = (filled main at (filling.NewBox box v)).seat} at (reference_word box)
-    (box_beside main box v (omega (arith, room))) refl below
+    (box_beside main box v (omega (arith, room, layouts_before_marks main.seat.space))) refl below
 filled_beside main at (filling.OldBox box v) below room =
     stays_beside-put main.seat (box + 1) (raw_word v)
 
@@ -72,14 +76,14 @@ allocates_seat old new (filling.OldBox at v) same = ap (λ (main : Mutator). mai
 
 -- where words are used, others before the marks may change, and a slot before the marks is filled
 pub filled_still : (old between laid : Mutator) (at : ℕ) (filling : SlotWrite) → AllocatesBox old between filling
-    → RestStays between.seat laid.seat → at < marks_start old.seat.space → IsBeforeMarks old.seat.space filling
+    → RestStays between.seat laid.seat → at < marks_start old.seat.space → IsBeforeLayouts old.seat.space filling
     → RestStays old.seat (filled laid at filling).seat
 filled_still old between laid at filling allocates stays below room =
     let first : RestStays old.seat laid.seat =
     subst (λ (seat : Seat). RestStays seat laid.seat) (allocates_seat old between filling allocates) stays in
     rest_stays_again old.seat laid.seat (filled laid at filling).seat first
     (filled_beside laid at filling (subst (λ (s : Space). at < marks_start s) (sym first.space) below)
-    (subst (λ (s : Space). IsBeforeMarks s filling) (sym first.space) room))
+    (subst (λ (s : Space). IsBeforeLayouts s filling) (sym first.space) room))
 
 -- and where a variable comes to hold something
 pub variable_beside : (main : Mutator) (variable : ℕ) (held : Held) → variable < main.seat.space.variables

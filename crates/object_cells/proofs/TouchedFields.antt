@@ -144,7 +144,7 @@ module _ {old new : Heap} {cell : Cell} {next : ℕ} {others made : List Cell} {
       (box_has_no_slots of_kind)
 
   -- what was kept is a slot of the object then exactly where it was one, if fields whose slots were kept are alike
-  fields_kept : (eden : ℕ) (touch : ℕ → Touch)
+  pub fields_kept : (eden : ℕ) (touch : ℕ → Touch)
       → ((number : ℕ) → number < before.cap → cell.at + (plain_head + number) < eden
       → touch (cell.at + (plain_head + number)) ≡ Touch.Kept → AreAlike before after number)
       → (at : ℕ) → at < eden → touch at ≡ Touch.Kept → IsSlotOf cell at ↔ IsSlotOf one_now at
@@ -164,7 +164,7 @@ object_free (TouchesObject.slots touches) = touches.free
 object_free (TouchesObject.header touches) = touches.free
 
 -- the object's header is none of the run, so wiping it fits there
-header_apart : {old new : Heap} {cell : Cell} {next : ℕ} {others made : List Cell} {before after : Path}
+pub header_apart : {old new : Heap} {cell : Cell} {next : ℕ} {others made : List Cell} {before after : Path}
     {from to : ℕ} {touch : ℕ → Touch} → Refields old new cell next others made before after
     → TouchesMade old from to made touch → (at : ℕ) → at < eden_start old.space → from ≤ at → at < to
     → FitsTouch made made at (touched_one Touch.Wiped cell.at at)

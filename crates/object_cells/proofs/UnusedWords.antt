@@ -41,7 +41,14 @@ pub next_before_segments : (main : Mutator) (need : ℕ) → IsTied main → Has
     → next_at main + need ≤ segments_start main.seat.space
 next_before_segments main need tied room = before_segments_by main need tied (taking main.young need room)
 
--- so they end before the marks
+-- so they end before the layout words
+pub next_before_layouts : (main : Mutator) (need : ℕ) → IsTied main → HasRoom main.young need
+    → next_at main + need ≤ layouts_start main.seat.space
+next_before_layouts main need tied room =
+    let space = main.seat.space in
+    omega (arith, next_before_segments main need tied room, roots_start_is space, layouts_start_is space)
+
+-- and before the marks
 pub next_before_marks : (main : Mutator) (need : ℕ) → IsTied main → HasRoom main.young need
     → next_at main + need ≤ marks_start main.seat.space
 next_before_marks main need tied room =
@@ -59,6 +66,12 @@ pub run_before_marks : (main : Mutator) (need at : ℕ) (space : Space) → IsTi
     → at ≡ next_at main → space ≡ main.seat.space → at + need ≤ marks_start space
 run_before_marks main need at space tied room is same =
     omega (arith, next_before_marks main need tied room, is, ap (λ (one : Space). marks_start one) same)
+
+-- and before the layout words
+pub run_before_layouts : (main : Mutator) (need at : ℕ) (space : Space) → IsTied main → HasRoom main.young need
+    → at ≡ next_at main → space ≡ main.seat.space → at + need ≤ layouts_start space
+run_before_layouts main need at space tied room is same =
+    omega (arith, next_before_layouts main need tied room, is, ap (λ (one : Space). layouts_start one) same)
 
 -- the address behind the last word before the marks has 32 bits
 pub marks_fit : (space : Space) → AreWithin space.sizes space.variables → marks_start space < 4294967296

@@ -7,13 +7,6 @@ use Rattle.heap_model.specs.Showing.{ShowsField, ShowsHeld}
 use Rattle.tagged_word.specs.declared.layout.Kind.TheVariants as kind
 use Rattle.heap_model.specs.Heaps.{Heap, HasCell}
 use Rattle.heap_model.specs.Kinds.{HasWord, HasSlots}
-use Rattle.heap_model.specs.Wholeness.{Whole}
-use Rattle.write_barrier.specs.MutatorState.{Mutator, heap_of, MayStore}
-
--- The heap is whole, and the mutator may store.
-pub record IsQuietWhole (main : Mutator) : Type 0 where
-  pub quiet : MayStore main
-  pub whole : Whole (heap_of main)
 
 -- a cell of the heap stands at the address
 pub record HasCellAt (heap : Heap) (at : ℕ) : Type 0 where

@@ -6,7 +6,7 @@ use Rattle.tagged_word.specs.Headers.{header_bits}
 use Rattle.tagged_word.specs.Readings.{reference_in}
 use Rattle.heap_model.specs.Types.{Rep, Held}
 use Rattle.object_graph.specs.declared.value.Rep.TheVariants as rep
-use Rattle.page_space.specs.Extents.{Space, marks_start}
+use Rattle.page_space.specs.Extents.{Space, layouts_start}
 use Rattle.nursery.specs.Young.{HasRoom, next_of}
 use Rattle.handle_roots.specs.declared.held.Held.TheVariants as held
 use Rattle.write_barrier.specs.Seats.{RestStays}
@@ -84,11 +84,11 @@ abbrev pub HoldsSlotWord : Heap → ℕ → SlotContent → Type 0
 HoldsSlotWord heap word (content.Boxed v) = IsSlotWord heap word
 HoldsSlotWord heap word _ = Unit {0}
 
--- a box that is made is before the marks
-abbrev pub IsBeforeMarks : Space → SlotWrite → Type 0
-IsBeforeMarks space (filling.NewBox at v) = at + box_words ≤ marks_start space
-IsBeforeMarks space (filling.OldBox at v) = at + box_words ≤ marks_start space
-IsBeforeMarks space _ = Unit {0}
+-- a box that is made, or written, is before the layout words
+abbrev pub IsBeforeLayouts : Space → SlotWrite → Type 0
+IsBeforeLayouts space (filling.NewBox at v) = at + box_words ≤ layouts_start space
+IsBeforeLayouts space (filling.OldBox at v) = at + box_words ≤ layouts_start space
+IsBeforeLayouts space _ = Unit {0}
 
 -- both words at an address are those of a box of the integer
 abbrev pub with_box : Mutator → ℕ → ℤ → Mutator

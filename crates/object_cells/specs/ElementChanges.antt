@@ -19,6 +19,7 @@ use Rattle.write_barrier.specs.Recording.{Remembers}
 use Rattle.object_cells.specs.HeldValues.{IsReachedValue}
 use Rattle.object_cells.specs.Uses.{TakesRun}
 use Rattle.object_cells.specs.CellWrites.{WritesOwnCells}
+use Rattle.object_cells.specs.CycleChanges.{KeepsCellsOpen}
 use Rattle.object_cells.specs.OwnSlots.{IsNoBoxOf, Refills}
 
 -- Words of a list's own cells were written.
@@ -69,12 +70,12 @@ WrittenElementsShow =
     (old new : Mutator) (graph : Graph) (list : ListObject) (cell : Cell) (others made : List Cell)
     (elements : List Value)
     → MainShows old graph → slice_get graph.objects list.number ≡ Some (ListOf list.elements)
-    → cell.header.object ≡ list.number
+    → IsTrue (is_marked (reach graph) list.number) → cell.header.object ≡ list.number
     → ShowsList (heap_of old) cell (words_of_cell (heap_of old) cell) list.elements
     → AreNewElements graph elements → TakesRun old new made → new.paths ≡ old.paths
     → WritesList (heap_of old) (heap_of new) cell others made
     → RefillsElements (heap_of old) (heap_of new) cell others made list.elements elements
-    → Remembers old new (cell ∷ others) (cell ∷ others) made
+    → Remembers old new (cell ∷ others) (cell ∷ others) made → KeepsCellsOpen old new cell others
     → MainShows new (relist graph list elements)
 
 -- With one element more behind those that it has, for which there is room, a list that can be reached has elements that

@@ -5,6 +5,8 @@ pub mod PlainObjects
 pub mod CellsAt
 pub mod Formats
 pub mod Contents
+pub mod CycleChanges
+pub mod SureCells
 pub mod Refills
 pub mod CellWrites
 pub mod OwnSlots

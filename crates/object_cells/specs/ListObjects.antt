@@ -9,7 +9,7 @@ use Rattle.heap_model.specs.Heaps.{Heap, HasCell}
 use Rattle.heap_model.specs.Slots.{IsPlace}
 use Rattle.heap_model.specs.Needs.{count_at}
 use Rattle.write_barrier.specs.MutatorState.{Mutator, heap_of, IsTied, MainShows}
-use Rattle.object_cells.specs.CellsAt.{IsQuietWhole}
+use Rattle.heap_model.specs.Wholeness.{Whole}
 
 -- The list of the graph has its place at the address, and can be reached.
 pub record IsListAt (main : Mutator) (graph : Graph) (at : ℕ) (list : ListObject) : Type 0 where
@@ -35,6 +35,6 @@ pub record IsListCellAt (heap : Heap) (at : ℕ) : Type 0 where
 -- The elements of the list at the address, which are so many, may change.
 pub record IsListReady (main : Mutator) (list count : ℕ) : Type 0 where
   pub tied : IsTied main
-  pub whole : IsQuietWhole main
+  pub whole : Whole (heap_of main)
   pub there : IsListCellAt (heap_of main) list
   pub counted : count_at (heap_of main) list ≡ count

@@ -4,6 +4,7 @@ use Rattle.object_graph.specs.declared.object.Object.TheVariants.{Plain}
 use Rattle.heap_model.specs.Types.{Field, Value, Cell}
 use Rattle.object_graph.specs.Paths.{path_of, with_path}
 use Rattle.object_graph.specs.Graphs.{Graph, PlainObject}
+use Rattle.object_graph.specs.Meaning.{refill}
 use Rattle.object_graph.specs.Objects.{with_field, without_field}
 use Rattle.object_graph.specs.Reach.{is_marked, reach}
 use Rattle.object_graph.specs.Invariants.{IsGraph, IsValue, AreFields, fields_most}
@@ -15,6 +16,7 @@ use Rattle.heap_model.specs.Showing.{ShowsPlain, ShowsProto}
 use Rattle.heap_model.specs.Changes.{CellsChange, IsOwnChange}
 use Rattle.heap_model.specs.Remembered.{AreRemembered}
 use Rattle.write_barrier.specs.MutatorState.{Mutator, heap_of, MainShows}
+use Rattle.object_cells.specs.CycleChanges.{KeepsOpenCycle}
 use Rattle.object_cells.specs.Uses.{TakesRun}
 use Rattle.object_cells.specs.PlainObjects.{LacksFields, ShowsRefilled}
 use Rattle.object_cells.specs.HeldValues.{IsReachedValue}
@@ -60,6 +62,7 @@ RefillsShow =
     → AreNewFields graph fields
     → with_path (Some paths_most) graph.paths (path_of plain.cap fields) ≡ Some new.paths
     → RestsAgain old new made → RefillsCells (heap_of old) (heap_of new) plain fields gone came made
+    → KeepsOpenCycle old new (refill graph plain fields new.paths) gone came made
     → ShowsRefilled new graph plain fields
 
 -- With one field written, for which there is room, an object that can be reached has fields that it may have.

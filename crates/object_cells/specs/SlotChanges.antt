@@ -19,6 +19,7 @@ use Rattle.write_barrier.specs.MutatorState.{Mutator, heap_of, MainShows}
 use Rattle.write_barrier.specs.Recording.{Remembers}
 use Rattle.object_cells.specs.Uses.{TakesRun}
 use Rattle.object_cells.specs.CellWrites.{reshaped, WritesOwnCells}
+use Rattle.object_cells.specs.CycleChanges.{KeepsCellsOpen}
 use Rattle.object_cells.specs.OwnSlots.{IsNoBoxOf, Refills}
 use Rattle.object_cells.specs.PlainObjects.{ShowsRefilled}
 use Rattle.object_cells.specs.Refills.{AreNewFields, RefillsCells}
@@ -97,4 +98,5 @@ WrittenFieldsShow =
     → WritesFields (heap_of old) (heap_of new) cell shape others made
     → RefillsSlots (heap_of old) (heap_of new) cell shape others made plain.fields fields
     → Remembers old new (cell ∷ others) (reshaped new.paths cell shape ∷ others) made
+    → KeepsCellsOpen old new (reshaped new.paths cell shape) others
     → ShowsRefilled new graph plain fields

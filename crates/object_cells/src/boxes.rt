@@ -1,15 +1,17 @@
 //! The boxes of integers that slots refer to: which stands there, and how one is made.
 ghost use Rattle.std.specs.Prelude.{◌≡◌, ℕ, ℤ, ◌+◌, ◌<◌, ◌≤◌, Some, OnErr, IfOk, IfErr};
 ghost use Rattle.tagged_word.specs.Readings.{reference_in};
-ghost use Rattle.page_space.specs.Extents.{marks_start};
+ghost use Rattle.page_space.specs.Extents.{layouts_start, marks_start};
 ghost use Rattle.write_barrier.specs.Seats.{heap_words};
 ghost use Rattle.heap_model.specs.Needs.{box_words, word_at};
-ghost use Rattle.write_barrier.specs.MutatorState.{MayStore, heap_of, IsTied};
+ghost use Rattle.heap_model.specs.Wholeness.{Whole};
+ghost use Rattle.write_barrier.specs.MutatorState.{heap_of, IsTied};
 ghost use Rattle.write_barrier.specs.Recording.{Touches};
-ghost use Rattle.object_cells.specs.CellsAt.{IsQuietWhole};
+ghost use Rattle.write_barrier.specs.Storing.{IsMadeYoung, StoresOn};
 ghost use Rattle.object_cells.specs.Contents as contents;
-ghost use Rattle.object_cells.specs.Contents.{next_at, AllocatesBox, LacksRoom, IsBeforeMarks};
+ghost use Rattle.object_cells.specs.Contents.{next_at, AllocatesBox, LacksRoom, IsBeforeLayouts};
 ghost use Rattle.object_cells.specs.Contents.{HoldsSlotWord};
+ghost use Rattle.object_cells.specs.CycleChanges.{MayFillSlot};
 ghost use Rattle.object_cells.specs.Made.{PutsWords, content_need, content_touch, content_word, with_content};
 
 use crate::content::{SlotContent, SlotWrite};
@@ -31,12 +33,14 @@ pub fn need_of(content: SlotContent) -> u32
 
 /// The word that a slot of a store comes to hold; a box that it needs is made at an address.
 pub fn boxed_word(main: &mut Main, content: SlotContent, at: u32) -> Word
-    requires may_store { MayStore main.old }
+    requires young { (v : ℤ) → content ≡ SlotContent.Boxed v → IsMadeYoung main.old at }
     requires within { (v : ℤ) → content ≡ SlotContent.Boxed v
-        → at + 1 < marks_start main.old.seat.space }
+        → at + 1 < layouts_start main.old.seat.space }
     ensures made { let words = heap_words main.old.seat in
         PutsWords main.old main.new (with_content words content at) }
     ensures touches { Touches main.old main.new (content_touch content at) }
+    ensures stores { StoresOn main.old main.new }
+    ensures cycle { main.new.cycle ≡ main.old.cycle }
     ensures word { result.0 ≡ content_word content at }
 {
     match content {
@@ -69,15 +73,14 @@ fn box_in(main: &Main, word: Word) -> Option<u32>
 /// There is no room for a box; nothing has changed.
 #[inline(never)]
 fn box_filling(main: &mut Main, word: Word, v: i64) -> Result<SlotWrite, NoRoom>
-    requires may_store { MayStore main.old }
     requires tied { IsTied main.old }
     requires within { (at : ℕ) → reference_in word.0 ≡ Some at
-        → at + box_words ≤ marks_start main.old.seat.space }
+        → at + box_words ≤ layouts_start main.old.seat.space }
     ensures filling { let box = contents.box_in (heap_of main.old) word.0 in
         IfOk result (λ filling.
         filling ≡ contents.filling_of box (next_at main.old) (SlotContent.Boxed v)) }
     ensures allocates { IfOk result (λ filling. AllocatesBox main.old main.new filling) }
-    ensures before_marks { IfOk result (IsBeforeMarks main.old.seat.space) }
+    ensures in_cells { IfOk result (IsBeforeLayouts main.old.seat.space) }
     ensures refused { let box = contents.box_in (heap_of main.old) word.0 in
         IfErr result (λ full.
         LacksRoom main.old (contents.filling_of box (next_at main.old) (SlotContent.Boxed v)) full) }
@@ -97,13 +100,13 @@ fn box_filling(main: &mut Main, word: Word, v: i64) -> Result<SlotWrite, NoRoom>
 /// There is no room for a box; nothing has changed.
 #[inline(always)]
 pub fn filling_of(main: &mut Main, at: u32, content: SlotContent) -> Result<SlotWrite, NoRoom>
-    requires whole { IsQuietWhole main.old }
+    requires whole { Whole (heap_of main.old) }
     requires tied { IsTied main.old }
     requires within { at < marks_start main.old.seat.space }
     requires slot { HoldsSlotWord (heap_of main.old) (word_at (heap_of main.old) at) content }
     ensures filling { IfOk result (λ filling. filling ≡ contents.filling_at main.old at content) }
     ensures allocates { IfOk result (λ filling. AllocatesBox main.old main.new filling) }
-    ensures before_marks { IfOk result (IsBeforeMarks main.old.seat.space) }
+    ensures in_cells { IfOk result (IsBeforeLayouts main.old.seat.space) }
     ensures refused { IfErr result (λ full.
         LacksRoom main.old (contents.filling_at main.old at content) full) }
     ensures unchanged { OnErr result (main.new ≡ main.old) }
@@ -121,9 +124,9 @@ pub fn filling_of(main: &mut Main, at: u32, content: SlotContent) -> Result<Slot
 /// Fills the slot at an offset of a cell.
 #[inline(always)]
 pub fn fill(main: &mut Main, cell: u32, offset: u32, filling: SlotWrite)
-    requires may_store { MayStore main.old }
+    requires may { MayFillSlot main.old (cell + offset) filling }
     requires within { cell + offset < marks_start main.old.seat.space }
-    requires room { IsBeforeMarks main.old.seat.space filling }
+    requires room { IsBeforeLayouts main.old.seat.space filling }
     ensures { main.new ≡ contents.filled main.old (cell + offset) filling }
 {
     match filling {

@@ -8,8 +8,9 @@ ghost use Rattle.object_cells.specs.ElementChanges.{WrittenElementsShow};
 ghost use Rattle.object_cells.specs.ElementChanges.{PushedElementsAreNew, PutElementsAreNew};
 
 /// A heap that showed a graph shows it with other fields in one plain object, where their path was
-/// added, the object's own cells alone changed, and its cell shows them. Such fields are those of
-/// an object that can be reached with one written, for which there is room, or with one taken out.
+/// added, the object's own cells alone changed, its cell shows them, and an open cycle is kept. Such
+/// fields are those of an object that can be reached with one written, for which there is room, or
+/// with one taken out.
 pub fn laws_of_refills()
     ensures show { RefillsShow }
     ensures written { WrittenFieldsAreNew }
@@ -39,16 +40,17 @@ pub fn laws_of_capacities()
 /// Where words of a plain object's own cells were so written that its slots show other fields, and
 /// each names nothing, what one slot named before, or what was made, the change of cells is the
 /// object's own, and its cell shows the fields. So a heap that showed a graph shows it with these
-/// fields in the object, where their path was added.
+/// fields in the object, where their path was added and the object's cells are kept in an open cycle.
 pub fn laws_of_slots()
     ensures refill { SlotsRefill }
     ensures show { WrittenFieldsShow }
 {}
 
 /// Where words of a list's own cells were so written that its slots show other elements, and each
-/// names nothing, what one slot named before, or what was made, a heap that showed a graph shows it
-/// with these elements in the list. Elements that a list may have are those of one that can be reached
-/// with one pushed, for which there is room, or with one put in the place of another.
+/// names nothing, what one slot named before, or what was made, and its cells are kept in an open
+/// cycle, a heap that showed a graph shows it with these elements in the list. Elements that a list
+/// may have are those of one that can be reached with one pushed, for which there is room, or with
+/// one put in the place of another.
 pub fn laws_of_elements()
     ensures show { WrittenElementsShow }
     ensures pushed { PushedElementsAreNew }

@@ -10,6 +10,7 @@
 //! `content_of` is what the slot of a field holds for a value. `formats.rt` has the words of boxes and
 //! stores; `stores.rt` and `boxes.rt` make those that objects need, and say which words that puts, and
 //! what becomes of the recorded slots; `lists.rt` reads a list's length.
+//! `specs/CycleChanges.antt` says what a change of cells leaves of an open cycle of marking.
 //! Invariant: none. The calls that write show how they wrote, and nothing of graphs or owners.
 #![tactic(auto)]
 

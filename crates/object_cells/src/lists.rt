@@ -3,7 +3,7 @@ ghost use Rattle.std.specs.Prelude.{◌≡◌, ◌≤◌};
 ghost use Rattle.object_graph.specs.Meaning.{list_most, below};
 ghost use Rattle.write_barrier.specs.MutatorState.{heap_of};
 ghost use Rattle.heap_model.specs.Needs as needs;
-ghost use Rattle.object_cells.specs.CellsAt.{IsQuietWhole};
+ghost use Rattle.heap_model.specs.Wholeness.{Whole};
 ghost use Rattle.object_cells.specs.ListObjects.{IsListCellAt};
 
 use heap_model::cells::COUNT;
@@ -16,7 +16,7 @@ pub struct Range;
 
 /// How many elements the list at an address has: at most 1,000.
 pub fn count_of(main: &Main, list: u32) -> u32
-    requires whole { IsQuietWhole main.now }
+    requires whole { Whole (heap_of main.now) }
     requires there { IsListCellAt (heap_of main.now) list }
     ensures counted { result ≡ needs.count_at (heap_of main.now) list }
     ensures few { result ≤ list_most }

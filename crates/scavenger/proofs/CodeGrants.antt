@@ -15,7 +15,7 @@ use Rattle.heap_model.specs.Heaps.{HasCell}
 use Rattle.heap_model.specs.Remembered.{Touch}
 use Rattle.heap_model.proofs.CellsApart.{has_is_cell}
 use Rattle.heap_model.proofs.RememberedSlots.{page_slot_below}
-use Rattle.write_barrier.specs.MutatorState.{Mutator, heap_of, MainShows}
+use Rattle.write_barrier.specs.MutatorState.{Mutator, MayStore, MainShows, heap_of}
 use Rattle.write_barrier.specs.FreeCells.{with_free_cell, with_fillers}
 use Rattle.write_barrier.specs.Recording.{Touches, touched}
 use Rattle.scavenger.specs.Following.{IsFreeAt}
@@ -51,7 +51,7 @@ grants_in_page shows some takes =
     omega (arith, in_page granting, granting.enough, taken_at takes)
 
 module _ {old mid new : Mutator} {graph : Graph} {n : ℕ} {run : Run} {free : Cell} (shows : MainShows old graph)
-    (some : 1 ≤ n) (own : AreFree old.free) (takes : TakesFront old.free mid.free n run)
+    (quiet : MayStore old) (some : 1 ≤ n) (own : AreFree old.free) (takes : TakesFront old.free mid.free n run)
     (is_free : IsFreeAt old.seat.space (heap_words old.seat) free run.at) (taken : CutsFreeCell old mid n run free)
     (young : new.young ≡ with_granted mid.young run)
     (heap : heap_words new.seat ≡ with_fillers (heap_words mid.seat) run.at run.words)
@@ -145,6 +145,7 @@ module _ {old mid new : Mutator} {graph : Graph} {n : ℕ} {run : Run} {free : C
   run_granted = record {
     run = run;
     some = some;
+    quiet = quiet;
     own = own;
     takes = takes_all;
     young = young_is;

@@ -223,7 +223,7 @@ module _ {start old : Mutator} {handed : List SegmentCopies} {all : Bool} {befor
           homes = all_homes;
           two = state.two;
           bounded = state.bounded;
-          quiet = copied.changes.seat.phase ∙ state.quiet;
+          quiet = λ mark. state.quiet (sym copied.changes.seat.phase ∙ mark);
           begun = state.begun;
           filled = subst (λ (homes : List Home). CopiesFillRooms (start_with start handed) state.fixed
               (heap_words new.seat)

@@ -10,11 +10,10 @@ use Rattle.tagged_word.specs.Readings.{reference_in}
 use Rattle.tagged_word.proofs.Readings.{reference_to}
 use Rattle.page_space.specs.Extents.{eden_start, marks_start}
 use Rattle.remembered_set.specs.Recorded.{Recorded}
-use Rattle.heap_table.specs.Phases.{Quiet}
 use Rattle.write_barrier.specs.Seats.{RestStays, heap_words}
 use Rattle.write_barrier.proofs.HeapWords.{stays_beside-put}
 use Rattle.heap_model.specs.Types.{Run}
-use Rattle.write_barrier.specs.MutatorState.{Mutator, judged, with_slot}
+use Rattle.write_barrier.specs.MutatorState.{Mutator, MayStore, judged, with_slot}
 use Rattle.write_barrier.proofs.JudgedSlots.{judges_one, judged_behind, told_young}
 use Rattle.write_barrier.proofs.SlotCycles.{cycle_idle}
 use Rattle.scav_copy.specs.declared.places.Home.{Home}
@@ -63,14 +62,13 @@ judged_bound recorded slot word = elim (cases_lt slot recorded.bound) [
 ]
 
 -- a slot's word that is put before the marks is a change of heap words, while no cycle is open
-store_changes : {old new : Mutator} (slot word : ℕ) → old.seat.phase ≡ Quiet → new ≡ with_slot old slot word
+store_changes : {old new : Mutator} (slot word : ℕ) → MayStore old → new ≡ with_slot old slot word
     → heap_words new.seat ≡ slice_set (heap_words old.seat) slot word → slot < marks_start old.seat.space
     → ChangesWords old new
 store_changes {old} {new} slot word quiet is heap below = record {
   seat = subst (λ (main : Mutator). RestStays old.seat main.seat) (sym is) (stays_beside-put old.seat slot word);
   paths = ap (λ (main : Mutator). main.paths) is;
-  cycle = ap (λ (main : Mutator). main.cycle) is
-      ∙ cycle_idle old slot _ (λ mark. let clash = sym quiet ∙ mark in cc);
+  cycle = ap (λ (main : Mutator). main.cycle) is ∙ cycle_idle old slot _ quiet;
   young = ap (λ (main : Mutator). main.young) is;
   bound = ap (λ (main : Mutator). main.recorded.bound) is ∙ judged_bound old.recorded slot word;
   count = ap length heap ∙ length-set (heap_words old.seat) slot word;
@@ -151,7 +149,7 @@ module _ {start mid new : Mutator} {handed : List SegmentCopies} {all : Bool} {p
         homes = state.homes;
         two = state.two;
         bounded = state.bounded;
-        quiet = changes.seat.phase ∙ state.quiet;
+        quiet = λ mark. state.quiet (sym changes.seat.phase ∙ mark);
         begun = state.begun;
         filled = subst (λ (rows : List (List Run)). CopiesFillRooms (start_with start handed) state.fixed
             (heap_words new.seat)

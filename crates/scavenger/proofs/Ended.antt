@@ -135,7 +135,7 @@ module _ {old new : Mutator} {handed : List SegmentCopies} {all : Bool} {fixed :
           granted = λ some. absurd (none_granted some);
         };
         is_graph = shows.is_graph;
-        quiet = is.seat.phase ∙ shows.quiet;
+        calm = λ mark. absurd (is.quiet (sym is.seat.phase ∙ mark));
         shows = moves_show (heap_of old) (heap_of new) to graph (shows_for (Stays to) shows.shows) moved;
         collectable = left_is_collectable;
         free = left_is_free;

@@ -7,9 +7,8 @@ use Rattle.page_space.specs.RegionLaws.{IsSpace}
 use Rattle.object_graph.specs.Graphs.{Graph}
 use Rattle.nursery.specs.Young.{IsYoung, other_half}
 use Rattle.free_runs.specs.FreeRuns.{AreFree}
-use Rattle.heap_table.specs.Phases.{Quiet}
 use Rattle.heap_model.proofs.RememberedSlots.{page_slot_below}
-use Rattle.write_barrier.specs.MutatorState.{Mutator, MainShows}
+use Rattle.write_barrier.specs.MutatorState.{Mutator, MayStore, MainShows}
 use Rattle.scav_copy.specs.declared.places.Home.{Home}
 use Rattle.scav_copy.specs.Places.{Fixed, StoodAt}
 use Rattle.scav_copy.specs.Copies.{Copying}
@@ -93,7 +92,7 @@ first_to_do {start} begun slot place (StoodAt.itself among same) =
 first_to_do begun slot place (StoodAt.in_cell home offset there visited stands stood) = absurd (none_in home there)
 
 -- a scavenge begins with no copy and nothing on its list
-pub first_step : (main : Mutator) (all : Bool) → main.seat.phase ≡ Quiet → MayBegin main
+pub first_step : (main : Mutator) (all : Bool) → MayStore main → MayBegin main
     → Scavenging main (nothing_handed main.seat.space) main all (first_progress main) []
     (at_root (roots_start main.seat.space))
 first_step main all quiet may = record {

@@ -92,7 +92,7 @@ module _ {old new : Mutator} {n : ℕ} (grants : Grants old new n) {graph : Grap
       granted = fillers;
     };
     is_graph = shows.is_graph;
-    quiet = grants.beside.phase ∙ shows.quiet;
+    calm = λ mark. absurd (grants.quiet (sym grants.beside.phase ∙ mark));
     shows = moves_show (heap_of old) (heap_of new) (all_but one.at) graph
         (shows_for (Stays (all_but one.at)) shows.shows) is_moved;
     collectable = may_collect;

@@ -14,9 +14,8 @@ use Rattle.heap_model.specs.Types.{Run}
 use Rattle.heap_model.specs.Remembered.{RefersToYoung}
 use Rattle.heap_model.proofs.RememberedSlots.{page_slot_below}
 use Rattle.heap_model.proofs.RowCovers.{from_one}
-use Rattle.heap_table.specs.Phases.{Quiet}
 use Rattle.write_barrier.specs.Seats.{heap_words}
-use Rattle.write_barrier.specs.MutatorState.{Mutator, MainShows}
+use Rattle.write_barrier.specs.MutatorState.{Mutator, MayStore, MainShows}
 use Rattle.scav_copy.specs.declared.places.Home.{Home}
 use Rattle.scav_copy.specs.Places.{Fixed, IsInCopies, StoodAt}
 use Rattle.scav_copy.specs.Renamings.{RefersToAddress}
@@ -189,14 +188,14 @@ module _ {start now : Mutator} {handed : List SegmentCopies} {left : List ℕ} {
 
   -- so a scavenge has come there, and the slots that were left are live
   pub handed_step : start.young.half ≤ 1 → start.recorded.bound ≡ eden_start start.seat.space
-      → start.seat.phase ≡ Quiet → HasLeft start handed now false (handed_progress start many) [] left left
+      → MayStore start → HasLeft start handed now false (handed_progress start many) [] left left
   handed_step two bounded quiet = record {
     state = record {
       fixed = hands.fixed;
       homes = hands.homes;
       two = two;
       bounded = bounded;
-      quiet = hands.changes.seat.phase ∙ quiet;
+      quiet = λ mark. quiet (sym hands.changes.seat.phase ∙ mark);
       begun = hands.begun;
       filled = subst (λ (rows : List (List Run)). CopiesFillRooms begins hands.fixed (heap_words now.seat) rows
           hands.homes (room_start start.seat.space begins.half)) (sym hands.free) handed_filled;
@@ -216,11 +215,11 @@ module _ {start now : Mutator} {handed : List SegmentCopies} {left : List ℕ} {
 
 -- so it has with the spaces that the code has computed, and an empty list
 pub comes_left : (start now : Mutator) (handed : List SegmentCopies) (graph : Graph) (left : List ℕ) (many : ℕ)
-    (spaces : Spaces) (progress : Progress) (items : List ℕ) → MainShows start graph → IsYoung now.young
-    → HandsOver start handed now left many → AreSpaces now.seat.space now.young.half false spaces
+    (spaces : Spaces) (progress : Progress) (items : List ℕ) → MainShows start graph → MayStore start
+    → IsYoung now.young → HandsOver start handed now left many → AreSpaces now.seat.space now.young.half false spaces
     → progress ≡ record { fill = spaces.room; copied = many; refused = page_words + 1 } → items ≡ []
     → HasLeft start handed now false progress items left left
-comes_left start now handed graph left many spaces progress items shows young hands are is_progress none =
+comes_left start now handed graph left many spaces progress items shows quiet young hands are is_progress none =
     let two : start.young.half ≤ 1 =
     subst (λ (one : Young). one.half ≤ 1) hands.changes.young young.half in
     let room : spaces.room ≡ room_start start.seat.space (other_half start.young.half) =
@@ -230,7 +229,7 @@ comes_left start now handed graph left many spaces progress items shows young ha
     subst (λ (one : Progress). HasLeft start handed now false one items left left) (sym is_progress)
     (subst (λ (first : ℕ). HasLeft start handed now false (Begun first) items left left) (sym room)
     (subst (λ (todo : List ℕ). HasLeft start handed now false (handed_progress start many) todo left left) (sym none)
-    (handed_step hands two shows.bounded shows.quiet)))
+    (handed_step hands two shows.bounded quiet)))
 
 -- What is known then, as the code begins: the slots are to do, and which words they have is known.
 pub record LeavesSlots (start now : Mutator) (handed : List SegmentCopies) (left : List ℕ) (many : ℕ)
@@ -242,19 +241,21 @@ pub record LeavesSlots (start now : Mutator) (handed : List SegmentCopies) (left
 
 -- so it is where the code has begun
 pub leaves_slots : (start old now : Mutator) (handed : List SegmentCopies) (graph : Graph) (left : List ℕ) (many : ℕ)
-    (spaces : Spaces) (progress : Progress) (items : List ℕ) → MainShows start graph → IsYoung now.young
-    → HandsOver start handed old left many → now ≡ old → AreSpaces old.seat.space old.young.half false spaces
+    (spaces : Spaces) (progress : Progress) (items : List ℕ) → MainShows start graph → MayStore start
+    → IsYoung now.young → HandsOver start handed old left many → now ≡ old
+    → AreSpaces old.seat.space old.young.half false spaces
     → progress ≡ record { fill = spaces.room; copied = many; refused = page_words + 1 } → items ≡ []
     → LeavesSlots start now handed left many spaces progress items
-leaves_slots start old now handed graph left many spaces progress items shows young hands same were is_progress none =
+leaves_slots start old now handed graph left many spaces progress items shows quiet young hands same were is_progress
+    none =
     let hands_now : HandsOver start handed now left many =
     subst (λ (one : Mutator). HandsOver start handed one left many) (sym same) hands in
     let are : AreSpaces now.seat.space now.young.half false spaces =
     subst (λ (one : Mutator). AreSpaces one.seat.space one.young.half false spaces) (sym same) were in
     record {
       hands = hands_now;
-      has = comes_left start now handed graph left many spaces progress items shows young hands_now are is_progress
-          none;
+      has = comes_left start now handed graph left many spaces progress items shows quiet young hands_now are
+          is_progress none;
       are = are;
       young = subst (λ (one : Young). IsYoung one) hands_now.changes.young young;
     }

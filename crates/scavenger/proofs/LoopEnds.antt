@@ -77,6 +77,7 @@ ends_scavenging {start} {now} {emptied} {new} {handed} {all} {progress} limits s
     IsEnded start handed main all state.fixed state.homes words progress.fill progress.refused in
     subst Of (sym is) (record {
       limits = limits;
+      quiet = λ mark. state.quiet (state.changes.seat.phase ∙ mark);
       begun = state.begun;
       bounded = state.bounded;
       filled = subst Filled (sym free) state.filled;

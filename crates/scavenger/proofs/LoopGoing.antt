@@ -48,6 +48,7 @@ changes_since {first} {old} {new} before now = record {
     home = now.seat.home ∙ sym before.seat.home;
     out = now.seat.out ∙ sym before.seat.out;
     lent = now.seat.lent ∙ sym before.seat.lent;
+    marks = now.seat.marks ∙ sym before.seat.marks;
   };
   paths = now.paths ∙ sym before.paths;
   cycle = now.cycle ∙ sym before.cycle;

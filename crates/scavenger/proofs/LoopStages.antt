@@ -6,7 +6,7 @@ use Rattle.page_space.specs.RegionLaws.{IsSpace}
 use Rattle.nursery.specs.Young.{Young, IsYoung, other_half}
 use Rattle.free_runs.specs.FreeRuns.{AreFree}
 use Rattle.object_graph.specs.Graphs.{Graph}
-use Rattle.write_barrier.specs.MutatorState.{Mutator, MainShows}
+use Rattle.write_barrier.specs.MutatorState.{Mutator, MayStore, MainShows}
 use Rattle.scavenger.specs.declared.spaces.Spaces.{Spaces}
 use Rattle.scavenger.specs.declared.progress.Progress.{Progress}
 use Rattle.scavenger.specs.Starts.{SegmentCopies, nothing_handed, room_start}
@@ -38,11 +38,11 @@ has_come {main} {now} {handed} {spaces} {all} are state = record {
 
 -- it begins with an empty list
 pub comes_first : (main now : Mutator) (graph : Graph) (spaces : Spaces) (all : Bool) (progress : Progress)
-    (items : List ℕ) → MainShows main graph → IsSpace now.seat.space → IsYoung now.young → AreFree now.free
-    → now ≡ main → AreSpaces main.seat.space main.young.half all spaces
+    (items : List ℕ) → MainShows main graph → MayStore main → IsSpace now.seat.space → IsYoung now.young
+    → AreFree now.free → now ≡ main → AreSpaces main.seat.space main.young.half all spaces
     → progress ≡ record { fill = spaces.room; copied = 0; refused = page_words + 1 } → items ≡ []
     → HasCome main (nothing_handed main.seat.space) now spaces all progress items (at_root (roots_start now.seat.space))
-comes_first main now graph spaces all progress items shows limits young free same are is_progress none =
+comes_first main now graph spaces all progress items shows quiet limits young free same are is_progress none =
     let handed : List SegmentCopies = nothing_handed main.seat.space in
     let Come : Mutator → Progress → List ℕ → Type 0 = λ main_now progress todo.
     HasCome main handed main_now spaces all progress todo (at_root (roots_start main_now.seat.space)) in
@@ -52,7 +52,7 @@ comes_first main now graph spaces all progress items shows limits young free sam
     (subst (λ (one : Mutator). IsYoung one.young) same young)
     (subst (λ (one : Mutator). AreFree one.free) same free) in
     let first : Come main (Begun (room_start main.seat.space (other_half main.young.half))) [] =
-    has_come are (first_step main all shows.quiet may) in
+    has_come are (first_step main all quiet may) in
     subst (λ (one : Mutator). Come one progress items) (sym same)
     (subst (λ (one : Progress). Come main one items) (sym is_progress)
     (subst (λ (room : ℕ). Come main (Begun room) items) (sym are.room)

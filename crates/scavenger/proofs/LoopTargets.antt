@@ -12,9 +12,8 @@ use Rattle.cell_layout.specs.Cells.{IsCell}
 use Rattle.free_runs.specs.FreeRuns.{TakesFront}
 use Rattle.nursery.specs.Young.{Young}
 use Rattle.heap_model.specs.Types.{Cell, Run}
-use Rattle.heap_table.specs.Phases.{Quiet}
 use Rattle.write_barrier.specs.Seats.{heap_words}
-use Rattle.write_barrier.specs.MutatorState.{Mutator}
+use Rattle.write_barrier.specs.MutatorState.{Mutator, MayStore}
 use Rattle.write_barrier.specs.FreeCells.{with_free_cell}
 use Rattle.write_barrier.proofs.FreeCells.{cell_beside}
 use Rattle.scav_copy.specs.declared.places.Home.{Home}
@@ -96,7 +95,7 @@ new_target {fixed = fixed} is reached head (IsTarget.unmoved cell none is_cell s
 
 -- What is known of a cell before it is copied to an address.
 pub record MayBeCopied (main : Mutator) (cell : Cell) (to : ℕ) : Type 0 where
-  pub quiet : main.seat.phase ≡ Quiet
+  pub quiet : MayStore main
   pub is : IsCell main.seat.space (heap_words main.seat) cell
   pub room : to + cell.size ≤ marks_start main.seat.space
   pub apart : AreDisjoint cell.at to cell.size
@@ -227,7 +226,7 @@ module _ {start now : Mutator} {handed : List SegmentCopies} {all : Bool} {progr
           (inr (omega (arith, room.enough, room.in_page, young))) in
           let space_is : mid.seat.space ≡ start.seat.space = taken.changes.seat.space ∙ state.changes.seat.space in
           record {
-            quiet = taken.changes.seat.phase ∙ state.quiet;
+            quiet = λ mark. state.quiet (sym taken.changes.seat.phase ∙ mark);
             is = subst (λ (all_words : List ℕ). IsCell mid.seat.space all_words cell) (sym taken.words)
                 (subst (λ (space : Space). IsCell space (with_free_cell words from count) cell) (sym space_is) beside);
             room = subst (λ (space : Space). from ≤ marks_start space) (sym space_is)

@@ -11,7 +11,7 @@ use Rattle.heap_model.specs.Heaps.{HasCell}
 use Rattle.heap_model.specs.Needs.{capacity_at}
 use Rattle.heap_model.specs.Reaching.{IsTight}
 use Rattle.heap_model.specs.Slots.{IsPlace}
-use Rattle.write_barrier.specs.MutatorState.{Mutator, heap_of, MainShows}
+use Rattle.write_barrier.specs.MutatorState.{Mutator, MayStore, MainShows, heap_of}
 use Rattle.write_barrier.specs.FreeCells.{with_free_cell, with_fillers}
 use Rattle.scavenger.specs.Laws.{KeepsGraphs}
 
@@ -21,10 +21,12 @@ granted_words words run n = with_fillers (with_free_cell words (run.at + n) (run
 
 -- The first n words of a free run are granted, of which there are some: they are fillers, a cell each, and in no free
 -- run any more; what is left of the run is one free cell. Free runs had no word in common before. All other cells stand
--- as they stood, and all words from eden on stay. The same slots are recorded, and the same is known of a cycle.
+-- as they stood, and all words from eden on stay. The same slots are recorded, and the same is known of a cycle, which
+-- is not open, or waits.
 pub record Grants (old new : Mutator) (n : ℕ) : Type 0 where
   pub run : Run
   pub some : 1 ≤ n
+  pub quiet : MayStore old
   pub own : AreFree old.free
   pub takes : TakesFront old.free new.free n run
   pub young : new.young ≡ with_granted old.young run

@@ -14,7 +14,7 @@ use Rattle.heap_model.specs.Heaps.{Heap, HasCell}
 use Rattle.heap_model.specs.Reaching.{IsReached, IsTight, FillsPages}
 use Rattle.heap_model.specs.Rooms.{Room, HasRooms}
 use Rattle.heap_moves.specs.Moved.{IsMoved, moved_to}
-use Rattle.write_barrier.specs.MutatorState.{Mutator, heap_of, MainShows}
+use Rattle.write_barrier.specs.MutatorState.{Mutator, MayStore, MainShows, heap_of}
 use Rattle.scav_copy.specs.declared.places.Home.{Home}
 use Rattle.scav_copy.specs.Places.{Fixed}
 use Rattle.scavenger.specs.Starts.{SegmentCopies, IsBegun, nothing_handed, start_of, start_with, room_start}
@@ -36,10 +36,11 @@ ShownHeapsMayBegin =
     → AreFree main.free → (fixed : Fixed) × IsBegun (start_of main) fixed
 
 -- A scavenge that began with copies that helpers handed over has come to its end: all is done, the words that are left
--- were emptied, and the nursery was turned to all copies that stay young.
+-- were emptied, and the nursery was turned to all copies that stay young. No cycle of marking was open, or it waited.
 pub record IsEnded (old : Mutator) (handed : List SegmentCopies) (new : Mutator) (all : Bool) (fixed : Fixed)
     (homes : List Home) (words : List ℕ) (fill refused : ℕ) : Type 0 where
   pub limits : IsSpace old.seat.space
+  pub quiet : MayStore old
   pub begun : IsBegun (start_with old handed) fixed
   pub bounded : old.recorded.bound ≡ eden_start old.seat.space
   pub filled : CopiesFillRooms (start_with old handed) fixed words new.free homes fill

@@ -7,11 +7,10 @@ use Rattle.page_space.specs.Extents.{Space, eden_start, segments_start, roots_st
 use Rattle.cell_layout.specs.Cells.{IsSized}
 use Rattle.nursery.specs.Young.{other_half}
 use Rattle.free_runs.specs.FreeRuns.{FitsNowhere, TakesFront}
-use Rattle.heap_table.specs.Phases.{Quiet}
 use Rattle.write_barrier.specs.Seats.{heap_words}
 use Rattle.heap_model.specs.Types.{Cell, Run}
 use Rattle.heap_model.specs.Remembered.{RefersToYoung}
-use Rattle.write_barrier.specs.MutatorState.{Mutator}
+use Rattle.write_barrier.specs.MutatorState.{Mutator, MayStore}
 use Rattle.write_barrier.specs.FreeCells.{with_free_cell}
 use Rattle.scav_copy.specs.declared.places.Home.{Home}
 use Rattle.scav_copy.specs.Places.{Fixed, size_of, offsets_of, StoodAt}
@@ -95,7 +94,7 @@ pub record Scavenging (start : Mutator) (handed : List SegmentCopies) (now : Mut
   pub homes : List Home
   pub two : start.young.half ≤ 1
   pub bounded : start.recorded.bound ≡ eden_start start.seat.space
-  pub quiet : now.seat.phase ≡ Quiet
+  pub quiet : MayStore now
   pub begun : IsBegun (start_with start handed) fixed
   pub filled : CopiesFillRooms (start_with start handed) fixed (heap_words now.seat) now.free homes progress.fill
   pub copied : progress.copied ≡ sum_by (λ home. size_of fixed home.from) homes

@@ -8,9 +8,8 @@ ghost use Rattle.tagged_word.specs.Readings.{reference_in};
 ghost use Rattle.free_runs.specs.FreeRuns.{FitsNowhere, TakesFront};
 ghost use Rattle.cell_layout.specs.Cells.{IsCell};
 ghost use Rattle.heap_model.specs.Types.{Cell, Run};
-ghost use Rattle.heap_table.specs.Phases.{Quiet};
 ghost use Rattle.write_barrier.specs.Seats.{heap_words};
-ghost use Rattle.write_barrier.specs.MutatorState.{Mutator};
+ghost use Rattle.write_barrier.specs.MutatorState.{Mutator, MayStore};
 ghost use Rattle.scavenger.specs.Filling.{Front};
 ghost use Rattle.scav_copy.specs.Places.{StoodAt};
 ghost use Rattle.scav_copy.specs.Renamings.{RefersToAddress};
@@ -29,7 +28,7 @@ use write_barrier::Main;
 
 /// So many words of a page, if a free run has them. What is left of the run is made one free cell.
 pub(crate) fn take_run(main: &mut Main, size: u32) -> Option<u32>
-    requires quiet { main.old.seat.phase ≡ Quiet }
+    requires quiet { MayStore main.old }
     requires some { 1 ≤ size }
     requires few { size ≤ page_words }
     requires free { StandFree main.old }
@@ -49,7 +48,7 @@ pub(crate) fn take_run(main: &mut Main, size: u32) -> Option<u32>
 
 /// Where the copy of a cell of so many words goes.
 fn place_for(main: &mut Main, spaces: &Spaces, progress: &mut Progress, at: u32, size: u32) -> u32
-    requires quiet { main.old.seat.phase ≡ Quiet }
+    requires quiet { MayStore main.old }
     requires some { 1 ≤ size }
     requires few { size ≤ page_words }
     requires free { StandFree main.old }
@@ -71,7 +70,7 @@ fn place_for(main: &mut Main, spaces: &Spaces, progress: &mut Progress, at: u32,
 
 /// Copies the words of a cell to an address, and makes its header the reference to the copy.
 fn copy_cell(main: &mut Main, cell: &Cell, to: u32)
-    requires quiet { main.old.seat.phase ≡ Quiet }
+    requires quiet { MayStore main.old }
     requires is { IsCell main.old.seat.space (heap_words main.old.seat) cell.now }
     requires room { to + cell.now.size ≤ marks_start main.old.seat.space }
     requires apart { AreDisjoint cell.now.at to cell.now.size }
@@ -86,7 +85,7 @@ fn copy_cell(main: &mut Main, cell: &Cell, to: u32)
 /// Copies the cell at an address, whose word has been read and is no reference. The copy is put on the
 /// list. It answers where the copy is.
 fn move_cell(main: &mut Main, spaces: &Spaces, worker: &mut Worker, at: u32, word: u64) -> u32
-    requires quiet { main.old.seat.phase ≡ Quiet }
+    requires quiet { MayStore main.old }
     requires spaces { (all : Bool) × AreSpaces main.old.seat.space main.old.young.half all spaces.now
         × MayMove main.old all worker.old.progress worker.old.list.items at }
     requires room { main.old.seat.space.sizes.young ≤ vec_capacity worker.old.list }
@@ -114,7 +113,7 @@ fn move_cell(main: &mut Main, spaces: &Spaces, worker: &mut Worker, at: u32, wor
 /// Where the cell at an address that is left has its home. It is copied if it has none.
 #[inline(never)]
 pub(crate) fn home_of(main: &mut Main, spaces: &Spaces, worker: &mut Worker, at: u32) -> u32
-    requires quiet { main.old.seat.phase ≡ Quiet }
+    requires quiet { MayStore main.old }
     requires spaces { (all : Bool) × AreSpaces main.old.seat.space main.old.young.half all spaces.now
         × MayMove main.old all worker.old.progress worker.old.list.items at }
     requires room { main.old.seat.space.sizes.young ≤ vec_capacity worker.old.list }

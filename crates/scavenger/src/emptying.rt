@@ -1,8 +1,8 @@
 //! Emptying what a scavenge leaves: where no cell is to stand, the first word is 0.
 ghost use Rattle.std.specs.Prelude.{◌≡◌, ◌≤◌};
 ghost use Rattle.page_space.specs.Extents.{marks_start};
-ghost use Rattle.heap_table.specs.Phases.{Quiet};
 ghost use Rattle.write_barrier.specs.Seats.{heap_words};
+ghost use Rattle.write_barrier.specs.MutatorState.{MayStore};
 ghost use Rattle.scavenger.specs.Filling.{ChangesWords, IsEmptied};
 ghost use Rattle.scavenger.specs.Walking.{EndsCopies, EmptiesSegments};
 
@@ -11,7 +11,7 @@ use write_barrier::Main;
 
 /// Puts a 0 behind the copies, where the room has a word more.
 fn end_copies(main: &mut Main, fill: u32, end: u32)
-    requires quiet { main.old.seat.phase ≡ Quiet }
+    requires quiet { MayStore main.old }
     requires within { end ≤ marks_start main.old.seat.space }
     ensures ends { EndsCopies (heap_words main.old.seat) (heap_words main.new.seat) fill end }
     ensures changes { ChangesWords main.old main.new }
@@ -27,7 +27,7 @@ fn end_copies(main: &mut Main, fill: u32, end: u32)
 
 /// Makes the first word of each segment of a half 0.
 fn empty_segments(main: &mut Main, half: u32)
-    requires quiet { main.old.seat.phase ≡ Quiet }
+    requires quiet { MayStore main.old }
     requires half { half ≤ 1 }
     ensures empties { let space = main.old.seat.space in
         EmptiesSegments space half (heap_words main.old.seat) (heap_words main.new.seat) }
@@ -45,7 +45,7 @@ fn empty_segments(main: &mut Main, half: u32)
 
 /// Empties a half that is left, and the room behind the copies.
 pub(crate) fn empty_left(main: &mut Main, half: u32, fill: u32, end: u32)
-    requires quiet { main.old.seat.phase ≡ Quiet }
+    requires quiet { MayStore main.old }
     requires half { half ≤ 1 }
     requires within { end ≤ marks_start main.old.seat.space }
     ensures emptied { let space = main.old.seat.space in

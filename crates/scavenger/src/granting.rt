@@ -3,7 +3,7 @@ ghost use Rattle.std.specs.Prelude.{◌≡◌, ◌≤◌, ◌↔◌, IsTrue, fal
 ghost use Rattle.tagged_word.specs.Cells.{cell_words_most};
 ghost use Rattle.object_graph.specs.Graphs.{Graph};
 ghost use Rattle.free_runs.specs.FreeRuns.{FitsNowhere};
-ghost use Rattle.write_barrier.specs.MutatorState.{MainShows};
+ghost use Rattle.write_barrier.specs.MutatorState.{MayStore, MainShows};
 ghost use Rattle.scavenger.specs.Granting.{Grants};
 ghost use Rattle.scavenger.specs.Laws.{KeepsGraphs};
 
@@ -16,6 +16,7 @@ use write_barrier::Main;
 pub fn grant_run(main: &mut Main, n: u32) -> bool
     requires some { 1 ≤ n }
     requires few { n ≤ cell_words_most }
+    requires quiet { MayStore main.old }
     requires shown { (graph : Graph) × MainShows main.old graph }
     ensures granted { IsTrue result → Grants main.old main.new n }
     ensures none { (result ≡ false) ↔ FitsNowhere main.old.free n }

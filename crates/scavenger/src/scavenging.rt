@@ -7,7 +7,7 @@ ghost use Rattle.page_space.specs.Extents.{roots_start};
 ghost use Rattle.page_space.specs.RegionLaws.{IsSpace};
 ghost use Rattle.nursery.specs.Young.{IsYoung};
 ghost use Rattle.free_runs.specs.FreeRuns.{AreFree};
-ghost use Rattle.write_barrier.specs.MutatorState.{Mutator, MainShows};
+ghost use Rattle.write_barrier.specs.MutatorState.{Mutator, MayStore, MainShows};
 ghost use Rattle.scavenger.specs.Starts.{SegmentCopies};
 ghost use Rattle.scavenger.specs.Filling.{words_of_segments};
 ghost use Rattle.scavenger.specs.Laws.{KeepsGraphs};
@@ -91,6 +91,7 @@ fn follow_all(main: &mut Main, spaces: &Spaces, mut worker: Worker, handed_words
 /// Generations by the number of survivals are Ungar's of 1984; that an object goes to the old space at
 /// its second survival is V8's rule.
 pub fn scavenge(main: &mut Main, list: Vec<u32>, promote_all: bool) -> Vec<u32>
+    requires quiet { MayStore main.old }
     requires shown { (graph : Graph) × MainShows main.old graph }
     requires room { main.old.seat.space.sizes.young ≤ vec_capacity list }
     ensures scavenged { Scavenges main.old main.new promote_all }
@@ -105,6 +106,7 @@ pub fn scavenge(main: &mut Main, list: Vec<u32>, promote_all: bool) -> Vec<u32>
 /// Ends a scavenge that helpers began: they copied cells of eden, so many words, and left these slots, which refer to
 /// survivors. Of the cells that they did not copy, survivors are promoted where a free run has their words.
 pub fn finish_scavenge(main: &mut Main, list: Vec<u32>, left: &[u32], copied: u32) -> Vec<u32>
+    requires quiet { MayStore main.old }
     requires handed { (start : Mutator) × (handed : List SegmentCopies) × (graph : Graph) × MainShows start graph
         × HandsOver start handed main.old left.now copied }
     requires room { main.old.seat.space.sizes.young ≤ vec_capacity list }

@@ -1,8 +1,7 @@
 //! Following one slot: the step of a scavenge.
 ghost use Rattle.std.specs.Prelude.{◌≡◌, ℕ, ◌≤◌, Bool, List};
 ghost use Rattle.std.specs.Vec.{vec_capacity};
-ghost use Rattle.heap_table.specs.Phases.{Quiet};
-ghost use Rattle.write_barrier.specs.MutatorState.{Mutator};
+ghost use Rattle.write_barrier.specs.MutatorState.{Mutator, MayStore};
 ghost use Rattle.scav_copy.specs.Places.{StoodAt};
 ghost use Rattle.scavenger.specs.Starts.{SegmentCopies};
 ghost use Rattle.scavenger.specs.Filling.{Front};
@@ -19,7 +18,7 @@ use write_barrier::Main;
 /// young. Most words of slots refer to none that is left, so only those that do are worth a call.
 #[inline(always)]
 pub(crate) fn follow(main: &mut Main, spaces: &Spaces, worker: &mut Worker, slot: u32)
-    requires quiet { main.old.seat.phase ≡ Quiet }
+    requires quiet { MayStore main.old }
     requires spaces { (all : Bool) × AreSpaces main.old.seat.space main.old.young.half all spaces.now
         × MayFollow main.old all worker.old.progress worker.old.list.items slot }
     requires room { main.old.seat.space.sizes.young ≤ vec_capacity worker.old.list }

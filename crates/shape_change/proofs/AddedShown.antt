@@ -16,7 +16,9 @@ use Rattle.heap_model.specs.Kinds.{IsPlainCell}
 use Rattle.heap_model.specs.Showing.{ShowsPlain}
 use Rattle.heap_model.proofs.CellsApart.{one_at}
 use Rattle.write_barrier.specs.MutatorState.{Mutator, heap_of, MainShows, reserved}
-use Rattle.write_barrier.specs.Recording.{Remembers}
+use Rattle.object_cells.specs.SureCells.{RemembersSurely}
+use Rattle.write_barrier.specs.Storing.{StoresOn}
+use Rattle.shape_change.proofs.KeepsOpen.{stored_keeps}
 use Rattle.object_cells.specs.PlainObjects.{IsPlainAt, LacksFields, ShowsRefilled}
 use Rattle.object_cells.specs.HeldValues.{IsValueHeld}
 use Rattle.object_cells.specs.Refills.{AreNewFields}
@@ -117,9 +119,9 @@ module _ {old : Mutator} {graph : Graph} {plain : PlainObject} {object : ℕ} {h
       → IsRow new.seat.space (heap_words new.seat) (next_at old) (next_at old + need) made
       → WritesFields (heap_of old) (heap_of new) known.cell next others made
       → AddsSlot (heap_of old) (heap_of new) known.cell next others made plain.fields (new_field name what)
-      → Remembers old new (known.cell ∷ others) (reshaped new.paths known.cell next ∷ others) made
-      → ShowsRefilled new graph plain (with_field plain.fields name what)
-  added_shows {mid} {new} {next} {others = others} {made} need known room path puts row writes adds remembers =
+      → RemembersSurely old new (known.cell ∷ others) (reshaped new.paths known.cell next ∷ others) made
+      → StoresOn old new → ShowsRefilled new graph plain (with_field plain.fields name what)
+  added_shows {mid} {new} {next} {others = others} {made} need known room path puts row writes adds remembers stores =
       let fields : List Field = plain.fields ++ new_field name what ∷ [] in
       let with : with_field plain.fields name what ≡ fields = with_field-new plain.fields name what known.fresh in
       let are = written_fields_are_new graph plain name what known.shows.is_graph known.is.object known.is.reached
@@ -134,4 +136,5 @@ module _ {old : Mutator} {graph : Graph} {plain : PlainObject} {object : ℕ} {h
       subst (ShowsRefilled new graph plain) (sym with)
       (written_fields_show old new graph plain known.cell next others made fields known.shows known.is.object
       known.is.reached known.carries known.caps known.shown (subst (AreNewFields graph) with are) added
-      (takes_run need beside room (puts.young ∙ path.young) row) writes (added_refills adds) remembers)
+      (takes_run need beside room (puts.young ∙ path.young) row) writes (added_refills adds)
+      remembers.remembers (stored_keeps known.shows stores others made writes remembers))

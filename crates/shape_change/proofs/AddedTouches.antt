@@ -5,7 +5,8 @@ use Rattle.page_space.proofs.Starts.{roots_start_is, layouts_start_is}
 use Rattle.heap_model.specs.Types.{Field, Path, Cell}
 use Rattle.heap_model.specs.Remembered.{Touch}
 use Rattle.write_barrier.specs.MutatorState.{Mutator, heap_of, reserved}
-use Rattle.write_barrier.specs.Recording.{Touches, Remembers, untouched, touched_one, touched_then}
+use Rattle.write_barrier.specs.Recording.{Touches, untouched, touched_one, touched_then}
+use Rattle.object_cells.specs.SureCells.{RemembersSurely}
 use Rattle.write_barrier.proofs.Recording.{same_touch, then_touch}
 use Rattle.object_cells.specs.CellWrites.{reshaped}
 use Rattle.object_cells.proofs.FieldWords.{path_field}
@@ -37,7 +38,7 @@ pub one_remembered : {old new : Mutator} {cell : Cell} {next at word : ℕ} {oth
     → TouchesWith old new cell made
     (touched_one (field_touch (nat_lt (length fields) cell.layout.cap)
     (Some (record { name = field.name; rep = field.rep }))) at)
-    → Remembers old new (cell ∷ others) (reshaped new.paths cell next ∷ others) made
+    → RemembersSurely old new (cell ∷ others) (reshaped new.paths cell next ∷ others) made
 one_remembered {cell = cell} {fields = fields} {field} one touches =
     let puts = one.puts in
     let cap : ℕ = cell.layout.cap in

@@ -47,14 +47,13 @@ use Rattle.object_cells.proofs.RunCells.{AreOfRegion}
 use Rattle.object_cells.proofs.TakenRuns.{taken_run}
 use Rattle.object_cells.proofs.TouchedCells.{IsBeside}
 use Rattle.object_cells.proofs.UnusedWords.{IsUnusedRun, next_run, run_beside}
-use Rattle.object_cells.proofs.TouchedFields.{TouchesObject}
 use Rattle.object_cells.proofs.WordsPut.{PutsTwo, HasHead, puts_no_slot, puts_slot, puts_two, sizes_put}
 use Rattle.shape_change.proofs.ContentsShown.{box_shows}
 use Rattle.shape_change.proofs.FilledFields.{next_head, head_below, slot_below, before_marks, slot_puts}
 use Rattle.shape_change.proofs.FilledFields.{touches_slot, slot_shown}
 use Rattle.shape_change.proofs.FilledSlots.{RefersToOld, fills_box}
 use Rattle.shape_change.proofs.ReadyHeaps.{ready_boxed, puts_box}
-use Rattle.shape_change.proofs.RunTouches.{TouchesWith, numbered_beside, touches_alone, touches_box}
+use Rattle.shape_change.proofs.RunTouches.{TouchesWith, TouchesSurely, numbered_beside, touches_alone, touches_box}
 use Rattle.shape_change.proofs.Settings.{Setting}
 use Rattle.shape_change.proofs.SetFields.{IsNextShape, ShowsSet, sets_one, field_shown}
 use Rattle.shape_change.proofs.FieldsAlike.{replaced_alike}
@@ -83,7 +82,7 @@ module _ {old : Mutator} {graph : Graph} {object slot : ℕ} {plain : PlainObjec
       {mid new : Mutator} {next : ℕ} (ready : IsReady old mid box_words) (shape : IsNextShape s new next)
       (head : HasHead mid (with_slot (with_box mid (next_at old) v) at (reference_word (next_at old))) new s.cell.at
       (next_head s next))
-      (touches : TouchesObject old new s.cell.at (filled_touch (filling.NewBox (next_at old) v) at)) where
+      (touches : TouchesSurely old new s.cell.at (filled_touch (filling.NewBox (next_at old) v) at)) where
     -- the address of the box that is made
     abbrev box : ℕ
     box = next_at old
@@ -191,7 +190,7 @@ module _ {old : Mutator} {graph : Graph} {object slot : ℕ} {plain : PlainObjec
   pub old_box_shown : {mid new : Mutator} {next : ℕ} (word box : ℕ) → HasWord s.shown.slots slot word
       → IsBoxOf (heap_of old) word box → IsReady old mid 0 → IsNextShape s new next
       → HasHead mid (with_word mid (box + 1) (raw_word v)) new s.cell.at (next_head s next)
-      → TouchesObject old new s.cell.at (touched_one Touch.Wiped (box + 1)) → ShowsSet s new 0
+      → TouchesSurely old new s.cell.at (touched_one Touch.Wiped (box + 1)) → ShowsSet s new 0
   old_box_shown {mid} {new} {next} word box there is ready shape head touches =
       let whole = s.shows.shows.whole in
       let one : Cell = is.cell in
@@ -223,4 +222,4 @@ module _ {old : Mutator} {graph : Graph} {object slot : ℕ} {plain : PlainObjec
       (row_of_none (heap_of new) (next_at old)) (box_remembered one (set_refields sets) is.box
       (replaced_alike cap plain.fields slot s.field (revalued s.field what) s.there not_raw)
       (touches_alone
-      (subst (λ n. TouchesObject old new s.cell.at (touched_one Touch.Wiped (n + 1))) (sym is.stands) touches)))
+      (subst (λ n. TouchesSurely old new s.cell.at (touched_one Touch.Wiped (n + 1))) (sym is.stands) touches)))

@@ -41,6 +41,8 @@ use Rattle.object_cells.proofs.RefilledHeaps.{written_fields_show}
 use Rattle.object_cells.proofs.OwnCapacities.{object_keeps}
 use Rattle.object_cells.proofs.OwnerWrites.{plain_owns}
 use Rattle.object_cells.proofs.TakenRuns.{bumped_none, takes_none}
+use Rattle.write_barrier.specs.SureStores.{StoresBlack}
+use Rattle.shape_change.proofs.KeepsOpen.{black_keeps}
 use Rattle.shape_change.proofs.FullPaths.{full_of_paths}
 use Rattle.shape_change.proofs.DeletedSlots.{Deleting}
 use Rattle.shape_change.proofs.DeletedCells.{behind_header_stays, others_of, deleted_writes}
@@ -112,7 +114,9 @@ module _ {old : Mutator} {graph : Graph} {object : ℕ} {plain : PlainObject} {h
         (takes_none taken.beside (room_for_none old shows.tied shows.shows.whole)
         (taken.young ∙ sym (bumped_none old.young)))
         (deleted_writes deleting_of) fields_refill
-        (deleted_remembers deleting_of shows.bounded)
+        (deleted_remembers deleting_of shows.bounded).remembers
+        (black_keeps shows (subst (StoresBlack old new) (sym shown.at) taken.black) (others_of deleting_of) []
+        (deleted_writes deleting_of) (deleted_remembers deleting_of shows.bounded))
 
   -- a field that was found is taken out, or there are too many paths
   pub field_deleted : (new : Mutator) (result : Result Unit ShapesFull) → TakingOut old new object header slot result
@@ -122,7 +126,7 @@ module _ {old : Mutator} {graph : Graph} {object : ℕ} {plain : PlainObject} {h
       record {
         none = λ none. absurd (none-some found.field.value (sym none ∙ value));
         uses = uses_none taken.beside taken.young
-            (deleted_remembers (deleting_of taken) shows.bounded).touches.free;
+            (deleted_remembers (deleting_of taken) shows.bounded).remembers.touches.free;
         changes = stores_stay taken;
         shows = field_less taken;
       }

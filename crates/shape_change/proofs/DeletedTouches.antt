@@ -14,7 +14,7 @@ use Rattle.heap_model.specs.Remembered.{Touch}
 use Rattle.heap_model.specs.Types.{Field, Path, PathField, Cell}
 use Rattle.heap_model.proofs.CellWords.{words_by_kind, words_are_size}
 use Rattle.write_barrier.specs.MutatorState.{Mutator, heap_of}
-use Rattle.write_barrier.specs.Recording.{Remembers}
+use Rattle.object_cells.specs.SureCells.{RemembersSurely}
 use Rattle.object_cells.proofs.OwnerWrites.{becomes_cap}
 use Rattle.object_cells.proofs.PathOffsets.{AreAlike}
 use Rattle.object_cells.proofs.PlainFields.{plain_sound}
@@ -180,10 +180,13 @@ module _ {old new : Mutator} {cell : Cell} {slot : ℕ} {fields : List Field}
   ]
 
   -- what is recorded follows the cells
-  pub deleted_remembers : old.recorded.bound ≡ eden_start old.seat.space → Remembers old new gone came []
+  pub deleted_remembers : old.recorded.bound ≡ eden_start old.seat.space → RemembersSurely old new gone came []
   deleted_remembers bounded =
       let taken = deleting.taken in
       let space = old.seat.space in
-      fields_with_remembered fields_change (touches_alone
-      (TouchesObject.slots (taken.touches (omega (arith, bounded, roots_start_is space, layouts_start_is space)))))
+      fields_with_remembered fields_change (touches_alone (record {
+        touches =
+            TouchesObject.slots (taken.touches (omega (arith, bounded, roots_start_is space, layouts_start_is space)));
+        surely = taken.surely;
+      }))
       each_fits own_alike

@@ -44,7 +44,7 @@ less_before (x ∷ xs) (suc gone) zero before = refl
 less_before (x ∷ xs) (suc gone) (suc place) before = less_before xs gone place (omega arith)
 
 -- and one behind it
-less_behind : {A : Type 0} (xs : List A) (gone place : ℕ) → gone ≤ place
+pub less_behind : {A : Type 0} (xs : List A) (gone place : ℕ) → gone ≤ place
     → slice_get (take gone xs ++ drop (suc gone) xs) place ≡ slice_get xs (suc place)
 less_behind [] zero place behind = refl
 less_behind (x ∷ xs) zero place behind = refl

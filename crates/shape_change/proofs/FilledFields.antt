@@ -39,7 +39,6 @@ use Rattle.object_cells.proofs.MadeBoxes.{row_of_none}
 use Rattle.object_cells.proofs.SlotsNow.{IsSlotAddress, numbered_address}
 use Rattle.object_cells.proofs.OwnSteps.{written_places_stay}
 use Rattle.object_cells.proofs.OwnerWrites.{plain_owns, becomes_cap}
-use Rattle.object_cells.proofs.TouchedFields.{TouchesObject}
 use Rattle.object_cells.proofs.WordsPut.{PutsWord, PutsTwo, HasHead, puts_two}
 use Rattle.shape_change.specs.Shifts.{field_touch}
 use Rattle.shape_change.proofs.ContentsShown.{word_shows, raw_shows}
@@ -47,7 +46,7 @@ use Rattle.shape_change.proofs.FilledSlots.{AreBoxes, fills_slot}
 use Rattle.shape_change.proofs.SetFields.{IsNextShape, ShowsSet, sets_one, field_shown}
 use Rattle.shape_change.proofs.FieldsAlike.{set_alike}
 use Rattle.shape_change.proofs.TouchedSlots.{content_touches, set_refields, slot_remembered}
-use Rattle.shape_change.proofs.RunTouches.{TouchesWith, touches_alone}
+use Rattle.shape_change.proofs.RunTouches.{TouchesWith, TouchesSurely, touches_alone}
 use Rattle.shape_change.proofs.Settings.{Setting, slot_is_field}
 
 -- an address before the layout words is before the marks
@@ -149,7 +148,7 @@ module _ {old : Mutator} {graph : Graph} {object slot : ℕ} {plain : PlainObjec
       -- so it does where it is tagged
       pub tagged_shown : (word : Word) → IsReady old mid 0 → PutsWord mid put at word.0
           → HasHead mid put new s.cell.at (next_head next)
-          → TouchesObject old new s.cell.at (touched_one Touch.Stored at)
+          → TouchesSurely old new s.cell.at (touched_one Touch.Stored at)
           → HoldsValue (heap_of old) (nat_lt slot s.cell.layout.cap) s.field.rep (revalued s.field what).rep what
           (content.Tagged word) → ShowsSet s new 0
       tagged_shown word ready word_put head touches holds =
@@ -165,7 +164,7 @@ module _ {old : Mutator} {graph : Graph} {object slot : ℕ} {plain : PlainObjec
       -- and where it is raw
       pub raw_shown : (word : ℕ) → IsReady old mid 0 → PutsWord mid put at word
           → HasHead mid put new s.cell.at (next_head next)
-          → TouchesObject old new s.cell.at (touched_one Touch.Wiped at)
+          → TouchesSurely old new s.cell.at (touched_one Touch.Wiped at)
           → HoldsValue (heap_of old) (nat_lt slot s.cell.layout.cap) s.field.rep (revalued s.field what).rep what
           (content.Raw word) → ShowsSet s new 0
       raw_shown word ready word_put head touches holds =

@@ -40,13 +40,13 @@ pub store_is_full : (main : Mutator) (object : ℕ) (header : Header) (name : �
     → store.capacity ≤ behind_cap main.paths header.shape → behind_cap main.paths header.shape ≡ store.capacity
 store_is_full main object header name value store can is behind none =
     let there = can.there in
-    let sound = plain_sound can.whole.whole there.has there.plain in
+    let sound = plain_sound can.whole there.has there.plain in
     let shape = ap (λ (h : Header). h.shape) can.headed in
     omega (
       arith,
       sound.hold.room,
       length-slots there.has there.plain sound.has,
-      cap_is can.whole.whole.sized there.has sound.shape,
+      cap_is can.whole.sized there.has sound.shape,
       is.slots there.cell there.words sound.has.beside sound.has.store there.has there.stands sound.has.slot
           sound.has.stands,
       ap (λ n. (shape_path main.paths n).cap) shape,

@@ -24,7 +24,7 @@ use Rattle.heap_model.proofs.CellOutcomes.{object_is_no_filler}
 use Rattle.heap_model.proofs.CellsApart.{IsOfCell}
 use Rattle.heap_model.proofs.CellWords.{words_by_kind}
 use Rattle.write_barrier.specs.MutatorState.{Mutator, heap_of}
-use Rattle.write_barrier.specs.Recording.{Remembers}
+use Rattle.object_cells.specs.SureCells.{RemembersSurely}
 use Rattle.object_cells.specs.declared.stores.Store.{Store}
 use Rattle.object_cells.specs.Capacities.{ChangesObjectUsing}
 use Rattle.object_cells.specs.CellWrites.{reshaped}
@@ -264,7 +264,7 @@ module _ {old new : Mutator} {graph : Graph} {plain : PlainObject} {object : ℕ
       }
 
   -- beside what was made only the slot for the store and the header were touched, so the change is remembered
-  remembered : Remembers old new (growing.known.cell ∷ []) (came ∷ []) made
+  remembered : RemembersSurely old new (growing.known.cell ∷ []) (came ∷ []) made
   remembered =
       let known = growing.known in
       let cap : ℕ = known.cell.layout.cap in
@@ -277,7 +277,7 @@ module _ {old new : Mutator} {graph : Graph} {plain : PlainObject} {object : ℕ
   pub grown_shown : ShowsRefilled new graph plain (with_field plain.fields name what)
   grown_shown =
       added_shows (grows.need growing) growing.known (over growing).room (over growing).adds (over growing).puts
-      (grows.filled growing).row writes adds_slot remembered
+      (grows.filled growing).row writes adds_slot remembered growing.adds.stores
 
   -- the object's property store has as many slots as the new one
   pub grown_becomes : AreWithin old.seat.space.sizes old.seat.space.variables

@@ -120,7 +120,10 @@ module _ {old new : Mutator} {graph : Graph} {plain : PlainObject} {object : ℕ
       path_touches (grows.need growing) growing.adds.path known.shows.bounded growing.adds.touches in
       let with_store : TouchesWith old new known.cell made named = record {
         all = touch;
-        touches = subst (λ a. TouchesObject old new a touch) (sym known.stands) all;
+        touches = record {
+          touches = subst (λ a. TouchesObject old new a touch) (sym known.stands) all;
+          surely = growing.adds.surely;
+        };
         from = next_at old;
         to = ends;
         apart = λ at of_cell. grows.beside_run growing of_cell;

@@ -5,6 +5,7 @@ mod SettingNeeds
 mod ContentsShown
 mod FieldsAlike
 mod FieldsAlong
+mod KeepsOpen
 mod RunTouches
 mod TouchedSlots
 mod FilledSlots
@@ -13,9 +14,18 @@ mod Settings
 mod SetFields
 mod FilledFields
 mod BoxedFields
+mod ShapeChanges
+mod PathHeads
 mod SetShown
+mod FillsButRaw
+mod SettingFills
+mod WiderOn
+mod SamePages
+mod WiderBySetting
 mod SetTouches
 mod SetOutcomes
+mod AddableCells
+mod OwnPut
 mod SetRefused
 mod SetThere
 mod SetByPlace
@@ -28,6 +38,7 @@ mod SlotAddresses
 mod SlotTouches
 mod WordsMoved
 mod SlotsClosed
+mod MayMove
 mod NewNeeds
 mod FullStores
 mod AddedFields
@@ -64,3 +75,9 @@ mod SmallKept
 mod ProtosFound
 mod ProtosSet
 pub mod RingSearch
+mod MayDelete
+mod TakeOutShown
+mod SureTouches
+mod StoreFieldOn
+mod StoreSteps
+mod NewStoreSteps

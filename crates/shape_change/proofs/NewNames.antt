@@ -12,6 +12,8 @@ use Rattle.object_graph.specs.Limits.{paths_most}
 use Rattle.shape_tree.specs.Shapes.{IsPathShape, LacksPathsFor, shape_path, has_name, stepped}
 use Rattle.shape_tree.proofs.LedPaths.{with_path-added}
 use Rattle.heap_model.specs.Showing.{ShowsHeld}
+use Rattle.handle_roots.specs.Roots.{FitsHeld}
+use Rattle.page_space.specs.Sizes.{AreWithin}
 use Rattle.write_barrier.specs.MutatorState.{Mutator, heap_of, MainShows}
 use Rattle.object_cells.specs.PlainObjects.{IsPlainAt, LacksFields, LacksPaths}
 use Rattle.shape_change.specs.FieldChanges.{IsShownSetting, IsFullOfPaths, SetsField}
@@ -21,7 +23,7 @@ use Rattle.write_barrier.specs.Reading.{IsHeaderAt}
 use Rattle.object_cells.specs.Contents.{held_rep}
 use Rattle.shape_change.specs.Additions.{CanAdd, MayAdd, RefusesField, added_path, count_of}
 use Rattle.object_cells.proofs.CellsRead.{cell_before_marks}
-use Rattle.object_cells.proofs.PlainFields.{plain_sound, plain_shown, shown_whole}
+use Rattle.object_cells.proofs.PlainFields.{plain_sound, plain_shown}
 use Rattle.shape_change.proofs.FullStores.{cap_is}
 use Rattle.object_cells.proofs.SlotsNow.{plain_cell_size}
 use Rattle.object_cells.proofs.HeldContents.{held_rep_is}
@@ -111,18 +113,22 @@ field_refused object name value (stop.ShapesFull full) shows known held fresh re
 field_refused object name value (stop.Full room) shows known held fresh refuses = absurd refuses
 
 -- a field of a new name may come to the object
-pub can_add : {old : Mutator} {object name : ℕ} {header : Header} {value : Held} → IsShownSetting old object value
+pub can_add : {old : Mutator} {object name : ℕ} {header : Header} {value : Held} → FitsHeld value
+    → AreWithin old.seat.space.sizes old.seat.space.variables → IsShownSetting old object value
     → IsHeaderAt (heap_of old) object header → has_name (shape_path old.paths header.shape) name ≡ false
     → count_of old.paths header.shape < fields_most
     → MayAdd old.paths (added_path old.paths header.shape name value) → CanAdd old object header name value
-can_add {old} {object} {header = header} setting headed is_new few may =
+can_add {old} {object} {header = header} fits sizes setting headed is_new few may =
     let shown = plain_shown setting.shows setting.is in
     let whole = setting.shows.shows.whole in
     let sound = plain_sound whole shown.has shown.shows.of_kind in
     let of_header = headed shown.cell shown.words shown.has shown.stands in
     record {
       tied = setting.shows.tied;
-      whole = shown_whole setting.shows;
+      shown = setting;
+      fits = fits;
+      sizes = sizes;
+      whole = whole;
       there = record {
         cell = shown.cell;
         words = shown.words;

@@ -46,7 +46,8 @@ use Rattle.object_cells.proofs.FilledSlots.{reserved_none}
 use Rattle.object_cells.proofs.NothingUsed.{room_for_none}
 use Rattle.object_cells.proofs.TouchedFields.{TouchesObject}
 use Rattle.shape_change.proofs.AddedShown.{Adding, added_shows}
-use Rattle.shape_change.proofs.RunTouches.{touches_alone}
+use Rattle.shape_change.proofs.RunTouches.{TouchesSurely, touches_alone}
+use Rattle.write_barrier.specs.SureStores.{StoresSurely}
 use Rattle.shape_change.proofs.OneAdding.{OneAdding, one_adding, path_after}
 use Rattle.shape_change.proofs.TouchedSlots.{content_touches}
 use Rattle.shape_change.proofs.AddedTouches.{path_touches, one_remembered}
@@ -128,6 +129,24 @@ module _ {old : Mutator} {graph : Graph} {plain : PlainObject} {object : ℕ} {h
       (subst (λ h. TouchesObject old new object (touched_one h place)) how
       (path_touches 0 (own_over adds).adds known.shows.bounded adds.touches))
 
+  -- surely
+  own_touched : {new : Mutator} → AddsOwn old new object header name value
+      → TouchesSurely old new known.cell.at
+      (touched_one (field_touch (nat_lt (length plain.fields) known.cell.layout.cap)
+      (Some (record { name = name; rep = rep_of what }))) (own_place old object header))
+  own_touched {new} adds =
+      let slot : ℕ = length plain.fields in
+      let test : nat_lt slot known.cell.layout.cap ≡ true =
+      lt-ltb slot known.cell.layout.cap (omega (arith, known.count, known.cap, own)) in
+      let how : slot_touch (own_content value)
+      ≡ field_touch (nat_lt slot known.cell.layout.cap) (Some (record { name = name; rep = rep_of what })) =
+      content_touches name (new_value_held true value what known.held.shows)
+      ∙ ap (λ o. field_touch o (Some (record { name = name; rep = rep_of what }))) (sym test) in
+      record {
+        touches = own_touches adds;
+        surely = subst (λ h. StoresSurely new (touched_one h (own_place old object header))) how adds.surely;
+      }
+
   -- and the graph is shown in which the object has it
   pub own_shown : {new : Mutator} → AddsOwn old new object header name value
       → ShowsRefilled new graph plain (with_field plain.fields name what)
@@ -148,7 +167,7 @@ module _ {old : Mutator} {graph : Graph} {plain : PlainObject} {object : ℕ} {h
       (λ tagged. content_comes (HasTagged known.cell one.adds.sound.slots) [] slot slot 0 holds places
       (λ is_own wide. own_not_tagged adds tagged wide) (λ v boxed. absurd (own_holds_no_box v holds boxed)))
       (λ other there. absurd (none_in other there)) (λ other there. absurd (none_in other there)))
-      (one_remembered one.adds (touches_alone (own_touches adds)))
+      (one_remembered one.adds (touches_alone (own_touched adds))) adds.stores
 
   -- each property store has as many slots as before
   pub own_keeps : {new : Mutator} → AddsOwn old new object header name value

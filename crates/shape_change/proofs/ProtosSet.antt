@@ -1,8 +1,12 @@
 -- A plain object gets another prototype, or none.
-use Rattle.std.proofs.Common.{◌≡◌, ℕ, ◌+◌, false, [], ◌∷◌, Option, Some, None, refl, sym, ◌∙◌, ap, subst, IsTrue}
+use Rattle.std.proofs.Common.{◌≡◌, ℕ, ◌+◌, false, [], ◌∷◌, Option, Some, None, refl, sym, ◌∙◌, ap, subst, arith, IsTrue}
 use Rattle.std.specs.Prelude.{option_map}
 use Rattle.std.proofs.lemmas.Option.{none-some, same_Some}
-use Rattle.tagged_word.specs.Cells.{proto_slot}
+use Rattle.tagged_word.specs.Cells.{has_length, proto_slot}
+use Rattle.page_space.specs.Sizes.{AreWithin}
+use Rattle.mark_world.specs.declared.event.Event.TheVariants as event
+use Rattle.write_barrier.specs.Marking.{MayPut}
+use Rattle.write_barrier.specs.Storing.{MayHold}
 use Rattle.tagged_word.proofs.Members.{first_in, one_in}
 use Rattle.object_graph.specs.declared.value.Value.{Value}
 use Rattle.object_graph.specs.declared.value.Value.TheVariants.{Undefined, Ref}
@@ -28,9 +32,13 @@ use Rattle.object_cells.proofs.PlainFields.{plain_shown}
 use Rattle.object_cells.proofs.ProtosRead.{plain_found}
 use Rattle.object_cells.proofs.ProtoWrites.{PutsProto, proto_step}
 use Rattle.object_cells.proofs.ProtoChanges.{IsWordOf, proto_own, fields_shown, proto_shown, proto_rests, proto_uses}
-use Rattle.object_cells.proofs.ProtoChanges.{proto_keeps}
+use Rattle.object_cells.proofs.ProtoChanges.{proto_keeps, proto_keeps_cycle}
+use Rattle.object_cells.proofs.ChangedPlaces.{own_may_change, slot_may_put}
+use Rattle.object_cells.proofs.ContentsHeld.{reached_may_hold}
+use Rattle.object_cells.proofs.HoldableWords.{undefined_may_hold}
+use Rattle.object_cells.proofs.SlotsNow.{plain_cell_size}
 use Rattle.object_cells.proofs.Refills.{links_reached}
-use Rattle.object_cells.proofs.ReplacedObjects.{ReplacesCells, HasReachedLinks, replaced_shows}
+use Rattle.object_cells.proofs.ReplacedObjects.{ReplacesCells, HasReachedLinks, replaced, replaced_shows, stays_reached}
 use Rattle.shape_change.specs.Prototypes.{GivesProto, word_for, HasSetProto}
 
 -- the prototype that is given can be reached
@@ -65,6 +73,30 @@ given_is_proto (Some at) (Some number) shows gives =
     IsProtoWord.plain (reference_word at) shown.cell shown.words
     (record { refers = ap reference_word (sym shown.stands); has = shown.has }) shown.shows.of_kind
 
+-- and it may be held where a cycle of marking is open
+given_may_hold : (main : Mutator) (graph : Graph) (given proto : Option ℕ) → MainShows main graph
+    → AreWithin main.seat.space.sizes main.seat.space.variables → GivesProto main graph given proto
+    → MayHold main (word_for given)
+given_may_hold main graph None None shows within gives = undefined_may_hold
+given_may_hold main graph None (Some number) shows within gives = absurd gives
+given_may_hold main graph (Some at) None shows within gives = absurd gives
+given_may_hold main graph (Some at) (Some number) shows within gives =
+    let one : PlainObject = gives.0 in
+    reached_may_hold one.number at shows within gives.2.reached gives.2.place
+
+-- so it may be put in the slot
+pub given_may_put : {main : Mutator} {graph : Graph} {object : ℕ} {plain : PlainObject} (given proto : Option ℕ)
+    → MainShows main graph → AreWithin main.seat.space.sizes main.seat.space.variables
+    → IsPlainAt main graph object plain → GivesProto main graph given proto
+    → MayPut main (object + proto_slot) (event.StoreSlot (object + proto_slot) (word_for given))
+given_may_put {main} {graph} {object} given proto shows within is gives =
+    let shown = plain_shown shows is in
+    let size = plain_cell_size shown.has shown.shows.of_kind in
+    subst (λ a. MayPut main (a + proto_slot) (event.StoreSlot (a + proto_slot) (word_for given))) shown.stands
+    (slot_may_put (word_for given)
+    (own_may_change proto_slot shows shown.has (ap has_length shown.shows.of_kind) (omega arith) (omega (arith, size)))
+    (given_may_hold main graph given proto shows within gives))
+
 -- and a value gives it
 given_by_value : (main : Mutator) (graph : Graph) (given proto : Option ℕ) → GivesProto main graph given proto
     → (value : Value) × (proto_for graph.objects value ≡ Some proto)
@@ -81,9 +113,11 @@ given_by_value main graph (Some at) (Some number) gives =
 -- so the heap shows the graph in which the object has it
 pub proto_is_set : {old new : Mutator} {graph : Graph} {object : ℕ} {plain : PlainObject} (given proto : Option ℕ)
     → MainShows old graph → IsPlainAt old graph object plain → GivesProto old graph given proto
-    → makes_ring graph.objects plain.number proto ≡ false → new ≡ with_slot old (object + proto_slot) (word_for given)
+    → makes_ring graph.objects plain.number proto ≡ false
+    → MayPut old (object + proto_slot) (event.StoreSlot (object + proto_slot) (word_for given))
+    → new ≡ with_slot old (object + proto_slot) (word_for given)
     → HasSetProto old new graph object plain proto
-proto_is_set {old} {new} {graph} {object} {plain} given proto shows is gives no_ring put =
+proto_is_set {old} {new} {graph} {object} {plain} given proto shows is gives no_ring may put =
     let shown = plain_shown shows is in
     let cell : Cell = shown.cell in
     let word : ℕ = word_for given in
@@ -121,5 +155,10 @@ proto_is_set {old} {new} {graph} {object} {plain} given proto shows is gives no_
       changes = subst (λ a. ChangesObjectUsing old new 0 a (capacity_at (heap_of old) a)) shown.stands
           (proto_keeps puts);
       shows = replaced_shows plain.number (Plain plain.cap proto plain.fields) graph.paths shows is_graph
-          (ap (λ (main : Mutator). main.paths) put ∙ shows.shows.paths) links (proto_rests puts shows) replaces;
+          (ap (λ (main : Mutator). main.paths) put ∙ shows.shows.paths) links (proto_rests puts shows) replaces
+          (proto_keeps_cycle puts (replaced graph plain.number (Plain plain.cap proto plain.fields) graph.paths) shows
+          (subst (λ n. IsTrue (is_marked (reach
+          (replaced graph plain.number (Plain plain.cap proto plain.fields) graph.paths)) n)) (sym shown.carries)
+          (stays_reached graph plain.number (Plain plain.cap proto plain.fields) graph.paths is.reached))
+          (subst (λ a. MayPut old (a + proto_slot) (event.StoreSlot (a + proto_slot) word)) (sym shown.stands) may));
     }

@@ -12,6 +12,7 @@ use Rattle.heap_model.specs.Slots.{raw_word}
 use Rattle.heap_model.specs.Needs.{box_words}
 use Rattle.heap_model.specs.Wholeness.{HasSizes}
 use Rattle.write_barrier.specs.Opening.{ChangesWithin}
+use Rattle.write_barrier.specs.Marking.{with_blackened}
 use Rattle.write_barrier.specs.MutatorState.{Mutator, heap_of, IsTied, reserved, with_word}
 use Rattle.object_cells.specs.Formats.{box_header}
 use Rattle.object_cells.specs.declared.content.SlotWrite.{SlotWrite}
@@ -65,6 +66,20 @@ ready_laid {old} {between} {laid} need more ready changes sized added = record {
   paths = added;
   sized = sized;
   stay = λ a below not_new. changes.beside a (inl below) ∙ ready.stay a below not_new;
+}
+
+-- so it is once a cell was made black
+pub ready_black : {old mid : Mutator} {need : ℕ} (at : ℕ) → IsReady old mid need
+    → IsReady old (with_blackened mid at) need
+ready_black at ready = record {
+  space = ready.space;
+  phase = ready.phase;
+  young = ready.young;
+  room = ready.room;
+  more = ready.more;
+  paths = ready.paths;
+  sized = ready.sized;
+  stay = ready.stay;
 }
 
 -- two of the words that were taken are put

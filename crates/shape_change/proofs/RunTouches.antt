@@ -14,7 +14,8 @@ use Rattle.heap_model.specs.Remembered.{Touch, TouchesMade}
 use Rattle.heap_model.proofs.CellOutcomes.{object_is_no_filler, owned_is_no_filler}
 use Rattle.heap_model.proofs.CellsApart.{IsOfCell}
 use Rattle.write_barrier.specs.MutatorState.{Mutator, heap_of}
-use Rattle.write_barrier.specs.Recording.{Remembers, touched_one, touched_then}
+use Rattle.write_barrier.specs.Recording.{touched_one, touched_then}
+use Rattle.write_barrier.specs.SureStores.{StoresSurely}
 use Rattle.object_cells.specs.declared.content.SlotContent.{SlotContent}
 use Rattle.object_cells.specs.CellWrites.{reshaped}
 use Rattle.object_cells.specs.Contents.{next_at}
@@ -26,7 +27,9 @@ use Rattle.object_cells.proofs.NumberedSlots.{IsNumbered}
 use Rattle.object_cells.proofs.OwnPlaces.{plain_is_object}
 use Rattle.object_cells.proofs.PathOffsets.{AreAlike}
 use Rattle.object_cells.proofs.TouchedCells.{FitsTouch, IsBeside, fits_one_apart, fits_then, none_made, then_next}
-use Rattle.object_cells.proofs.TouchedFields.{Refields, TouchesObject, own_of_cell, fields_remembered}
+use Rattle.object_cells.specs.SureCells.{RemembersSurely}
+use Rattle.object_cells.proofs.SureFields.{fields_remembered_surely}
+use Rattle.object_cells.proofs.TouchedFields.{Refields, TouchesObject, own_of_cell}
 use Rattle.object_cells.proofs.UnusedWords.{IsUnusedRun, run_beside}
 
 -- no slot of a plain object has a word of a run that is not used
@@ -39,11 +42,17 @@ numbered_beside {at = at} run has plain
     (IsNumbered.beside store k other others slot refers of_kind counts is of_cell) =
     run_beside at run (owned_is_no_filler other.layout.kind (subst IsOwnedKind (sym of_kind) tt)) refers.has of_cell
 
+-- Each address of a page was touched so, and the header of the object at the address may have been put; words that were
+-- put as slots' words were put surely.
+pub record TouchesSurely (old new : Mutator) (object : ℕ) (touch : ℕ → Touch) : Type 0 where
+  pub touches : TouchesObject old new object touch
+  pub surely : StoresSurely new touch
+
 -- Each address of a page was touched so, beside a run in which cells were made; and there as these cells owe it, which
 -- stand then. The header of the object's cell, no word of which is of the run, may have been put as well.
 pub record TouchesWith (old new : Mutator) (cell : Cell) (made : List Cell) (touch : ℕ → Touch) : Type 0 where
   pub all : ℕ → Touch
-  pub touches : TouchesObject old new cell.at all
+  pub touches : TouchesSurely old new cell.at all
   pub from : ℕ
   pub to : ℕ
   pub apart : (at : ℕ) → IsOfCell cell at → IsBeside from to at
@@ -53,7 +62,7 @@ pub record TouchesWith (old new : Mutator) (cell : Cell) (made : List Cell) (tou
       → TouchesMade (heap_of old) from to made all
 
 -- so they were where no cell was made
-pub touches_alone : {old new : Mutator} {cell : Cell} {touch : ℕ → Touch} → TouchesObject old new cell.at touch
+pub touches_alone : {old new : Mutator} {cell : Cell} {touch : ℕ → Touch} → TouchesSurely old new cell.at touch
     → TouchesWith old new cell [] touch
 touches_alone {old} {touch = touch} touches = record {
   all = touch;
@@ -70,7 +79,7 @@ pub touches_box : {old new : Mutator} {cell : Cell} {place : ℕ} (how : Touch) 
     → IsRunOf (heap_of old) (heap_of new) (next_at old) (next_at old + content_need holds)
     → IsRow new.seat.space (heap_words new.seat) (next_at old) (next_at old + content_need holds)
     (made_boxes holds (next_at old))
-    → TouchesObject old new cell.at (touched_then (content_touch holds (next_at old)) (touched_one how place))
+    → TouchesSurely old new cell.at (touched_then (content_touch holds (next_at old)) (touched_one how place))
     → ((at : ℕ) → IsOfCell cell at → IsBeside (next_at old) (next_at old + content_need holds) at)
     → IsBeside (next_at old) (next_at old + content_need holds) place
     → TouchesWith old new cell (made_boxes holds (next_at old)) (touched_one how place)
@@ -101,12 +110,13 @@ pub fields_with_remembered : {old new : Mutator} {cell : Cell} {next : ℕ} {oth
     → ((at : ℕ) → FitsTouch (cell ∷ others) (reshaped new.paths cell next ∷ others) at (touch at))
     → ((number : ℕ) → number < before.cap → touch (cell.at + (plain_head + number)) ≡ Touch.Kept
     → AreAlike before after number)
-    → Remembers old new (cell ∷ others) (reshaped new.paths cell next ∷ others) made
+    → RemembersSurely old new (cell ∷ others) (reshaped new.paths cell next ∷ others) made
 fields_with_remembered {new = new} {cell} {next} {others} {made} r t fits alike =
     let came : List Cell = reshaped new.paths cell next ∷ others in
-    fields_remembered t.all r t.touches
+    fields_remembered_surely t.all r t.touches.touches
     (λ at below out. subst (FitsTouch (cell ∷ others) came at) (sym (t.beside at below out)) (fits at))
     (λ number few below kept.
     let place : ℕ = cell.at + (plain_head + number) in
     alike number few (sym (t.beside place below (t.apart place (own_of_cell r number few))) ∙ kept))
     (t.of_made r.rows (λ one among. r.cells.comes one (Contains-append_right came made one among)))
+    t.touches.surely

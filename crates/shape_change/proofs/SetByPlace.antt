@@ -15,18 +15,22 @@ use Rattle.write_barrier.specs.declared.room.NoRoom.{NoRoom}
 use Rattle.object_cells.specs.CellsAt.{HasField}
 use Rattle.object_cells.specs.declared.content.SlotContent.{SlotContent}
 use Rattle.object_cells.specs.declared.content.SlotContent.TheVariants as content
+use Rattle.object_cells.specs.declared.content.SlotWrite.TheVariants as filling
 use Rattle.object_cells.specs.Contents.{content_of, filling_at, LacksRoom, FillsSlot}
+use Rattle.object_cells.specs.CycleChanges.{MayFillSlot}
+use Rattle.object_cells.proofs.FillsOn.{may_fill}
 use Rattle.object_cells.proofs.HeldContents.{held_rep_is}
 use Rattle.shape_change.specs.declared.set_slot.SlotSetting.{SlotSetting}
 use Rattle.shape_change.specs.declared.stop.FieldStop.{FieldStop}
 use Rattle.shape_change.specs.declared.stop.FieldStop.TheVariants as stop
 use Rattle.shape_change.specs.FieldChanges.{HasSetField, SetsField}
-use Rattle.shape_change.specs.Fillings.{IsSlotSetting, KeepsTagged, SetsWider}
+use Rattle.shape_change.specs.Fillings.{IsSlotSetting, KeepsTagged, MayComeToHold, SetsWider}
 use Rattle.shape_change.specs.declared.slots.Place.{Place}
 use Rattle.shape_change.specs.Places.{place_at, IsPlaceOf}
 use Rattle.shape_change.proofs.Settings.{Setting}
 use Rattle.shape_change.proofs.SetOutcomes.{set_as_it_is}
 use Rattle.shape_change.proofs.SetRefused.{refused_room, paths_enough, wider_sets}
+use Rattle.shape_change.proofs.SettingFills.{as_it_is_can}
 use Rattle.shape_change.proofs.SetThere.{setting_read, setting_fills, wider_path}
 
 -- a slot that takes a tagged word as it is, is set so
@@ -66,6 +70,14 @@ module _ {old : Mutator} {graph : Graph} {object slot : ℕ} {plain : PlainObjec
         set_as_it_is s sets.place within (setting_fills s there is shows) (rep_stays same)
         (subst (λ a. FillsSlot old new (place_at a sets.place) sets.content) (sym s.stands) filled_so)
 
+    -- and it may be filled so
+    pub as_it_is_may : sets.rep ≡ sets.was → MayComeToHold old (place_at object sets.place) sets.content
+    as_it_is_may same =
+        subst (λ a. MayComeToHold old (place_at a sets.place) sets.content) s.stands (λ between allocates.
+        may_fill between (place_at s.cell.at sets.place)
+        (filling_at old (place_at s.cell.at sets.place) sets.content)
+        (as_it_is_can s within between (setting_fills s there is shows) (rep_stays same) allocates))
+
     -- so it was where a tagged word was put, and the field keeps its representation
     pub kept_sets : {new : Mutator} (word : Word) → KeepsTagged sets.was held word
         → FillsSlot old new (place_at object sets.place) (content.Tagged word)
@@ -77,6 +89,17 @@ module _ {old : Mutator} {graph : Graph} {object slot : ℕ} {plain : PlainObjec
         is.content ∙ ap (λ r. content_of own r held) stays ∙ keeps.content own in
         as_it_is_sets stays
         (subst (λ (c : SlotContent). FillsSlot old new (place_at object sets.place) c) (sym holds) filled_so)
+
+    -- which may be put
+    pub kept_may : (word : Word) → KeepsTagged sets.was held word
+        → MayFillSlot old (place_at object sets.place) (filling.Tagged word)
+    kept_may word keeps =
+        let own = nat_lt slot (shape_path old.paths shape).cap in
+        let stays : sets.rep ≡ sets.was = is.joins ∙ keeps.stays in
+        let holds : sets.content ≡ content.Tagged word =
+        is.content ∙ ap (λ r. content_of own r held) stays ∙ keeps.content own in
+        subst (λ (c : SlotContent). MayComeToHold old (place_at object sets.place) c) holds (as_it_is_may stays) old
+        refl
 
     -- it is refused where there is no room for a box
     pub as_it_is_refused : {new : Mutator} (full : NoRoom) → sets.rep ≡ sets.was

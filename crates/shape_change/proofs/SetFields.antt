@@ -15,7 +15,7 @@ use Rattle.heap_model.specs.Needs.{capacity_at}
 use Rattle.heap_model.specs.Showing.{ShowsPlain}
 use Rattle.heap_model.proofs.CellsApart.{first_of_cell}
 use Rattle.write_barrier.specs.MutatorState.{Mutator, heap_of}
-use Rattle.write_barrier.specs.Recording.{Remembers}
+use Rattle.object_cells.specs.SureCells.{RemembersSurely}
 use Rattle.object_cells.specs.PlainObjects.{ShowsRefilled}
 use Rattle.object_cells.specs.Refills.{AreNewFields}
 use Rattle.object_cells.specs.Uses.{TakesRun}
@@ -32,6 +32,7 @@ use Rattle.object_cells.proofs.OwnCells.{IsOwnWord, writes_cells, cell_below_lay
 use Rattle.object_cells.proofs.SlotsNow.{PutsOwn}
 use Rattle.object_cells.proofs.OneField.{SetsOne, FillsOne, slots_after, refills_slots}
 use Rattle.std.proofs.Common.{◌≡◌, ℕ, ◌+◌, ◌<◌, List, ◌∷◌, Some, set, sym, ◌∙◌, ap, subst}
+use Rattle.shape_change.proofs.KeepsOpen.{KeepsIfSure}
 use Rattle.shape_change.proofs.Settings.{Setting, fields_are, fields_are_new, slot_is_field}
 
 module _ {old : Mutator} {graph : Graph} {object slot : ℕ} {plain : PlainObject} {what : Value} {name : ℕ}
@@ -40,10 +41,12 @@ module _ {old : Mutator} {graph : Graph} {object slot : ℕ} {plain : PlainObjec
   abbrev fields : List Field
   fields = set plain.fields slot (revalued s.field what)
 
-  -- The object has this shape, which is that of its fields with the one set, and their path was added.
+  -- The object has this shape, which is that of its fields with the one set, and their path was added. An open cycle is
+  -- as it has to be, if words were put surely.
   pub record IsNextShape (new : Mutator) (next : ℕ) : Type 0 where
     pub is_shape : IsShapeOf new.paths (path_of plain.cap fields) next
     pub added : with_path (Some paths_most) old.paths (path_of plain.cap fields) ≡ Some new.paths
+    pub keeps : KeepsIfSure old new s.cell next
 
   -- The heap shows the graph with the field, so many words were taken, and each property store has as many slots as
   -- before.
@@ -89,7 +92,7 @@ module _ {old : Mutator} {graph : Graph} {object slot : ℕ} {plain : PlainObjec
           → (sets : SetsOne (heap_of old) (heap_of new) s.cell next at word slot others made plain.fields
           (revalued s.field what)) → FillsOne sets
           → IsRow new.seat.space (heap_words new.seat) (next_at old) (next_at old + need) made
-          → Remembers old new (s.cell ∷ others) (reshaped new.paths s.cell next ∷ others) made → ShowsSet new need
+          → RemembersSurely old new (s.cell ∷ others) (reshaped new.paths s.cell next ∷ others) made → ShowsSet new need
       field_shown {others} {made} puts sets fills row remembers =
           let heap = heap_of old in
           let same : with_field plain.fields name what ≡ fields = fields_are s in
@@ -111,7 +114,7 @@ module _ {old : Mutator} {graph : Graph} {object slot : ℕ} {plain : PlainObjec
             shows = subst (ShowsRefilled new graph plain) (sym same)
                 (written_fields_show old new graph plain s.cell next others made fields s.shows s.is.object
                 s.is.reached s.carries s.cap shown new_fields added takes sets.puts.writes (refills_slots sets fills)
-                remembers);
+                remembers.remembers (shape.keeps others made sets.puts.writes remembers));
             changes = one_keeps sets.puts row fills.belong fills.kinds sets.shown.has.slot
                 (λ other among is. (fills.stores other among is).1);
           }

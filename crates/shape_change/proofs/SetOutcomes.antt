@@ -17,6 +17,7 @@ use Rattle.heap_model.specs.Needs.{capacity_at}
 use Rattle.heap_model.specs.Rooms.{on_found, field_need, set_need, set_need_by, set_capacity, set_capacity_by}
 use Rattle.heap_model.proofs.CellsApart.{first_of_cell, has_is_cell}
 use Rattle.heap_model.proofs.CellOutcomes.{object_is_no_filler}
+use Rattle.write_barrier.specs.Marking.{with_blackened}
 use Rattle.write_barrier.specs.MutatorState.{Mutator, heap_of, with_word}
 use Rattle.object_cells.specs.declared.content.SlotContent.{SlotContent}
 use Rattle.object_cells.specs.declared.content.SlotWrite.{SlotWrite}
@@ -32,7 +33,8 @@ use Rattle.object_cells.proofs.PlainFields.{plain_sound, names_distinct}
 use Rattle.object_cells.proofs.UnusedWords.{next_run, run_beside}
 use Rattle.object_cells.proofs.OwnPlaces.{plain_is_object}
 use Rattle.object_cells.proofs.WordsPut.{HasHead}
-use Rattle.object_cells.proofs.TouchedFields.{TouchesObject, object_free}
+use Rattle.object_cells.proofs.TouchedFields.{object_free}
+use Rattle.shape_change.proofs.RunTouches.{TouchesSurely}
 use Rattle.shape_change.specs.declared.slots.Place.{Place}
 use Rattle.shape_change.specs.FieldChanges.{HasSetField}
 use Rattle.shape_change.specs.Fillings.{FillsWider}
@@ -40,12 +42,14 @@ use Rattle.shape_change.specs.Places.{place_at}
 use Rattle.shape_change.proofs.FieldsSet.{place_found, path_stays}
 use Rattle.shape_change.proofs.Filled.{allocates_paths}
 use Rattle.shape_change.proofs.FilledFields.{next_head}
-use Rattle.shape_change.proofs.ReadyHeaps.{ready_allocated, ready_laid}
+use Rattle.shape_change.proofs.ReadyHeaps.{ready_allocated, ready_black, ready_laid}
 use Rattle.shape_change.proofs.Settings.{Setting, name_is_there, path_is_there}
 use Rattle.shape_change.proofs.SettingNeeds.{need_there}
 use Rattle.shape_change.proofs.SetFields.{IsNextShape}
 use Rattle.shape_change.proofs.SetShown.{FillsAt, fill_shown}
-use Rattle.shape_change.proofs.SetTouches.{as_it_is_touches, wider_touches}
+use Rattle.shape_change.proofs.KeepsOpen.{KeepsIfSure, black_keeps, stored_keeps}
+use Rattle.shape_change.proofs.SettingFills.{as_it_is_on, as_it_is_surely}
+use Rattle.shape_change.proofs.SetTouches.{as_it_is_touches, wider_touched}
 
 -- where a slot is filled, what is used stays
 filled_young : (main : Mutator) (at : ℕ) (filling : SlotWrite) → (filled main at filling).young ≡ main.young
@@ -90,7 +94,7 @@ filled_with_paths mid new object head at filling put =
     (head_rest mid (filled mid at filling) new object head put).1 ∙ filled_paths mid at filling
 
 -- paths were added behind the others
-added_behind : (old new : List Path) (path : Path) → with_path (Some paths_most) old path ≡ Some new
+pub added_behind : (old new : List Path) (path : Path) → with_path (Some paths_most) old path ≡ Some new
     → new ≡ old ++ missing old path
 added_behind old new path added =
     let more = missing old path in
@@ -121,8 +125,8 @@ module _ {old : Mutator} {graph : Graph} {object slot : ℕ} {plain : PlainObjec
 
   -- where the representation stays, the shape does
   same_shape : {new : Mutator} → (revalued s.field what).rep ≡ s.field.rep → new.paths ≡ old.paths
-      → IsNextShape s new s.cell.header.shape
-  same_shape same paths =
+      → KeepsIfSure old new s.cell s.cell.header.shape → IsNextShape s new s.cell.header.shape
+  same_shape same paths keeps =
       let path : Path = path_of plain.cap (set plain.fields slot (revalued s.field what)) in
       let stays : path ≡ path_of plain.cap plain.fields =
       path_stays plain.cap plain.fields slot s.field (revalued s.field what) s.there refl same in
@@ -134,6 +138,7 @@ module _ {old : Mutator} {graph : Graph} {object slot : ℕ} {plain : PlainObjec
       record {
         is_shape = subst (λ all. IsShapeOf all path s.cell.header.shape) (sym paths) shape;
         added = ap (with_path (Some paths_most) old.paths) stays ∙ path_is_there s ∙ ap Some (sym paths);
+        keeps = keeps;
       }
 
   module _ (place : Place) {word : ℕ} {content : SlotContent} (within : AreWithin old.seat.space.sizes
@@ -160,13 +165,13 @@ module _ {old : Mutator} {graph : Graph} {object slot : ℕ} {plain : PlainObjec
     -- the field has the value where its slot was filled, and the object's header is that of the shape
     has_set_field : {mid new : Mutator} {next : ℕ} → IsReady old mid (filling_need fill) → IsNextShape s new next
         → RestStays old.seat new.seat → HasHead mid (filled mid at fill) new s.cell.at (next_head s next)
-        → TouchesObject old new s.cell.at (filled_touch fill at)
+        → TouchesSurely old new s.cell.at (filled_touch fill at)
         → HasSetField old new graph object plain name what
     has_set_field {new = new} {next} ready shape beside head touches =
         let capacity : ℕ = capacity_at (heap_of old) object in
         let P : ℕ → Type 0 =
         λ n. HasRoom old.young n × UsesMore old new n × ChangesObjectUsing old new n object capacity in
-        let uses = uses_more s.cell.at (next_head s next) at fill ready beside head (object_free touches) in
+        let uses = uses_more s.cell.at (next_head s next) at fill ready beside head (object_free touches.touches) in
         let shown = fill_shown s at word shape content fills ready head touches in
         let changes =
         subst (λ a. ChangesObjectUsing old new (filling_need fill) a (capacity_at (heap_of old) a)) s.stands
@@ -191,18 +196,23 @@ module _ {old : Mutator} {graph : Graph} {object slot : ℕ} {plain : PlainObjec
         inl (filled_so.fills, head_was ready) in
         let paths = filled_with_paths between new s.cell.at (next_head s s.cell.header.shape) at fill head
         ∙ allocates_paths old between fill filled_so.allocates in
-        has_set_field ready (same_shape same paths) filled_so.beside head (as_it_is_touches s at fills filled_so)
+        let stores = as_it_is_on s within filled_so.between fills same filled_so.allocates filled_so.fills in
+        let touches : TouchesSurely old new s.cell.at (filled_touch fill at) = record {
+          touches = as_it_is_touches s at fills filled_so;
+          surely = as_it_is_surely s within filled_so.between fills same filled_so.allocates filled_so.fills;
+        } in
+        has_set_field ready (same_shape same paths (stored_keeps s.shows stores)) filled_so.beside head touches
 
     -- and where it became wider as well
     pub set_wider_has : {new : Mutator} (path : Path)
         → path_of plain.cap (set plain.fields slot (revalued s.field what)) ≡ path
         → FillsWider old new s.cell.at at path content → HasSetField old new graph object plain name what
     set_wider_has {new} path is_path wider =
-        let laid = wider.laid in
+        let laid = with_blackened wider.laid s.cell.at in
         let allocated =
         ready_allocated old wider.between fill s.shows.shows.whole.sized room_for_no_more wider.allocates in
-        let ready = ready_laid (filling_need fill) (missing old.paths path) allocated wider.changes wider.sized
-        (added_behind old.paths laid.paths path wider.leads.added) in
+        let ready = ready_black s.cell.at (ready_laid (filling_need fill) (missing old.paths path) allocated
+        wider.changes wider.sized (added_behind old.paths wider.laid.paths path wider.leads.added)) in
         let header : header_bits (record wider.header { shape = wider.next }) ≡ next_head s wider.next =
         ap (λ (h : Header). header_bits (record h { shape = wider.next }))
         (sym (wider.is_header s.cell (words_of_cell (heap_of old) s.cell) s.has refl)) in
@@ -213,5 +223,6 @@ module _ {old : Mutator} {graph : Graph} {object slot : ℕ} {plain : PlainObjec
           is_shape = subst (λ p. IsShapeOf new.paths p wider.next) (sym is_path)
               (subst (λ all. IsShapeOf all path wider.next) (sym paths) wider.leads.shape_is);
           added = ap (with_path (Some paths_most) old.paths) is_path ∙ wider.leads.added ∙ ap Some (sym paths);
+          keeps = black_keeps s.shows wider.stores;
         } in
-        has_set_field ready shape wider.beside head (wider_touches s at fills wider)
+        has_set_field ready shape wider.beside head (wider_touched s at fills wider)

@@ -18,7 +18,7 @@ use Rattle.object_cells.proofs.FieldWords.{field_word as is_field_word}
 use Rattle.object_cells.proofs.HeldContents.{HoldsValue, held_slot_word}
 use Rattle.object_cells.proofs.NumberedSlots.{IsNumbered}
 use Rattle.object_cells.proofs.OneWord.{IsReady}
-use Rattle.object_cells.proofs.TouchedFields.{TouchesObject}
+use Rattle.shape_change.proofs.RunTouches.{TouchesSurely}
 use Rattle.object_cells.proofs.WordsPut.{HasHead, puts_slot, puts_no_slot}
 use Rattle.shape_change.proofs.BoxedFields.{new_box_shown, old_box_shown}
 use Rattle.shape_change.proofs.FilledFields.{next_head, tagged_shown, raw_shown}
@@ -54,7 +54,7 @@ module _ {old : Mutator} {graph : Graph} {object slot : ℕ} {plain : PlainObjec
         → IsReady old mid (filling_need (filling_of found (next_at old) (content.Boxed v)))
         → HasHead mid (filled mid at (filling_of found (next_at old) (content.Boxed v))) new s.cell.at
         (next_head s next)
-        → TouchesObject old new s.cell.at (filled_touch (filling_of found (next_at old) (content.Boxed v)) at)
+        → TouchesSurely old new s.cell.at (filled_touch (filling_of found (next_at old) (content.Boxed v)) at)
         → ShowsSet s new (filling_need (filling_of found (next_at old) (content.Boxed v)))
     boxed_shown v None fills is ready head touches =
         new_box_shown s v fills.comes at fills.numbered ready shape head touches
@@ -67,7 +67,7 @@ module _ {old : Mutator} {graph : Graph} {object slot : ℕ} {plain : PlainObjec
     pub fill_shown : (content : SlotContent) → FillsAt at word content
         → IsReady old mid (filling_need (filling_at old at content))
         → HasHead mid (filled mid at (filling_at old at content)) new s.cell.at (next_head s next)
-        → TouchesObject old new s.cell.at (filled_touch (filling_at old at content) at)
+        → TouchesSurely old new s.cell.at (filled_touch (filling_at old at content) at)
         → ShowsSet s new (filling_need (filling_at old at content))
     fill_shown (content.Tagged put) fills ready head touches =
         tagged_shown s at fills.numbered shape put ready (puts_slot refl) head touches fills.comes

@@ -10,7 +10,9 @@ use Rattle.object_graph.specs.Paths.{path_of}
 use Rattle.object_graph.specs.Objects.{revalued}
 use Rattle.object_graph.specs.Values.{rep_of, join}
 use Rattle.object_graph.specs.Graphs.{Graph, PlainObject}
-use Rattle.shape_tree.specs.Shapes.{shape_path, changed}
+use Rattle.shape_tree.specs.Shapes.{IsPathShape, shape_path, changed}
+use Rattle.heap_model.specs.Heaps.{Heap}
+use Rattle.heap_model.specs.Wholeness.{Whole}
 use Rattle.handle_roots.specs.Roots.{FitsHeld}
 use Rattle.heap_model.specs.Needs.{word_at}
 use Rattle.heap_model.specs.Showing.{ShowsHeld}
@@ -27,7 +29,7 @@ use Rattle.object_cells.proofs.FieldWords.{path_field}
 use Rattle.object_cells.proofs.FieldsFound.{path_long}
 use Rattle.shape_change.proofs.FieldsSet.{path_changed}
 use Rattle.shape_change.proofs.FoundPlaces.{place_numbered}
-use Rattle.object_cells.proofs.PlainFields.{slots_held, plain_shown, shape_there}
+use Rattle.object_cells.proofs.PlainFields.{slots_held, plain_shown, plain_sound, shape_there}
 use Rattle.shape_change.proofs.Settings.{Setting, setting, slot_is_field}
 use Rattle.shape_change.proofs.SetShown.{FillsAt, held_slot}
 use Rattle.object_cells.proofs.SlotsNow.{numbered_stands}
@@ -50,6 +52,12 @@ no_field = record { name = 0; rep = rep.Small; value = Undefined }
 -- the name of the field of a number
 abbrev pub name_at : List Field → ℕ → ℕ
 name_at fields slot = (get_or fields slot no_field).name
+
+-- the shape of a plain object that has a field is a path's
+pub field_path : {heap : Heap} {object shape slot : ℕ} → Whole heap → HasField heap object shape slot
+    → IsPathShape heap.paths shape
+field_path {heap} whole there =
+    subst (IsPathShape heap.paths) there.of_shape (plain_sound whole there.has there.plain).shape
 
 -- each graph that is shown has a field of this number
 pub shown_setting : {old : Mutator} {object shape slot : ℕ} {held : Held} (shown : IsShownSetting old object held)

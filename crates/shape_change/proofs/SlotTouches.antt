@@ -12,6 +12,9 @@ use Rattle.shape_tree.specs.Shapes.{shape_path}
 use Rattle.write_barrier.specs.Seats.{heap_words}
 use Rattle.heap_model.specs.Remembered.{Touch}
 use Rattle.write_barrier.specs.MutatorState.{Mutator, with_word, with_slot}
+use Rattle.write_barrier.specs.Storing.{StoresOn}
+use Rattle.write_barrier.specs.SureStores.{StoresSurely}
+use Rattle.write_barrier.proofs.SureStores.{kept_surely, surely_alike, surely_then, wiped_surely}
 use Rattle.write_barrier.specs.Recording.{Touches, touched_one, touched_again, touched_then}
 use Rattle.write_barrier.proofs.TouchedRanges.{touched_inside, touched_outside, touched_here, touched_other}
 use Rattle.write_barrier.proofs.Recording.{no_touch, touch_alike, then_touch, word_touch, slot_touch}
@@ -65,6 +68,23 @@ pub more_by : {old mid new : Mutator} {from to : ℕ} (how : ℕ → Touch) → 
 more_by {from = from} {to} how order first next =
     touch_alike (λ at below. more_alike how from to at order) (then_touch first next)
 
+-- so one word more was put surely
+pub more_surely : {mid new : Mutator} {from to : ℕ} (how : ℕ → Touch) → from ≤ to
+    → StoresSurely mid (touched_by how from to) → Touches mid new (touched_one (how to) to) → StoresOn mid new
+    → StoresSurely new (touched_one (how to) to) → StoresSurely new (touched_by how from (to + 1))
+more_surely {from = from} {to} how order first touches stores next =
+    surely_alike (λ at below. more_alike how from to at order) (surely_then first touches stores next)
+
+-- none of no words was put
+pub none_surely : (main : Mutator) (how : ℕ → Touch) (from : ℕ) → StoresSurely main (touched_by how from from)
+none_surely main how from =
+    surely_alike (λ at below. sym (by_outside how from from at (cases_lt at from))) (kept_surely main)
+
+-- an address was put surely as it was touched
+pub how_surely : {new : Mutator} {how other : Touch} (at : ℕ) → how ≡ other → StoresSurely new (touched_one how at)
+    → StoresSurely new (touched_one other at)
+how_surely {new} at same surely = subst (λ (h : Touch). StoresSurely new (touched_one h at)) same surely
+
 -- the in-object slot of a number is touched as its field says
 pub own_touch_at : (path : Path) (object slot : ℕ)
     → own_touch path object (object + (plain_head + slot)) ≡ field_touch true (slice_get path.fields slot)
@@ -92,6 +112,24 @@ own_put {mid} {new} {paths} shape object slot same touches =
     ∙ sym (own_touch_at (shape_path paths shape) object slot) in
     subst (λ (h : Touch). Touches mid new (touched_one h (object + (plain_head + slot)))) how touches
 
+-- how the slot of a field is touched is told by its representation
+pub field_how : {paths all : List Path} {field : PathField} {how : Touch} (shape slot : ℕ) → all ≡ paths
+    → slice_get (shape_path all shape).fields slot ≡ Some field → rep_touch field.rep ≡ how
+    → field_touch true (slice_get (shape_path paths shape).fields slot) ≡ how
+field_how {field = field} shape slot same found is =
+    ap (field_touch true) (subst (λ ps. slice_get (shape_path ps shape).fields slot ≡ Some field) same found) ∙ is
+
+-- it was put surely
+pub own_surely : {new : Mutator} {mids paths : List Path} (shape object slot : ℕ) → mids ≡ paths
+    → StoresSurely new (touched_one (field_touch true (slice_get (shape_path mids shape).fields slot))
+    (object + (plain_head + slot)))
+    → StoresSurely new (touched_one (own_touch (shape_path paths shape) object (object + (plain_head + slot)))
+    (object + (plain_head + slot)))
+own_surely {paths = paths} shape object slot same surely =
+    how_surely (object + (plain_head + slot))
+    (ap (λ ps. field_touch true (slice_get (shape_path ps shape).fields slot)) same
+    ∙ sym (own_touch_at (shape_path paths shape) object slot)) surely
+
 -- the slot behind the fields is none
 pub past_put : {old new : Mutator} (path : Path) (object slot : ℕ) → length path.fields ≤ slot
     → Touches old new (touched_one Touch.Wiped (object + (plain_head + slot)))
@@ -101,6 +139,15 @@ past_put {old} {new} path object slot behind touches =
     let how = own_touch_at path object slot
     ∙ ap (field_touch true) (slice_get_past path.fields slot behind) in
     subst (λ (h : Touch). Touches old new (touched_one h (object + (plain_head + slot)))) (sym how) touches
+
+-- and was put surely
+pub past_surely : (path : Path) (object slot : ℕ) → length path.fields ≤ slot → (new : Mutator)
+    → StoresSurely new (touched_one (own_touch path object (object + (plain_head + slot)))
+    (object + (plain_head + slot)))
+past_surely path object slot behind new =
+    how_surely (object + (plain_head + slot))
+    (sym (own_touch_at path object slot ∙ ap (field_touch true) (slice_get_past path.fields slot behind)))
+    (wiped_surely new (object + (plain_head + slot)))
 
 -- a word was put that is no slot's
 pub word_put : {old new : Mutator} (at word : ℕ) → new ≡ with_word old at word → at < marks_start old.seat.space

@@ -8,6 +8,8 @@ use Rattle.heap_model.specs.Types.{Path}
 use Rattle.heap_model.specs.Slots.{hole_word}
 use Rattle.heap_model.specs.Remembered.{Touch}
 use Rattle.write_barrier.specs.MutatorState.{Mutator}
+use Rattle.write_barrier.specs.Storing.{StoresOn}
+use Rattle.write_barrier.proofs.SureStores.{surely_then}
 use Rattle.write_barrier.specs.Recording.{touched_again, touched_then}
 use Rattle.write_barrier.proofs.Recording.{then_touch}
 use Rattle.object_cells.proofs.TouchedCells.{again_behind}
@@ -91,6 +93,7 @@ own_closed old new path object cap store slot last first order own gap = record 
   beside = λ at out. gap.beside at (outside_own object cap store slot last last at own (omega arith) out);
   touch = touched_by (own_touch path object) (object + (plain_head + slot)) (object + (plain_head + last) + 1);
   touches = gap.touches;
+  surely = gap.surely;
   slot_touches = λ one low high. own_touched path object cap store slot last one low high (omega (arith, high, own));
   others_touch = λ at out. by_outside (own_touch path object) (object + (plain_head + slot))
       (object + (plain_head + last) + 1) at (outside_own object cap store slot last last at own (omega arith) out);
@@ -114,6 +117,7 @@ beside_closed old new path object cap store slot last first behind order gap = r
       gap.beside at (outside_beside object cap store slot last (slot - cap) at (omega arith) (omega arith) out);
   touch = touched_by beside_touch (store + (store_head + (slot - cap))) (store + (store_head + (last - cap)) + 1);
   touches = gap.touches;
+  surely = gap.surely;
   slot_touches = λ one low high. beside_touched path object cap store (slot - cap) last one (omega (arith, behind, low))
       (omega arith) high;
   others_touch = λ at out. by_outside beside_touch (store + (store_head + (slot - cap)))
@@ -133,7 +137,7 @@ own_is_not_beside : (object cap store last one : ℕ) → RangesDisjoint object 
 own_is_not_beside object cap store last one apart own = grind (arith, apart)
 
 -- and a slot of the store none of the object
-beside_is_not_own : (object cap store last slot one : ℕ) → RangesDisjoint object cap store last → 0 < cap
+pub beside_is_not_own : (object cap store last slot one : ℕ) → RangesDisjoint object cap store last → 0 < cap
     → one ≤ last - cap
     → (store + (store_head + one) < object + (plain_head + slot))
     ⊎ (object + (plain_head + (cap - 1)) + 1 ≤ store + (store_head + one))
@@ -142,11 +146,11 @@ beside_is_not_own object cap store last slot one apart some few = grind (arith, 
 -- Where some stand in the object and some in the store, both gaps are closed, and the first of the store comes into the
 -- object as this word.
 pub both_closed : (old mid new : Mutator) (path : Path) (object cap store slot last first : ℕ) → slot < cap → cap ≤ last
-    → RangesDisjoint object cap store last
+    → StoresOn mid new → RangesDisjoint object cap store last
     → ClosesGap old mid (object + (plain_head + slot)) (object + (plain_head + (cap - 1))) first (own_touch path object)
     → ClosesGap mid new (store + (store_head + 0)) (store + (store_head + (last - cap))) hole_word beside_touch
     → ClosesSlots old new object cap store slot last first path
-both_closed old mid new path object cap store slot last first own some apart gap then = record {
+both_closed old mid new path object cap store slot last first own some stores apart gap then = record {
   rest = rest_then old mid new gap.rest then.rest;
   moved = λ one low high other. elim (cases_lt one cap) [
     | inl below ↦
@@ -178,6 +182,7 @@ both_closed old mid new path object cap store slot last first own some apart gap
       (touched_by (own_touch path object) (object + (plain_head + slot)) (object + (plain_head + (cap - 1)) + 1))
       (touched_by beside_touch (store + (store_head + 0)) (store + (store_head + (last - cap)) + 1));
   touches = then_touch gap.touches then.touches;
+  surely = surely_then gap.surely then.touches stores then.surely;
   slot_touches = λ one low high. elim (cases_lt one cap) [
     | inl below ↦
         let at : ℕ = object + (plain_head + one) in

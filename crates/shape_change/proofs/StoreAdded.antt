@@ -221,9 +221,12 @@ module _ {old new : Mutator} {graph : Graph} {plain : PlainObject} {object : ℕ
       (touched_then (content_touch (store_content value) (next_at old)) (touched_one Touch.Stored place)) =
       path_touches (content_need (store_content value)) adding.adds.path known.shows.bounded adding.adds.touches in
       let one : TouchesWith old new known.cell made (touched_one Touch.Stored place) =
-      touches_box Touch.Stored (store_content value) (over_run over) row (subst (λ a. TouchesObject old new a
-      (touched_then (content_touch (store_content value) (next_at old)) (touched_one Touch.Stored place)))
-      (sym known.stands) all) apart_from_object apart_from_store in
+      touches_box Touch.Stored (store_content value) (over_run over) row (record {
+        touches = subst (λ a. TouchesObject old new a
+            (touched_then (content_touch (store_content value) (next_at old)) (touched_one Touch.Stored place)))
+            (sym known.stands) all;
+        surely = adding.adds.surely;
+      }) apart_from_object apart_from_store in
       subst (λ o. TouchesWith old new known.cell made
       (touched_one (field_touch o (Some (record { name = name; rep = rep_of what }))) place)) (sym test) one
 
@@ -251,7 +254,7 @@ module _ {old new : Mutator} {graph : Graph} {plain : PlainObject} {object : ℕ
       holds places (λ is_own wide. false≢true is_own) (λ v boxed. is_made_box box (made_box holds_all box v boxed)))
       (made_boxed holds_all box)
       (λ other there. made_sound count box other holds known.fits box_stands (made_has other there) there))
-      (one_remembered one.adds touches)
+      (one_remembered one.adds touches) adding.adds.stores
 
   -- each property store has as many slots as before
   pub store_keeps : ChangesObjectUsing old new (content_need (store_content value)) adding.known.cell.at

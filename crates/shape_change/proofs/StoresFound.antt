@@ -38,7 +38,7 @@ field_boxed one word (IsFieldWord.wide to is) wide = wide_boxed word is
 field_boxed one word (IsFieldWord.tagged to is) wide = cc
 
 -- how many in-object slots the object has, and how many fields of the shape
-record FieldsCounted (heap : Heap) (at shape slot : ℕ) (there : HasField heap at shape slot) : Type 0 where
+pub record FieldsCounted (heap : Heap) (at shape slot : ℕ) (there : HasField heap at shape slot) : Type 0 where
   pub slots : List ℕ
   pub are : HasSlots heap there.words slots
   pub cap : there.cell.layout.cap ≡ (shape_path heap.paths shape).cap
@@ -46,7 +46,7 @@ record FieldsCounted (heap : Heap) (at shape slot : ℕ) (there : HasField heap 
   pub long : length slots ≡ there.cell.layout.cap + length are.beside
 
 -- there are slots for all fields
-fields_counted : {heap : Heap} {at shape slot : ℕ} → Whole heap → (there : HasField heap at shape slot)
+pub fields_counted : {heap : Heap} {at shape slot : ℕ} → Whole heap → (there : HasField heap at shape slot)
     → FieldsCounted heap at shape slot there
 fields_counted {heap} {shape = shape} whole there =
     let sound = plain_sound whole there.has there.plain in
@@ -89,7 +89,7 @@ store_there {heap} whole there some =
     )
 
 -- the slots beside an object are those of its store
-beside_are : {heap : Heap} {at store : ℕ} {cell : Cell} {words slots : List ℕ} (there : HasStoreAt heap at store)
+pub beside_are : {heap : Heap} {at store : ℕ} {cell : Cell} {words slots : List ℕ} (there : HasStoreAt heap at store)
     → HasCell heap cell words → cell.at ≡ at → (are : HasSlots heap words slots)
     → are.beside ≡ drop store_head there.others
 beside_are {heap} {cell = cell} {words} there has stands are =

@@ -1,10 +1,11 @@
 -- A field is taken out of a plain object: its path is added, its slots are closed, and its header is put.
-use Rattle.std.proofs.Common.{◌≡◌, ◌≢◌, ℕ, suc, ◌+◌, ◌<◌, ◌≤◌, List, length, Some, slice_get, sym, ◌∙◌, ap, subst}
+use Rattle.std.proofs.Common.{◌≡◌, ◌≢◌, ℕ, suc, ◌+◌, ◌<◌, ◌≤◌, List, length, Some, slice_get, sym, ◌∙◌, ap, subst, inl}
+use Rattle.std.proofs.Common.{inr}
 use Rattle.std.proofs.Common.{arith, length-append, length-take, length-drop, take, drop, refl}
 use Rattle.std.specs.Prelude.{slice_set, Ok, nat_lt}
 use Rattle.std.proofs.lemmas.Bool.Decides.{nat_tests}
 use Rattle.heap_model.specs.Types.{Header, Path}
-use Rattle.page_space.specs.Extents.{Space, layouts_start, marks_start}
+use Rattle.page_space.specs.Extents.{Space, eden_start, layouts_start, marks_start}
 use Rattle.page_space.proofs.Starts.{layouts_start_is, marks_start_is}
 use Rattle.object_graph.proofs.Lists.{slice_get-set_same, slice_get-set_other}
 use Rattle.shape_tree.specs.Shapes.{shape_path, without, Leads, AreShapes}
@@ -13,6 +14,13 @@ use Rattle.write_barrier.specs.Seats.{heap_words}
 use Rattle.write_barrier.specs.Staying.{rest_stays_again}
 use Rattle.heap_model.specs.Wholeness.{HasSizes, Whole}
 use Rattle.heap_model.specs.Remembered.{Touch}
+use Rattle.mark_world.specs.Soundness.{AreIn}
+use Rattle.std.proofs.lemmas.List.Elements.{All-contains_itself}
+use Rattle.std.proofs.lemmas.Bool.{cases_eq}
+use Rattle.write_barrier.specs.Marking.{with_blackened}
+use Rattle.write_barrier.specs.SureStores.{StoresBlack, StoresSurely}
+use Rattle.write_barrier.proofs.SureStores.{sure_stays}
+use Rattle.write_barrier.proofs.JudgedSlots.{wiped_bound}
 use Rattle.write_barrier.specs.MutatorState.{Mutator, heap_of, with_word}
 use Rattle.write_barrier.specs.Recording.{Touches, touched_one, touched_again, touched_then}
 use Rattle.write_barrier.proofs.Recording.{same_touch, touch_alike, then_touch}
@@ -68,6 +76,34 @@ sized_stays old new sized rest same = record {
       ∙ ap (λ (paths : List Path). Some (layout_word paths shape)) (sym rest.paths);
 }
 
+-- what was wiped is no slot
+wiped_is_no_slot : (first : Touch) → touched_again first Touch.Wiped ≡ Touch.Stored → ⊥
+wiped_is_no_slot first is = cc
+
+-- what was put surely stays so where a header is put
+wiped_then : {mid new : Mutator} {touch : ℕ → Touch} (at word : ℕ) → new ≡ with_word mid at word
+    → at < marks_start mid.seat.space → StoresSurely mid touch
+    → StoresSurely new (touched_then touch (touched_one Touch.Wiped at))
+wiped_then {mid} {new} {touch} at word is within surely = record {
+  sure = λ mark one below bound stored. elim (cases_eq one at) [
+    | inl same ↦
+        absurd (wiped_is_no_slot (touch one) (sym (ap (touched_again (touch one))
+        (ap (touched_one Touch.Wiped at) same ∙ touched_here Touch.Wiped at)) ∙ stored))
+    | inr apart ↦
+        let space = ap (λ (main : Mutator). main.seat.space) is in
+        let bounds = ap (λ (main : Mutator). main.recorded.bound) is ∙ wiped_bound mid.recorded at (at + 1) in
+        let below_mid : one < eden_start mid.seat.space = omega (arith, below, ap eden_start space) in
+        let was = sym (ap (touched_again (touch one)) (touched_other Touch.Wiped at one apart)) ∙ stored in
+        let grows = subst (λ (list : List ℕ). AreIn list mid.cycle.sure)
+        (ap (λ (main : Mutator). main.cycle.sure) (sym is)) (All-contains_itself mid.cycle.sure) in
+        sure_stays mid new one space below_mid grows
+        (ap (λ (main : Mutator). slice_get (heap_words main.seat) one) is
+        ∙ slice_get-set_other (heap_words mid.seat) at one word apart)
+        (surely.sure (sym (ap (λ (main : Mutator). main.seat.phase) is) ∙ mark) one below_mid
+        (omega (arith, bound, bounds)) was)
+  ];
+}
+
 -- where paths were added first, the touches of what follows are all, since layout words stand in no page
 paths_then : {old mid new : Mutator} {touch : ℕ → Touch} → AddsPaths old mid
     → old.recorded.bound ≤ layouts_start old.seat.space → Touches mid new touch → Touches old new touch
@@ -86,9 +122,9 @@ pub took_out : (old mid closed new : Mutator) (object : ℕ) (header : Header) (
     → ClosesSlots mid closed object cap store slot last first (shape_path mid.paths next)
     → new ≡ with_word closed object (shaped_bits header next)
     → heap_words new.seat ≡ slice_set (heap_words closed.seat) object (shaped_bits header next)
-    → TakesFieldOut old new object header slot
+    → StoresBlack old new object → TakesFieldOut old new object header slot
 took_out old mid closed new object header slot next cap last store first leads sized adds caps counted stand has_beside
-    closes is heap =
+    closes is heap black =
     let bits : ℕ = shaped_bits header next in
     let space = old.seat.space in
     let path : Path = without (shape_path old.paths header.shape) slot in
@@ -138,7 +174,9 @@ took_out old mid closed new object header slot next cap last store first leads s
           ∙ slice_get-set_same (heap_words closed.seat) object bits
           (omega (arith, long, before, marks_start_is space));
       stay = λ at below apart out. stay at apart out ∙ adds.same at below;
+      black = black;
       touch = touched_then closes.touch (touched_one Touch.Wiped object);
+      surely = wiped_then object bits is within closes.surely;
       touches = λ below. then_touch (paths_then adds below closes.touches) (word_put object bits is within);
       headed_touch = ap (touched_again (closes.touch object)) (touched_here Touch.Wiped object);
       slot_touches = λ one low high.
@@ -158,12 +196,24 @@ pub record IsOneFewer (old mid : Mutator) (shape next : ℕ) : Type 0 where
   pub cap : (shape_path mid.paths next).cap ≡ (shape_path old.paths shape).cap
   pub fields : suc (length (shape_path mid.paths next).fields) ≡ length (shape_path old.paths shape).fields
   pub marks : marks_start mid.seat.space ≡ marks_start old.seat.space
+  pub layouts : layouts_start mid.seat.space ≡ layouts_start old.seat.space
 
--- where the mutator is the same, the shape is found in it
-pub found_again : {old mid new : Mutator} {next : ℕ} (shape slot : ℕ) → new ≡ mid
+-- where a cell was made black then, the shape is found as before
+pub found_black : {old mid new : Mutator} {next : ℕ} (shape slot at : ℕ) → new ≡ with_blackened mid at
     → FindsWithout old mid shape slot (Ok next) → FindsWithout old new shape slot (Ok next)
-found_again {old} {next = next} shape slot same found =
-    subst (λ (main : Mutator). FindsWithout old main shape slot (Ok next)) (sym same) found
+found_black {old} {mid} {next = next} shape slot at is found =
+    subst (λ (main : Mutator). FindsWithout old main shape slot (Ok next)) (sym is) (
+      found.0,
+      found.1,
+      record {
+        beside = found.2.beside;
+        young = found.2.young;
+        free = found.2.free;
+        recorded = found.2.recorded;
+        count = found.2.count;
+        same = found.2.same;
+      },
+    )
 
 module _ {old mid : Mutator} {object shape slot next : ℕ} (whole : Whole (heap_of old))
     (there : HasField (heap_of old) object shape slot) (found : FindsWithout old mid shape slot (Ok next)) where
@@ -176,6 +226,7 @@ module _ {old mid : Mutator} {object shape slot next : ℕ} (whole : Whole (heap
         cap = ap (λ (p : Path). p.cap) path;
         fields = omega (arith, ap (λ (p : Path). length p.fields) path, fewer);
         marks = ap marks_start found.2.beside.space;
+        layouts = ap layouts_start found.2.beside.space;
       }
 
   -- all slots of the object stand before the marks
@@ -184,6 +235,11 @@ module _ {old mid : Mutator} {object shape slot next : ℕ} (whole : Whole (heap
       let space = old.seat.space in
       let own = own_stands whole there in
       omega (arith, one_fewer.cap, one_fewer.marks, own, layouts_start_is space, marks_start_is space)
+
+  -- and before the layout words
+  pub own_before_layouts : object + (plain_head + (shape_path mid.paths next).cap) ≤ layouts_start mid.seat.space
+  own_before_layouts =
+      omega (arith, one_fewer.cap, one_fewer.layouts, own_stands whole there, layouts_start_is old.seat.space)
 
   -- and those of the fields in its store, which are apart
   pub slots_within : (store : ℕ) → (shape_path old.paths shape).cap < length (shape_path old.paths shape).fields
@@ -194,12 +250,13 @@ module _ {old mid : Mutator} {object shape slot next : ℕ} (whole : Whole (heap
       let layouts = layouts_start_is old.seat.space in
       let marks = marks_start_is old.seat.space in
       record {
-        own = own_before_marks;
-        beside = omega (arith, fewer.cap, fewer.fields, fewer.marks, stand.beside some, layouts, marks);
+        own = own_before_layouts;
+        beside = omega (arith, fewer.cap, fewer.fields, fewer.layouts, stand.beside some, layouts, marks);
         apart = grind (arith, fewer.cap, fewer.fields, stand.apart);
       }
 
-module _ {old mid closed new : Mutator} {object : ℕ} {header : Header} {slot next : ℕ} (whole : Whole (heap_of old))
+module _ {old mid closed new : Mutator} {object : ℕ} {header : Header} {slot next : ℕ}
+    (black : StoresBlack old new object) (whole : Whole (heap_of old))
     (there : HasField (heap_of old) object header.shape slot) (found : FindsWithout old mid header.shape slot (Ok next))
     (is : new ≡ with_word closed object (shaped_bits header next))
     (heap : heap_words new.seat ≡ slice_set (heap_words closed.seat) object (shaped_bits header next)) where
@@ -220,7 +277,7 @@ module _ {old mid closed new : Mutator} {object : ℕ} {header : Header} {slot n
       (own_closed mid closed (shape_path mid.paths next) object path.cap 0 slot last 0
       (omega (arith, there.below, fewer.fields))
       (omega (arith, own, fewer.fields)) gap)
-      is heap
+      is heap black
 
   -- some fields stood in the store
   pub beside_taken : (store first : ℕ) → HasStoreAt (heap_of old) object store
@@ -237,4 +294,4 @@ module _ {old mid closed new : Mutator} {object : ℕ} {header : Header} {slot n
       let stand_last = subst (λ n. SlotsStand (heap_of old) object cap store n) (sym fewer.fields) stand_cap in
       took_out old mid closed new object header slot next cap (length (shape_path mid.paths next).fields) store first
       found.0 found.1 found.2 (sym fewer.cap) (sym fewer.fields) stand_last
-      (λ some. record { at = stored; drawn = drawn }) closes is heap
+      (λ some. record { at = stored; drawn = drawn }) closes is heap black

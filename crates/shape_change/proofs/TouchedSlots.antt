@@ -16,7 +16,8 @@ use Rattle.heap_model.specs.Heaps.{Heap, words_of_cell}
 use Rattle.heap_model.specs.Wholeness.{Whole}
 use Rattle.heap_model.specs.Remembered.{Touch}
 use Rattle.write_barrier.specs.MutatorState.{Mutator, heap_of}
-use Rattle.write_barrier.specs.Recording.{Remembers, touched_one}
+use Rattle.write_barrier.specs.Recording.{touched_one}
+use Rattle.object_cells.specs.SureCells.{RemembersSurely}
 use Rattle.write_barrier.proofs.TouchedRanges.{touched_here}
 use Rattle.object_cells.specs.declared.content.SlotContent.{SlotContent}
 use Rattle.object_cells.specs.declared.content.SlotContent.TheVariants as content
@@ -136,7 +137,7 @@ pub slot_remembered : {old new : Mutator} {cell : Cell} {next : ℕ} {others mad
     → IsSlotPlace (heap_of old) cell store at others → slice_get after.fields slot ≡ Some field
     → ((number : ℕ) → number ≢ slot → AreAlike before after number)
     → TouchesWith old new cell made (touched_one (field_touch (nat_lt slot cell.layout.cap) (Some field)) at)
-    → Remembers old new (cell ∷ others) (reshaped new.paths cell next ∷ others) made
+    → RemembersSurely old new (cell ∷ others) (reshaped new.paths cell next ∷ others) made
 slot_remembered {old} {new} {cell} {next} {others} {slot = slot} {at} field r whole plain numbered place there alike
     touches =
     let own : Bool = nat_lt slot cell.layout.cap in
@@ -162,7 +163,7 @@ word_remembered : {old new : Mutator} {cell : Cell} {next : ℕ} {others made : 
     → FitsTouch (cell ∷ others) (reshaped new.paths cell next ∷ others) at how
     → ((number : ℕ) → number < before.cap → AreAlike before after number)
     → TouchesWith old new cell made (touched_one how at)
-    → Remembers old new (cell ∷ others) (reshaped new.paths cell next ∷ others) made
+    → RemembersSurely old new (cell ∷ others) (reshaped new.paths cell next ∷ others) made
 word_remembered {new = new} {cell} {next} {others} how at r fits alike touches =
     fields_with_remembered r touches
     (λ a. fits_one (cell ∷ others) (reshaped new.paths cell next ∷ others) how at a fits)
@@ -173,7 +174,7 @@ pub box_remembered : {old new : Mutator} {cell : Cell} {next : ℕ} {made : List
     (r : Refields (heap_of old) (heap_of new) cell next (box ∷ []) made before after) → box.layout.kind ≡ kind.Boxed
     → ((number : ℕ) → number < before.cap → AreAlike before after number)
     → TouchesWith old new cell made (touched_one Touch.Wiped (box.at + 1))
-    → Remembers old new (cell ∷ box ∷ []) (reshaped new.paths cell next ∷ box ∷ []) made
+    → RemembersSurely old new (cell ∷ box ∷ []) (reshaped new.paths cell next ∷ box ∷ []) made
 box_remembered box r of_kind alike touches =
     word_remembered Touch.Wiped (box.at + 1) r (box_fits r box (first_in box []) of_kind) alike touches
 
@@ -182,6 +183,6 @@ pub store_remembered : {old new : Mutator} {cell : Cell} {next : ℕ} {others ma
     (r : Refields (heap_of old) (heap_of new) cell next others made before after)
     → ((number : ℕ) → number < before.cap → AreAlike before after number)
     → TouchesWith old new cell made (touched_one Touch.Stored (cell.at + store_slot))
-    → Remembers old new (cell ∷ others) (reshaped new.paths cell next ∷ others) made
+    → RemembersSurely old new (cell ∷ others) (reshaped new.paths cell next ∷ others) made
 store_remembered {cell = cell} r alike touches =
     word_remembered Touch.Stored (cell.at + store_slot) r (store_slot_fits r) alike touches

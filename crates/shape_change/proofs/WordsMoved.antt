@@ -1,18 +1,20 @@
 -- Words that moved down by one, and the word that was put where the last of them stood.
-use Rattle.std.proofs.Common.{◌≡◌, ◌≢◌, ℕ, ◌+◌, ◌<◌, ◌≤◌, inl, inr, slice_get, Some, length, sym, ◌∙◌}
+use Rattle.std.proofs.Common.{◌≡◌, ◌≢◌, ℕ, ◌+◌, ◌<◌, ◌≤◌, inl, inr, slice_get, Some, length, refl, sym, ◌∙◌}
 use Rattle.std.proofs.Common.{ap, subst, arith, length-set}
 use Rattle.std.specs.Prelude.{slice_set}
 use Rattle.std.proofs.lemmas.Bool.{cases_lt}
 use Rattle.page_space.specs.Extents.{marks_start}
 use Rattle.object_graph.proofs.Lists.{slice_get-set_same, slice_get-set_other}
 use Rattle.write_barrier.specs.Seats.{Seat, heap_words, RestStays}
-use Rattle.write_barrier.specs.Staying.{rest_stays_again}
+use Rattle.write_barrier.specs.Staying.{rest_stays_again, rest_stays_itself}
 use Rattle.write_barrier.proofs.HeapWords.{stays_beside-put}
 use Rattle.heap_model.specs.Remembered.{Touch}
 use Rattle.write_barrier.specs.MutatorState.{Mutator, put_word, with_word, with_slot}
+use Rattle.write_barrier.specs.Storing.{StoresOn}
+use Rattle.write_barrier.specs.SureStores.{StoresSurely}
 use Rattle.write_barrier.specs.Recording.{Touches, touched_one}
 use Rattle.shape_change.specs.Shifts.{KeepsRest, KeepsBeside, MovesDown, ClosesGap}
-use Rattle.shape_change.proofs.SlotTouches.{more_by}
+use Rattle.shape_change.proofs.SlotTouches.{more_by, more_surely, none_by, none_surely}
 
 -- one word was put
 pub rest_put : (old new : Mutator) (a word : ℕ) → new.seat ≡ (put_word old a word).seat → new.paths ≡ old.paths
@@ -48,9 +50,20 @@ rest_then old mid new before then = record {
   count = then.count ∙ before.count;
 }
 
+-- no word has moved where there is none to move
+pub none_moved : (main : Mutator) (from : ℕ) (how : ℕ → Touch) → MovesDown main main from from how
+none_moved main from how = record {
+  rest = record { beside = rest_stays_itself main.seat; paths = refl; young = refl; count = refl };
+  moved = λ a low high. absurd (omega (arith, low, high));
+  beside = λ a out. refl;
+  touches = none_by main how from;
+  surely = none_surely main how from;
+}
+
 module _ {old mid new : Mutator} {from to : ℕ} {how : ℕ → Touch} (word : ℕ) (moves : MovesDown old mid from to how)
     (rest : KeepsRest mid new) (heap : heap_words new.seat ≡ slice_set (heap_words mid.seat) to word)
-    (touches : Touches mid new (touched_one (how to) to)) (ordered : from ≤ to)
+    (touches : Touches mid new (touched_one (how to) to)) (stores : StoresOn mid new)
+    (surely : StoresSurely new (touched_one (how to) to)) (ordered : from ≤ to)
     (within : to < length (heap_words old.seat)) where
   -- only words have changed
   rest_there : KeepsRest old new
@@ -81,6 +94,7 @@ module _ {old mid new : Mutator} {from to : ℕ} {how : ℕ → Touch} (word : �
     filled = put_there;
     beside = beside_stay;
     touches = more_by how ordered moves.touches touches;
+    surely = more_surely how ordered moves.surely touches stores surely;
   }
 
   -- and one word more has moved, where it is the next
@@ -97,4 +111,5 @@ module _ {old mid new : Mutator} {from to : ℕ} {how : ℕ → Touch} (word : �
     ];
     beside = beside_stay;
     touches = more_by how ordered moves.touches touches;
+    surely = more_surely how ordered moves.surely touches stores surely;
   })

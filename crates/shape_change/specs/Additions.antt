@@ -15,7 +15,12 @@ use Rattle.shape_tree.specs.Shapes.{IsPathShape, Leads, LacksPathsFor, shape_pat
 use Rattle.shape_tree.specs.Growth.{IsStep}
 use Rattle.write_barrier.specs.Seats.{heap_words, RestStays}
 use Rattle.heap_model.specs.Heaps.{Heap, HasCell}
-use Rattle.heap_model.specs.Wholeness.{HasSizes}
+use Rattle.heap_model.specs.Wholeness.{HasSizes, Whole}
+use Rattle.handle_roots.specs.Roots.{FitsHeld}
+use Rattle.page_space.specs.Sizes.{AreWithin}
+use Rattle.write_barrier.specs.Storing.{StoresOn}
+use Rattle.write_barrier.specs.SureStores.{StoresSurely}
+use Rattle.shape_change.specs.FieldChanges.{IsShownSetting}
 use Rattle.heap_model.specs.Needs.{grown}
 use Rattle.heap_model.specs.Remembered.{Touch}
 use Rattle.write_barrier.specs.MutatorState.{Mutator, heap_of, IsTied, reserved}
@@ -24,9 +29,11 @@ use Rattle.shape_change.specs.declared.add_field.NewField.{NewField}
 use Rattle.shape_change.specs.declared.stop.FieldStop.{FieldStop}
 use Rattle.shape_change.specs.declared.stop.FieldStop.TheVariants as stop
 use Rattle.shape_change.specs.Deletions.{shaped_bits}
+use Rattle.mark_world.specs.declared.event.Event.TheVariants as event
+use Rattle.write_barrier.specs.Marking.{MayPut}
 use Rattle.object_cells.specs.declared.content.SlotContent.{SlotContent}
+use Rattle.object_cells.specs.declared.content.SlotContent.TheVariants as content
 use Rattle.object_cells.specs.declared.stores.Store.{Store}
-use Rattle.object_cells.specs.CellsAt.{IsQuietWhole}
 use Rattle.object_cells.specs.Made.{IsStoreAt, PutsWords, with_store, with_content, content_need}
 use Rattle.object_cells.specs.Made.{content_word, store_content, content_touch, slot_touch, store_touch}
 use Rattle.object_cells.specs.Contents.{held_rep, content_of, next_at}
@@ -64,7 +71,10 @@ pub record IsPlainCellAt (heap : Heap) (at : ℕ) : Type 0 where
 -- marks.
 pub record CanAdd (main : Mutator) (object : ℕ) (header : Header) (name : ℕ) (value : Held) : Type 0 where
   pub tied : IsTied main
-  pub whole : IsQuietWhole main
+  pub shown : IsShownSetting main object value
+  pub fits : FitsHeld value
+  pub sizes : AreWithin main.seat.space.sizes main.seat.space.variables
+  pub whole : Whole (heap_of main)
   pub there : IsPlainCellAt (heap_of main) object
   pub headed : there.cell.header ≡ header
   pub shape : IsPathShape main.paths header.shape
@@ -112,6 +122,7 @@ pub record AddsPath (old new : Mutator) (path : Path) (shape : ℕ) : Type 0 whe
   pub sized : HasSizes (heap_of new)
   pub stay : (at : ℕ) → at < layouts_start old.seat.space
       → slice_get (heap_words new.seat) at ≡ slice_get (heap_words old.seat) at
+  pub stores : StoresOn old new
 
 -- the words with the header of an object made that of a shape
 abbrev pub with_shape : List ℕ → ℕ → Header → ℕ → List ℕ
@@ -120,6 +131,12 @@ with_shape words object header shape = slice_set words object (shaped_bits heade
 -- what an in-object slot comes to hold for a new field
 abbrev pub own_content : Held → SlotContent
 own_content value = content_of true (held_rep value) value
+
+-- what is put in an in-object slot may be put there
+abbrev pub MayPutContent : Mutator → ℕ → SlotContent → Type 0
+MayPutContent main at (content.Tagged word) = MayPut main at (event.StoreSlot at word.0)
+MayPutContent main at (content.Raw word) = MayPut main at (event.StoreOwned at word)
+MayPutContent main at (content.Boxed v) = Unit {0}
 
 -- The field comes to the next in-object slot.
 pub record AddsOwn (old new : Mutator) (object : ℕ) (header : Header) (name : ℕ) (value : Held) : Type 0 where
@@ -132,6 +149,9 @@ pub record AddsOwn (old new : Mutator) (object : ℕ) (header : Header) (name : 
   pub touches : let place = object + (plain_head + count_of old.paths header.shape) in
       Touches mid new (touched_then (touched_one (slot_touch (own_content value)) place)
       (touched_one Touch.Wiped object))
+  pub stores : StoresOn old new
+  pub surely : let place = object + (plain_head + count_of old.paths header.shape) in
+      StoresSurely new (touched_one (slot_touch (own_content value)) place)
 
 -- The field comes to the next slot of the property store; a box that it needs is made.
 pub record AddsToStore (old new : Mutator) (object : ℕ) (header : Header) (name : ℕ) (value : Held) (store : Store)
@@ -149,6 +169,10 @@ pub record AddsToStore (old new : Mutator) (object : ℕ) (header : Header) (nam
       let boxed = content_touch (store_content value) (next_at old) in
       Touches mid new (touched_then (touched_then boxed (touched_one Touch.Stored place))
       (touched_one Touch.Wiped object))
+  pub stores : StoresOn old new
+  pub surely : let place = store.at + (store_head + behind_cap old.paths header.shape) in
+      let boxed = content_touch (store_content value) (next_at old) in
+      StoresSurely new (touched_then boxed (touched_one Touch.Stored place))
 
 -- A store is made in place of the one before, and the field comes to its first slot behind the slots of that one; a
 -- box that it needs is made behind the store.
@@ -172,6 +196,13 @@ pub record AddsToNewStore (old new : Mutator) (object : ℕ) (header : Header) (
       let boxed = touched_then stored (content_touch (store_content value) behind) in
       Touches mid new (touched_then (touched_then boxed (touched_one Touch.Stored place))
       (touched_one Touch.Wiped object))
+  pub stores : StoresOn old new
+  pub surely : let behind = next_at old + (store_head + grown store.capacity) in
+      let place = next_at old + (store_head + store.capacity) in
+      let named = touched_one Touch.Stored (object + store_slot) in
+      let stored = touched_then (store_touch (grown store.capacity) (next_at old)) named in
+      let boxed = touched_then stored (content_touch (store_content value) behind) in
+      StoresSurely new (touched_then boxed (touched_one Touch.Stored place))
 
 -- How the field comes to the object: to an in-object slot below the cap, and else to the property store, which is
 -- made anew where it is full or absent.

@@ -1,11 +1,12 @@
 -- How a field is taken out of the cells of a plain object.
 use Rattle.std.specs.Prelude.{◌≡◌, ◌≢◌, ℕ, suc, ◌+◌, ◌<◌, ◌≤◌, List, length, Some, slice_get, ℤ}
-use Rattle.std.specs.Prelude.{false, nat_lt, Result, Ok, Err}
+use Rattle.std.specs.Prelude.{false, true, nat_lt, Contains, Result, Ok, Err}
 use Rattle.heap_model.specs.Types.{Header, PathField, Rep, ShapesFull, Cell}
 use Rattle.tagged_word.specs.declared.layout.Kind.TheVariants as kind
 use Rattle.tagged_word.specs.Headers.{header_bits}
-use Rattle.tagged_word.specs.Cells.{store_head, store_slot}
-use Rattle.page_space.specs.Extents.{layouts_start}
+use Rattle.tagged_word.specs.Cells.{plain_head, store_head, store_slot}
+use Rattle.page_space.specs.Extents.{eden_start, layouts_start}
+use Rattle.heap_table.specs.Phases.{Mark}
 use Rattle.object_graph.specs.declared.value.Rep.TheVariants.{Small, Wide, Tagged}
 use Rattle.shape_tree.specs.Shapes.{IsPathShape, shape_path, without, Leads, LacksPathsFor}
 use Rattle.write_barrier.specs.Seats.{heap_words, RestStays}
@@ -16,7 +17,9 @@ use Rattle.heap_model.specs.Wholeness.{HasSizes}
 use Rattle.heap_model.specs.Remembered.{Touch}
 use Rattle.write_barrier.specs.MutatorState.{Mutator, heap_of}
 use Rattle.write_barrier.specs.Recording.{Touches}
-use Rattle.shape_change.specs.Shifts.{slot_at, field_touch}
+use Rattle.write_barrier.specs.Storing.{MayChange, MayHold}
+use Rattle.write_barrier.specs.SureStores.{StoresBlack, StoresSurely}
+use Rattle.shape_change.specs.Shifts.{slot_at, field_touch, fields_beside, MayChangeStore}
 
 -- a plain object's cell stands at the address, and its property store at the other
 pub record HasStoreAt (heap : Heap) (object store : ℕ) : Type 0 where
@@ -74,6 +77,20 @@ FindsWithout old new shape slot (Ok next) =
 FindsWithout old new shape slot (Err full) =
     LacksPathsFor old.paths new.paths (without (shape_path old.paths shape) slot) full × (new ≡ old)
 
+-- Where a cycle is open, the words of the plain object at an address, which has the shape, and of its store are the
+-- mutator's to change; the object's cell may be made black; and the words of its tagged slots may be held.
+pub record MayTakeOut (main : Mutator) (object shape : ℕ) : Type 0 where
+  pub may : MayChange main object (plain_head + (shape_path main.paths shape).cap) kind.Plain
+  pub born : object < eden_start main.seat.space → main.seat.phase ≡ Mark → Contains main.cycle.born object
+  pub own : (one word : ℕ) → one < (shape_path main.paths shape).cap
+      → field_touch true (slice_get (shape_path main.paths shape).fields one) ≡ Touch.Stored
+      → slice_get (heap_words main.seat) (object + (plain_head + one)) ≡ Some word → MayHold main word
+  pub may_beside : (store : ℕ) → HasStoreAt (heap_of main) object store
+      → MayChangeStore main store (fields_beside (shape_path main.paths shape))
+  pub beside : (store one word : ℕ) → HasStoreAt (heap_of main) object store
+      → one < fields_beside (shape_path main.paths shape)
+      → slice_get (heap_words main.seat) (store + (store_head + one)) ≡ Some word → MayHold main word
+
 -- what of the property store takes part, where not all fields stand in the object: its address, and what the word of
 -- its first field becomes in the object
 pub record HasFirstInStore (heap : Heap) (object shape store first : ℕ) : Type 0 where
@@ -111,7 +128,9 @@ pub record TakesFieldOut (old new : Mutator) (object : ℕ) (header : Header) (s
   pub stay : (at : ℕ) → at < layouts_start old.seat.space → object ≢ at
       → ((one : ℕ) → slot ≤ one → one ≤ last → slot_at object cap store one ≢ at)
       → slice_get (heap_words new.seat) at ≡ slice_get (heap_words old.seat) at
+  pub black : StoresBlack old new object
   pub touch : ℕ → Touch
+  pub surely : StoresSurely new touch
   pub touches : old.recorded.bound ≤ layouts_start old.seat.space → Touches old new touch
   pub headed_touch : touch object ≡ Touch.Wiped
   pub slot_touches : (one : ℕ) → slot ≤ one → one ≤ last

@@ -2,13 +2,15 @@
 //! store is in `add_in_store.rt`; a field that is there is in `set_field.rt`.
 ghost use Rattle.std.specs.Prelude.{◌≡◌, ℤ, ◌+◌, ◌<◌, ◌≤◌, false, IfOk, IfErr, IfSome, None, Result, Ok};
 ghost use Rattle.std.specs.Prelude.{slice_set};
-ghost use Rattle.page_space.specs.Extents.{marks_start};
+ghost use Rattle.page_space.specs.Extents.{layouts_start};
+ghost use Rattle.write_barrier.specs.Storing.{StoresOn};
+ghost use Rattle.write_barrier.specs.SureStores.{StoresSurely};
 ghost use Rattle.object_graph.specs.Graphs.{Graph, PlainObject};
 ghost use Rattle.object_graph.specs.declared.value.Value.{Value as GraphValue};
 ghost use Rattle.object_graph.specs.Objects.{field_value};
 ghost use Rattle.shape_tree.specs.Shapes.{IsPathShape, shape_path, has_name};
 ghost use Rattle.write_barrier.specs.Seats.{heap_words};
-ghost use Rattle.write_barrier.specs.MutatorState.{MayStore, heap_of, MainShows};
+ghost use Rattle.write_barrier.specs.MutatorState.{heap_of, MainShows};
 ghost use Rattle.write_barrier.specs.Recording.{Touches, touched_one};
 ghost use Rattle.write_barrier.specs.Reading.{IsHeaderAt};
 ghost use Rattle.object_cells.specs.PlainObjects.{IsPlainAt};
@@ -16,7 +18,8 @@ ghost use Rattle.object_cells.specs.HeldValues.{IsValueHeld};
 ghost use Rattle.tagged_word.specs.Shapes.{first_path_shape};
 ghost use Rattle.shape_change.specs.FieldChanges.{IsShownSetting, MaySet, Sets, SetsField};
 ghost use Rattle.shape_change.specs.declared.stop.FieldStop.{FieldStop as Why};
-ghost use Rattle.shape_change.specs.Additions.{IsNewField, RefusesField, HasOwnSlot, CanAdd, AddsOwn, count_of};
+ghost use Rattle.shape_change.specs.Additions.{IsNewField, RefusesField, HasOwnSlot, CanAdd, AddsOwn, MayPutContent};
+ghost use Rattle.shape_change.specs.Additions.{count_of};
 ghost use Rattle.shape_change.specs.Additions as additions;
 ghost use Rattle.object_cells.specs.Made.{PutsWords, content_word, slot_touch};
 ghost use Rattle.handle_roots.specs.declared.held.Held.{Held as What};
@@ -251,14 +254,17 @@ fn add_own(main: &mut Main, object: u32, header: Header, new: NewField, content:
 /// Puts in an in-object slot what it comes to hold.
 #[inline(always)]
 fn put_own(main: &mut Main, object: u32, offset: u32, content: SlotContent)
-    requires may_store { MayStore main.old }
-    requires within { object + offset < marks_start main.old.seat.space }
+    requires may { MayPutContent main.old (object + offset) content }
+    requires within { object + offset < layouts_start main.old.seat.space }
     requires own { (v : ℤ) → content ≡ SlotContent.Boxed v → ⊥ }
     ensures puts { let words = heap_words main.old.seat in
         PutsWords main.old main.new
         (slice_set words (object + offset) (content_word content 0)) }
     ensures touches { let how = slot_touch content in
         Touches main.old main.new (touched_one how (object + offset)) }
+    ensures stores { StoresOn main.old main.new }
+    ensures surely { let how = slot_touch content in
+        StoresSurely main.new (touched_one how (object + offset)) }
 {
     // There are as many words as addresses before the marks.
     main.addresses_fit();

@@ -3,12 +3,14 @@ ghost use Rattle.std.specs.Prelude.{◌≡◌, ℕ, ◌<◌, ◌≤◌, length, 
 ghost use Rattle.object_graph.specs.Graphs.{Graph, PlainObject};
 ghost use Rattle.shape_tree.specs.Shapes.{IsPathShape, shape_path};
 ghost use Rattle.heap_model.specs.Slots.{RefersToBox, raw_word};
+ghost use Rattle.heap_model.specs.Wholeness.{Whole};
 ghost use Rattle.write_barrier.specs.MutatorState.{heap_of, MainShows};
-ghost use Rattle.object_cells.specs.CellsAt.{IsQuietWhole, HasField};
+ghost use Rattle.object_cells.specs.CellsAt.{HasField};
 ghost use Rattle.object_cells.specs.PlainObjects.{IsPlainAt, IsShownPlain};
 ghost use Rattle.shape_change.specs.FieldChanges.{DeletesField};
 ghost use Rattle.shape_change.specs.Deletions.{HasStoreAt, HasFirstBeside, DrawsInFirst};
-ghost use Rattle.shape_change.specs.Deletions.{FindsWithout, TakingOut};
+ghost use Rattle.shape_change.specs.Deletions.{FindsWithout, MayTakeOut, TakingOut};
+ghost use Rattle.write_barrier.specs.Storing.{StoresOn};
 
 use crate::shift_slots::{close_both, close_own};
 use crate::transitions::set_shape;
@@ -21,17 +23,18 @@ use write_barrier::Main;
 /// The shape of the path of a shape without one field. The path, its missing prefixes and their
 /// layout words are added; or there may not be as many paths, and nothing has changed.
 fn shape_without(main: &mut Main, shape: u32, slot: u32) -> Result<u32, ShapesFull>
-    requires whole { IsQuietWhole main.old }
+    requires whole { Whole (heap_of main.old) }
     requires path { IsPathShape main.old.paths shape }
     requires there { slot < length (shape_path main.old.paths shape).fields }
-    ensures { FindsWithout main.old main.new shape slot result }
+    ensures finds { FindsWithout main.old main.new shape slot result }
+    ensures stores { StoresOn main.old main.new }
 {
     main.shorten_path(shape, slot)
 }
 
 /// The address of the property store of the plain object at an address.
 fn store_of(main: &Main, object: u32) -> u32
-    requires whole { IsQuietWhole main.now }
+    requires whole { Whole (heap_of main.now) }
     requires there { (store : ℕ) × HasStoreAt (heap_of main.now) object store }
     ensures { HasStoreAt (heap_of main.now) object result }
 {
@@ -44,7 +47,7 @@ fn store_of(main: &Main, object: u32) -> u32
 
 /// The raw word in the box to which a word refers.
 fn raw_in_box(main: &Main, word: Word) -> u64
-    requires whole { IsQuietWhole main.now }
+    requires whole { Whole (heap_of main.now) }
     requires boxed { (v : ℤ) × RefersToBox (heap_of main.now) word.0 v }
     ensures { (v : ℤ) → RefersToBox (heap_of main.now) word.0 v → result ≡ raw_word v }
 {
@@ -58,7 +61,7 @@ fn raw_in_box(main: &Main, word: Word) -> u64
 /// The word that the first field in the property store has in the object: as it is, and of a wide
 /// one the integer in its box.
 fn first_drawn_in(main: &Main, store: u32, shape: u32) -> u64
-    requires whole { IsQuietWhole main.now }
+    requires whole { Whole (heap_of main.now) }
     requires there { HasFirstBeside (heap_of main.now) store shape }
     ensures { DrawsInFirst (heap_of main.now) store shape result }
 {
@@ -74,7 +77,8 @@ fn first_drawn_in(main: &Main, store: u32, shape: u32) -> u64
 
 /// Takes out a field of the plain object at an address, all fields of which stand in the object.
 fn take_out_own(main: &mut Main, object: u32, header: Header, slot: u32) -> Result<(), ShapesFull>
-    requires whole { IsQuietWhole main.old }
+    requires may { MayTakeOut main.old object header.shape }
+    requires whole { Whole (heap_of main.old) }
     requires there { HasField (heap_of main.old) object header.shape slot }
     requires own { let path = shape_path main.old.paths header.shape in
         length path.fields ≤ path.cap }
@@ -95,7 +99,8 @@ fn take_out_beside(
     header: Header,
     slot: u32,
 ) -> Result<(), ShapesFull>
-    requires whole { IsQuietWhole main.old }
+    requires may { MayTakeOut main.old object header.shape }
+    requires whole { Whole (heap_of main.old) }
     requires there { HasField (heap_of main.old) object header.shape slot }
     requires beside { let path = shape_path main.old.paths header.shape in
         path.cap < length path.fields }
@@ -106,7 +111,6 @@ fn take_out_beside(
     let first = first_drawn_in(main, store, header.shape);
     let next = shape_without(main, header.shape, slot)?;
     main.blacken(object);
-    main.blacken(store);
     close_both(main, object, store, next, slot, first);
     set_shape(main, object, header, next);
     Ok(())
@@ -114,7 +118,8 @@ fn take_out_beside(
 
 /// Takes out a field of the plain object at an address.
 fn take_out(main: &mut Main, object: u32, header: Header, slot: u32) -> Result<(), ShapesFull>
-    requires whole { IsQuietWhole main.old }
+    requires may { MayTakeOut main.old object header.shape }
+    requires whole { Whole (heap_of main.old) }
     requires there { HasField (heap_of main.old) object header.shape slot }
     ensures { TakingOut main.old main.new object header slot result }
 {
@@ -137,6 +142,8 @@ pub fn delete(main: &mut Main, object: u32, name: u32) -> Result<(), ShapesFull>
         → IsPlainAt main.old graph object plain
         → DeletesField main.old main.new graph object plain name result }
 {
+    // Which words slots may hold is told by addresses of 32 bits.
+    main.addresses_fit();
     let header = main.header(object);
     match main.lookup(header.shape, name) {
         Some(found) => take_out(main, object, header, found.at),

@@ -13,7 +13,8 @@ ghost use Rattle.shape_change.specs.FieldChanges.{HoldsSlot, HoldsValue, value_a
 ghost use Rattle.shape_change.specs.FieldsSought.{HoldsSought, HoldsOwn, HoldsAlong, HoldsFirst};
 ghost use Rattle.shape_change.specs.FieldsSought.{LacksName, field_in_first};
 ghost use Rattle.write_barrier.specs.Reading.{IsHeaderAt};
-ghost use Rattle.object_cells.specs.CellsAt.{IsQuietWhole, HasField};
+ghost use Rattle.object_cells.specs.CellsAt.{HasField};
+ghost use Rattle.heap_model.specs.Wholeness.{Whole};
 
 use crate::outcome::FieldOutcome;
 use crate::prototypes::prototype;
@@ -30,7 +31,7 @@ use write_barrier::Main;
 /// the path.
 #[inline(always)]
 fn hold_slot(main: &mut Main, variable: u32, object: u32, found: Located)
-    requires whole { IsQuietWhole main.old }
+    requires whole { Whole (heap_of main.old) }
     requires known { variable < main.old.seat.space.variables }
     requires located { IsLocated main.old.paths found }
     requires there { HasField (heap_of main.old) object found.shape found.at }
@@ -86,7 +87,7 @@ pub fn get<O: FieldOutcome>(
 /// its slot.
 #[inline(always)]
 fn hold_word_at(main: &mut Main, variable: u32, object: u32, place: Place)
-    requires whole { IsQuietWhole main.old }
+    requires whole { Whole (heap_of main.old) }
     requires known { variable < main.old.seat.space.variables }
     requires stands { (found : Found) × StandsWord main.old object found place }
     ensures { (found : Found) → StandsWord main.old object found place →

@@ -1,17 +1,18 @@
 //! How the slot of a field that is there is set: as it is, in its box, or wider, with another shape for the object.
 ghost use Rattle.std.specs.Prelude.{◌≡◌, ◌+◌, ◌<◌, ◌≤◌, length, OnOk, IfErr, ℕ, Some, slice_get};
 ghost use Rattle.std.specs.Prelude.{option_map, OnErr, None};
-ghost use Rattle.write_barrier.specs.MutatorState.{MayStore, heap_of, IsTied, MainShows};
+ghost use Rattle.write_barrier.specs.MutatorState.{heap_of, IsTied, MainShows};
+ghost use Rattle.write_barrier.specs.Storing.{StoresOn};
 ghost use Rattle.shape_change.specs.FieldChanges.{IsShownSetting, SetsField};
 ghost use Rattle.write_barrier.specs.Reading.{IsHeaderAt};
-ghost use Rattle.object_cells.specs.CellsAt.{HasField, IsQuietWhole};
-ghost use Rattle.shape_change.specs.Fillings.{IsSlotSetting, with_paths, CanSetSlot, SetsWider};
+ghost use Rattle.object_cells.specs.CellsAt.{HasField};
+ghost use Rattle.shape_change.specs.Fillings.{IsSlotSetting, MayComeToHold, with_paths, CanSetSlot, SetsWider};
 ghost use Rattle.page_space.specs.Extents.{layouts_start, marks_start};
 ghost use Rattle.object_graph.specs.Paths.{missing};
 ghost use Rattle.object_graph.specs.Limits.{paths_most};
 ghost use Rattle.shape_tree.specs.Shapes.{IsPathShape, shape_path, changed, Leads};
 ghost use Rattle.shape_tree.specs.Shapes.{LacksPathsFor};
-ghost use Rattle.heap_model.specs.Wholeness.{HasSizes};
+ghost use Rattle.heap_model.specs.Wholeness.{HasSizes, Whole};
 ghost use Rattle.write_barrier.specs.Opening.{ChangesWithin};
 ghost use Rattle.shape_change.specs.Places.{place_at};
 ghost use Rattle.object_graph.specs.declared.value.Value.{Value};
@@ -96,7 +97,6 @@ fn room_for_change(main: &Main, shape: u32, slot: u32, rep: Rep) -> Result<(), S
 /// The shape with another representation of a field. Its path is there from now on, with its
 /// prefixes and their layout words: there may be as many paths.
 fn changed_shape(main: &mut Main, shape: u32, slot: u32, rep: Rep) -> u32
-    requires may_store { MayStore main.old }
     requires sized { HasSizes (heap_of main.old) }
     requires path { IsPathShape main.old.paths shape }
     requires there { slot < length (shape_path main.old.paths shape).fields }
@@ -105,6 +105,7 @@ fn changed_shape(main: &mut Main, shape: u32, slot: u32, rep: Rep) -> u32
     ensures leads { let path = changed (shape_path main.old.paths shape) slot rep in
         Leads main.old.paths main.new.paths path result }
     ensures sized { HasSizes (heap_of main.new) }
+    ensures stores { StoresOn main.old main.new }
     ensures changes { let space = main.old.seat.space in
         let before = with_paths main.old main.new.paths in
         ChangesWithin before main.new (layouts_start space) (marks_start space) }
@@ -153,7 +154,8 @@ fn set_by_filling(
     place: Place,
     content: SlotContent,
 ) -> Result<(), NoRoom>
-    requires whole { IsQuietWhole main.old }
+    requires may { MayComeToHold main.old (place_at object place) content }
+    requires whole { Whole (heap_of main.old) }
     requires tied { IsTied main.old }
     requires within { place_at object place < marks_start main.old.seat.space }
     requires held { let word = word_at (heap_of main.old) (place_at object place) in
@@ -171,7 +173,8 @@ fn set_by_filling(
 /// The slot at a place of a plain object comes to hold this; its shape stays.
 #[inline(always)]
 fn set_as_is(main: &mut Main, object: u32, place: Place, content: SlotContent) -> Result<(), NoRoom>
-    requires whole { IsQuietWhole main.old }
+    requires may { MayComeToHold main.old (place_at object place) content }
+    requires whole { Whole (heap_of main.old) }
     requires tied { IsTied main.old }
     requires within { place_at object place < marks_start main.old.seat.space }
     requires held { let word = word_at (heap_of main.old) (place_at object place) in

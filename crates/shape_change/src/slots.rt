@@ -9,19 +9,21 @@ ghost use Rattle.page_space.specs.Extents.{marks_start};
 ghost use Rattle.object_graph.specs.declared.value.Value.{Value};
 ghost use Rattle.heap_model.specs.Slots.{IsFieldWord};
 ghost use Rattle.heap_model.specs.Showing.{ShowsField};
-ghost use Rattle.write_barrier.specs.MutatorState.{MayStore, heap_of, IsTied, with_variable};
+ghost use Rattle.write_barrier.specs.MutatorState.{heap_of, IsTied, with_variable};
 ghost use Rattle.write_barrier.specs.Seats.{heap_words};
 ghost use Rattle.std.specs.Int.{cast_signed, w64};
 ghost use Rattle.handle_roots.specs.declared.held.Held.TheVariants as held;
 ghost use Rattle.handle_roots.specs.Roots.{FitsHeld, with_root};
 ghost use Rattle.shape_change.specs.FieldChanges.{HoldsValue};
-ghost use Rattle.object_cells.specs.CellsAt.{IsQuietWhole, HasPlainSlot, IsCapAt};
+ghost use Rattle.object_cells.specs.CellsAt.{HasPlainSlot, IsCapAt};
+ghost use Rattle.object_cells.specs.CycleChanges.{MayFillSlot};
+ghost use Rattle.heap_model.specs.Wholeness.{Whole};
 ghost use Rattle.heap_model.specs.Needs.{word_at};
 ghost use Rattle.tagged_word.specs.declared.word.Class.{Class as WordClass};
 ghost use Rattle.tagged_word.specs.Words.{IsClass, bits_of};
 ghost use Rattle.tagged_word.specs.Readings.{reference_in};
 ghost use Rattle.write_barrier.specs.Values.{held_of_class};
-ghost use Rattle.object_cells.specs.Contents.{AllocatesBox, LacksRoom, HoldsSlotWord, IsBeforeMarks};
+ghost use Rattle.object_cells.specs.Contents.{AllocatesBox, LacksRoom, HoldsSlotWord, IsBeforeLayouts};
 
 use handle_roots::Held;
 use object_cells::{SlotContent, SlotWrite};
@@ -80,7 +82,6 @@ fn value_of_odd(main: &Main, word: Word) -> Held
 /// small integer, whose word is the variable's first root word too.
 #[inline(always)]
 pub(crate) fn hold_tagged(main: &mut Main, variable: u32, word: Word)
-    requires may_store { MayStore main.old }
     requires known { variable < main.old.seat.space.variables }
     requires class { (class : WordClass) × IsClass class × (word.0 ≡ bits_of class) }
     requires within { (at : ℕ) → reference_in word.0 ≡ Some at
@@ -104,7 +105,6 @@ pub(crate) fn hold_tagged(main: &mut Main, variable: u32, word: Word)
 /// The same of a word that is no small integer's.
 #[inline(always)]
 fn hold_odd(main: &mut Main, variable: u32, word: Word)
-    requires may_store { MayStore main.old }
     requires known { variable < main.old.seat.space.variables }
     requires class { (class : WordClass) × IsClass class × (word.0 ≡ bits_of class) }
     requires within { (at : ℕ) → reference_in word.0 ≡ Some at
@@ -125,7 +125,6 @@ fn hold_odd(main: &mut Main, variable: u32, word: Word)
 /// Makes a variable hold the integer of a raw word.
 #[inline(always)]
 fn hold_raw(main: &mut Main, variable: u32, word: u64)
-    requires may_store { MayStore main.old }
     requires known { variable < main.old.seat.space.variables }
     ensures held { main.new ≡ with_variable main.old variable (held.Int (cast_signed w64 word)) }
     ensures heap { let words = heap_words main.old.seat in
@@ -137,7 +136,7 @@ fn hold_raw(main: &mut Main, variable: u32, word: u64)
 /// Makes a variable hold the value of a field, by its word.
 #[inline(always)]
 pub(crate) fn hold_field(main: &mut Main, variable: u32, own: bool, rep: Rep, word: u64)
-    requires whole { IsQuietWhole main.old }
+    requires whole { Whole (heap_of main.old) }
     requires known { variable < main.old.seat.space.variables }
     requires field { IsFieldWord (heap_of main.old) own rep word }
     ensures { (value : Value) → ShowsField (heap_of main.old) own word rep value
@@ -155,7 +154,7 @@ pub(crate) fn hold_field(main: &mut Main, variable: u32, own: bool, rep: Rep, wo
 /// property store.
 #[inline(always)]
 pub(crate) fn slot_place(main: &Main, object: u32, cap: u32, slot: u32) -> Place
-    requires whole { IsQuietWhole main.now }
+    requires whole { Whole (heap_of main.now) }
     requires there { HasPlainSlot (heap_of main.now) object slot }
     requires cap { IsCapAt (heap_of main.now) object cap }
     ensures stands { StandsSlot (heap_of main.now) object slot result }
@@ -173,7 +172,7 @@ pub(crate) fn slot_place(main: &Main, object: u32, cap: u32, slot: u32) -> Place
 /// Where an in-object slot stands of the plain object at an address, which has that slot.
 #[inline(always)]
 pub(crate) fn own_place(main: &Main, object: u32, slot: u32) -> Place
-    requires whole { IsQuietWhole main.now }
+    requires whole { Whole (heap_of main.now) }
     requires there { (cap : ℕ) × IsCapAt (heap_of main.now) object cap
         × HasPlainSlot (heap_of main.now) object slot × (slot < cap) }
     ensures stands { StandsSlot (heap_of main.now) object slot result }
@@ -190,7 +189,7 @@ pub(crate) fn own_place(main: &Main, object: u32, slot: u32) -> Place
 /// store, and its word for that is a reference: four times the address, and 1.
 #[inline(always)]
 pub(crate) fn stored_place(main: &Main, object: u32, slot: u32) -> Place
-    requires whole { IsQuietWhole main.now }
+    requires whole { Whole (heap_of main.now) }
     requires there { (cap : ℕ) × IsCapAt (heap_of main.now) object cap
         × HasPlainSlot (heap_of main.now) object (cap + slot) }
     ensures stands { (cap : ℕ) → IsCapAt (heap_of main.now) object cap →
@@ -211,7 +210,7 @@ pub(crate) fn stored_place(main: &Main, object: u32, slot: u32) -> Place
 /// The word at a place of an object.
 #[inline(always)]
 pub(crate) fn word_of_place(main: &Main, object: u32, place: Place) -> u64
-    requires whole { IsQuietWhole main.now }
+    requires whole { Whole (heap_of main.now) }
     requires within { place_at object place < marks_start main.now.seat.space }
     ensures { slice_get (heap_of main.now).words (place_at object place) ≡ Some result }
 {
@@ -246,7 +245,7 @@ pub(crate) fn filling_of(
     place: Place,
     content: SlotContent,
 ) -> Result<SlotWrite, NoRoom>
-    requires whole { IsQuietWhole main.old }
+    requires whole { Whole (heap_of main.old) }
     requires tied { IsTied main.old }
     requires within { place_at object place < marks_start main.old.seat.space }
     requires slot { let word = word_at (heap_of main.old) (place_at object place) in
@@ -254,7 +253,7 @@ pub(crate) fn filling_of(
     ensures filling { IfOk result (λ filling.
         filling ≡ contents.filling_at main.old (place_at object place) content) }
     ensures allocates { IfOk result (λ filling. AllocatesBox main.old main.new filling) }
-    ensures before_marks { IfOk result (IsBeforeMarks main.old.seat.space) }
+    ensures in_cells { IfOk result (IsBeforeLayouts main.old.seat.space) }
     ensures refused { IfErr result (λ full.
         LacksRoom main.old (contents.filling_at main.old (place_at object place) content) full) }
     ensures unchanged { OnErr result (main.new ≡ main.old) }
@@ -266,9 +265,9 @@ pub(crate) fn filling_of(
 /// Fills the slot at a place of an object.
 #[inline(always)]
 pub(crate) fn fill(main: &mut Main, object: u32, place: Place, filling: SlotWrite)
-    requires may_store { MayStore main.old }
+    requires may { MayFillSlot main.old (place_at object place) filling }
     requires within { place_at object place < marks_start main.old.seat.space }
-    requires room { IsBeforeMarks main.old.seat.space filling }
+    requires room { IsBeforeLayouts main.old.seat.space filling }
     ensures { main.new ≡ contents.filled main.old (place_at object place) filling }
 {
     match place {

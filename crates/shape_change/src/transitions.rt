@@ -5,7 +5,8 @@ ghost use Rattle.object_graph.specs.Invariants.{fields_most};
 ghost use Rattle.heap_model.specs.Wholeness.{HasSizes};
 ghost use Rattle.shape_tree.specs.Shapes.{IsPathShape, shape_path, has_name, stepped};
 ghost use Rattle.shape_tree.specs.Growth.{IsStep};
-ghost use Rattle.write_barrier.specs.MutatorState.{MayStore, heap_of, with_word};
+ghost use Rattle.write_barrier.specs.MutatorState.{heap_of, with_word};
+ghost use Rattle.write_barrier.specs.Marking.{MayPutHeader};
 ghost use Rattle.shape_change.specs.Deletions.{shaped_bits};
 ghost use Rattle.shape_change.specs.Additions.{AddsPath};
 ghost use Rattle.page_space.specs.Extents.{marks_start};
@@ -20,7 +21,6 @@ use write_barrier::Main;
 /// it is missing.
 #[inline(always)]
 pub(crate) fn step_to(main: &mut Main, shape: u32, field: PathField, step: Step) -> u32
-    requires may_store { MayStore main.old }
     requires sized { HasSizes (heap_of main.old) }
     requires path { IsPathShape main.old.paths shape }
     requires is_new { has_name (shape_path main.old.paths shape) field.name ≡ false }
@@ -40,7 +40,7 @@ pub(crate) fn step_to(main: &mut Main, shape: u32, field: PathField, step: Step)
 
 /// Gives an object another shape. No other word changes.
 pub(crate) fn set_shape(main: &mut Main, object: u32, header: Header, shape: u32)
-    requires may_store { MayStore main.old }
+    requires may { MayPutHeader main.old object (shaped_bits header shape) }
     requires within { object < marks_start main.old.seat.space }
     requires path { IsPathShape main.old.paths shape }
     ensures put { main.new ≡ with_word main.old object (shaped_bits header shape) }

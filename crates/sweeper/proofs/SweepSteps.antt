@@ -4,12 +4,11 @@ use Rattle.std.proofs.Common.{ap, subst, arith}
 use Rattle.std.proofs.lemmas.Bool.{cases_lt}
 use Rattle.page_space.specs.Extents.{Space}
 use Rattle.remembered_set.specs.Recorded.{Recorded}
-use Rattle.heap_table.specs.Phases.{Quiet}
 use Rattle.write_barrier.specs.Seats.{Seat, RestStays, heap_words}
 use Rattle.write_barrier.specs.Staying.{rest_stays_itself, rest_stays_again}
 use Rattle.heap_model.specs.Types.{Run}
 use Rattle.heap_model.specs.Changes.{Patch}
-use Rattle.write_barrier.specs.MutatorState.{Mutator, heap_of}
+use Rattle.write_barrier.specs.MutatorState.{Mutator, MayStore, heap_of}
 use Rattle.sweeper.specs.Sweeping.{AreForgotten, AreRunsOf, Covers, IsBegun, IsCleared, IsSweptTo, Sweeping, page_of}
 use Rattle.sweeper.proofs.FreedParts.{DeadPart, gap_of, part_is_swept}
 use Rattle.sweeper.proofs.SweptRows.{nothing_swept}
@@ -18,8 +17,8 @@ use Rattle.sweeper.proofs.GapRecords.{none_forgotten, forgotten_with_gap}
 
 -- only the mutator runs, as when the sweep began
 pub sweep_is_quiet : {first now : Mutator} {marked : List ℕ} {to : ℕ} → IsBegun first → Sweeping first now marked to
-    → now.seat.phase ≡ Quiet
-sweep_is_quiet begun sweeping = sweeping.seat.phase ∙ begun.quiet
+    → MayStore now
+sweep_is_quiet begun sweeping mark = begun.quiet (sym sweeping.seat.phase ∙ mark)
 
 -- A sweep begins where there are no free runs any more.
 pub sweep_begins : (first now : Mutator) (marked : List ℕ) → length first.free ≡ first.seat.space.sizes.pages

@@ -10,7 +10,6 @@ use Rattle.page_space.specs.RegionLaws.{IsSpace}
 use Rattle.cell_layout.specs.Cells.{IsRow}
 use Rattle.free_runs.specs.FreeRuns.{LiesIn, IsBehind, row_of}
 use Rattle.remembered_set.specs.Recorded.{Recorded}
-use Rattle.heap_table.specs.Phases.{Quiet}
 use Rattle.write_barrier.specs.Seats.{RestStays, heap_words}
 use Rattle.heap_model.specs.Types.{Cell, Run}
 use Rattle.heap_model.specs.Heaps.{Heap, Row, HasCell}
@@ -20,7 +19,7 @@ use Rattle.heap_model.specs.RegionRows.{StandsBetween, IsRowFrom}
 use Rattle.heap_model.specs.Wholeness.{Whole}
 use Rattle.heap_model.specs.Changes.{Patch, IsPatch, IsPatched, PatchesDisjoint, written}
 use Rattle.heap_model.specs.Remembered.{Touch, Records}
-use Rattle.write_barrier.specs.MutatorState.{Mutator, heap_of}
+use Rattle.write_barrier.specs.MutatorState.{Mutator, MayStore, heap_of}
 use Rattle.write_barrier.specs.FreeCells.{with_free_cell}
 use Rattle.write_barrier.specs.Recording.{touched}
 
@@ -121,7 +120,7 @@ pub record Sweeping (first now : Mutator) (marked : List ℕ) (to : ℕ) : Type 
 -- what is known of that with which it began
 pub record IsBegun (first : Mutator) : Type 0 where
   pub limits : IsSpace first.seat.space
-  pub quiet : first.seat.phase ≡ Quiet
+  pub quiet : MayStore first
   pub whole : Whole (heap_of first)
 
 -- A sweep may go along the row of the region between two addresses.

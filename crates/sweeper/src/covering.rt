@@ -1,8 +1,8 @@
 //! Making words free: a free cell over them, and a free run of the page in which they are.
 ghost use Rattle.std.specs.Prelude.{◌≡◌, ◌-◌, ◌/◌, ◌<◌, ◌≤◌, length};
 ghost use Rattle.page_space.specs.Extents.{marks_start};
-ghost use Rattle.heap_table.specs.Phases.{Quiet};
 ghost use Rattle.sweeper.specs.Sweeping.{Covers, IsCleared, IsRoomy, page_of};
+ghost use Rattle.write_barrier.specs.MutatorState.{MayStore};
 
 use page_space::{PAGE_WORDS, Run};
 use write_barrier::Main;
@@ -19,7 +19,7 @@ pub(crate) fn clear_pages(main: &mut Main)
 
 /// Makes the words from an address up to another one free cell, and a free run where they are a page's.
 pub(crate) fn cover(main: &mut Main, from: u32, to: u32)
-    requires quiet { main.old.seat.phase ≡ Quiet }
+    requires quiet { MayStore main.old }
     requires some { from < to }
     requires within { to ≤ marks_start main.old.seat.space }
     requires room { page_of from < main.old.seat.space.sizes.pages → IsRoomy main.old from to }

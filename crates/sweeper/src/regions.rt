@@ -1,9 +1,8 @@
 //! The sweep of all regions of cells, one after another.
 ghost use Rattle.std.specs.Prelude.{◌≡◌, length};
 ghost use Rattle.page_space.specs.Extents.{roots_start};
-ghost use Rattle.heap_table.specs.Phases.{Quiet};
 ghost use Rattle.heap_model.specs.Wholeness.{Whole};
-ghost use Rattle.write_barrier.specs.MutatorState.{Mutator, heap_of};
+ghost use Rattle.write_barrier.specs.MutatorState.{Mutator, MayStore, heap_of};
 ghost use Rattle.sweeper.specs.Swept.{IsSweepable, Sweeps};
 ghost use Rattle.sweeper.specs.Sweeping.{IsBegun, Sweeping};
 
@@ -32,7 +31,7 @@ fn sweep_regions(main: &mut Main, marked: &CellList)
 /// marked stays where it stands, word for word. Only the mutator runs. The time goes by how many cells there are:
 /// of what becomes free no more than the first two words are written.
 pub fn sweep(main: &mut Main, marked: &CellList)
-    requires quiet { main.old.seat.phase ≡ Quiet }
+    requires quiet { MayStore main.old }
     requires whole { Whole (heap_of main.old) }
     requires rows { length main.old.free ≡ main.old.seat.space.sizes.pages }
     requires bound { marked.now.bound ≡ roots_start main.old.seat.space }

@@ -1,6 +1,7 @@
 -- A cycle may begin with cells that were checked.
 use Rattle.std.proofs.Common.{◌≡◌, ◌≢◌, ◌≤◌, ◌<◌, ◌+◌, ◌==◌, inl, inr, ℕ, Bool, true, false, not}
-use Rattle.std.proofs.Common.{List, All, Contains, Option, Some, None, IfSome, length, get_or, slice_index, refl, sym, ap, subst}
+use Rattle.std.proofs.Common.{List, All, Contains, Option, Some, None, IfSome, length, get_or, slice_index, refl, sym}
+use Rattle.std.proofs.Common.{ap, subst}
 use Rattle.std.proofs.Common.{IsTrue, ◌∙◌, arith, eqb-true, min, nat_lt}
 use Rattle.std.specs.List.{list_all, range_with_len}
 use Rattle.std.proofs.lemmas.Bool.{and_parts, or_cases}

@@ -14,3 +14,4 @@ mod Paired
 pub mod BegunSeats
 pub mod PutSeats
 mod Widened
+mod WaitingMains

@@ -7,3 +7,4 @@ pub mod BegunSeats
 pub mod EdenList
 pub mod Grids
 pub mod OpenMains
+pub mod WaitingMains

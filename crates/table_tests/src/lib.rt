@@ -42,3 +42,5 @@ mod sizes;
 mod steps;
 #[cfg(test)]
 mod visits;
+#[cfg(test)]
+mod waiting_mains;

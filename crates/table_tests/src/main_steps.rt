@@ -6,6 +6,7 @@ ghost use Rattle.table_tests.specs.OpenMains.{IsBareMain, IsMarkingMain};
 use crate::kinds::put;
 use crate::open_mains::{Step, begin, colours, end, make, put_words};
 use crate::opened_mutators::opened;
+use crate::waiting_mains::end_waiting;
 use std::alloc::Global;
 use std::test::Fail;
 use tagged_word::NoMemory;
@@ -32,16 +33,17 @@ fn first_wrong(alloc: Global, main: &mut Main, steps: Steps<'_>) -> Result<usize
     Ok(steps.len())
 }
 
-/// What a cycle came to: the colours when it began, how many steps were as they should be, and the first slot of the
-/// page that refers to a young cell.
+/// What a cycle came to: the colours when it began, how many steps were as they should be, the colours when it waited
+/// before its end, and the first slot of the page that refers to a young cell.
 #[derive(Clone, Copy, Debug, PartialEq, Eq)]
 struct Came {
     began: [u64; 4],
     right: usize,
+    told: [u64; 4],
     recorded: Option<u32>,
 }
 
-/// Opens a cycle, makes steps, and closes it. Returns nothing where the four cells are none.
+/// Opens a cycle, makes steps, lets it wait, and closes it. Returns nothing where the four cells are none.
 fn run(alloc: Global, main: &mut Main, steps: Steps<'_>) -> Result<Option<Came>, NoMemory>
     requires bare { IsBareMain main.old }
     ensures bare { IfOk result (λ came. IsSome came → IsBareMain main.new) }
@@ -51,21 +53,27 @@ fn run(alloc: Global, main: &mut Main, steps: Steps<'_>) -> Result<Option<Came>,
     }
     let began = colours(alloc, main)?;
     let right = first_wrong(alloc, main, steps)?;
-    end(main);
+    let told = end_waiting(main);
     Ok(Some(Came {
         began,
         right,
+        told,
         recorded: main.next_recorded(0),
     }))
 }
 
-/// What two cycles come to, one after the other: one with steps, and one with none.
+/// What two cycles come to, one after the other: one with steps, and one with none. Between them one is dropped.
 fn run_both(alloc: Global, main: &mut Main, steps: Steps<'_>) -> Result<Option<[Came; 2]>, NoMemory>
     requires bare { IsBareMain main.old }
 {
     let Some(first) = run(alloc, main, steps)? else {
         return Ok(None);
     };
+    if !begin(alloc, main)? {
+        return Ok(None);
+    }
+    make(main, Step::Shade { at: 0 });
+    end(main);
     let Some(second) = run(alloc, main, &[])? else {
         return Ok(None);
     };
@@ -108,7 +116,7 @@ const WEAK: [u64; 3] = [10, 4_129, 1];
 const TABLE: [u64; 4] = [18, 1, 4_161, 4_161];
 
 /// The object refers to the list, and to a young cell; it is white until the end.
-const CHAIN: [(Step, [u64; 4]); 6] = [
+const CHAIN: [(Step, [u64; 4]); 8] = [
     (
         Step::InFirst {
             offset: PLAIN_HEAD,
@@ -125,12 +133,14 @@ const CHAIN: [(Step, [u64; 4]); 6] = [
     ),
     (Step::InYoung { to: 1_040 }, [0, 1, 0, 0]),
     (Step::Blacken { at: 2_048 }, [0, 1, 0, 0]),
+    (Step::Wait, [0, 1, 0, 0]),
     (Step::Scan, [0, 2, 2, 2]),
+    (Step::Wait, [0, 2, 2, 2]),
     (Step::Blacken { at: 0 }, [2, 2, 2, 2]),
 ];
 
 /// The list is made black, and the object refers to the fourth cell when it is black itself.
-const BLACKENED: [(Step, [u64; 4]); 5] = [
+const BLACKENED: [(Step, [u64; 4]); 6] = [
     (Step::Blacken { at: 1_024 }, [0, 2, 1, 0]),
     (Step::Blacken { at: 0 }, [2, 2, 1, 0]),
     (
@@ -141,7 +151,14 @@ const BLACKENED: [(Step, [u64; 4]); 5] = [
         [2, 2, 1, 1],
     ),
     (Step::Shade { at: 0 }, [2, 2, 1, 1]),
+    (Step::Wait, [2, 2, 1, 1]),
     (Step::Scan, [2, 2, 2, 2]),
+];
+
+/// A cell waits when the cycle ends.
+const UNFINISHED: [(Step, [u64; 4]); 2] = [
+    (Step::Wait, [0, 0, 0, 0]),
+    (Step::Shade { at: 1_024 }, [0, 1, 0, 0]),
 ];
 
 /// Only the last slot of the store refers to a cell.
@@ -162,6 +179,14 @@ const PAST_WEAK: [(Step, [u64; 4]); 3] = [
     (Step::Scan, [0, 2, 2, 0]),
     (Step::Blacken { at: 0 }, [2, 2, 2, 0]),
 ];
+
+/// The colours after the last step; white where there is none.
+fn last_colours(steps: Steps<'_>) -> [u64; 4] {
+    match steps {
+        [.., (_, colours)] => *colours,
+        [] => [0; 4],
+    }
+}
 
 /// A store of 1,000 slots, of which the last refers to the fourth cell.
 fn long_store(alloc: Global) -> Result<Vec<u64>, NoMemory> {
@@ -192,6 +217,12 @@ fn the_mutator_shades_what_it_stores_in_pages_and_visits_what_waits(
             recorded: None,
         },
         Case {
+            name: "a cycle that ends before its marking",
+            cells: [&PLAIN, &LIST, &STORE, &EMPTY],
+            steps: &UNFINISHED,
+            recorded: None,
+        },
+        Case {
             name: "a store of 1,000",
             cells: [long.as_slice(), &LIST, &STORE, &EMPTY],
             steps: &LONG,
@@ -209,9 +240,14 @@ fn the_mutator_shades_what_it_stores_in_pages_and_visits_what_waits(
         let first = Came {
             began: [0; 4],
             right: case.steps.len(),
+            told: last_colours(case.steps),
             recorded,
         };
-        let second = Came { right: 0, ..first };
+        let second = Came {
+            right: 0,
+            told: [0; 4],
+            ..first
+        };
         assert_eq!(rt; come(alloc, &case)?, Some([first, second]), "{}", case.name);
     }
     Ok(())

@@ -6,6 +6,7 @@ ghost use Rattle.write_barrier.specs.Seats.{heap_words};
 ghost use Rattle.table_tests.specs.OpenMains.{four_starts, IsBareMain, IsMarkingMain, IsSeatOfPage};
 
 use crate::cells::{are_cells, is_in};
+use crate::waiting_mains::wait;
 use cell_list::CellList;
 use shared_table::{Choice, HelperSeat, SharedTable};
 use std::alloc::Global;
@@ -177,6 +178,8 @@ pub(crate) enum Step {
     Shade { at: u32 },
     /// All that waits is visited.
     Scan,
+    /// The cycle waits, and goes on.
+    Wait,
 }
 
 /// Makes a step, if it is possible. Returns whether it is.
@@ -212,6 +215,10 @@ pub(crate) fn make(main: &mut Main, step: Step) -> bool
         }
         Step::Scan => {
             scan(main);
+            true
+        }
+        Step::Wait => {
+            wait(main);
             true
         }
     }

@@ -90,10 +90,11 @@ told_again main seat paths told both puts = record {
   listed = listed_again main.seat seat main.grey puts.rest.shared told.listed;
   lists = bound_again main.grey puts.rest.space told.lists;
   home = puts.rest.home ∙ told.home ∙ ap (λ (many : ℕ). many == 0) (sym puts.rest.out);
-  paid = λ mark. paid_again main.seat seat main.grey puts.rest.space puts.view
+  paid = λ mark. paid_again main.seat seat main.grey puts.rest.space puts.view puts.rest.home puts.colours
       (told.paid (sym puts.rest.phase ∙ mark));
-  paused = λ waits. paid_again main.seat seat main.grey puts.rest.space puts.view
-      (told.paused (sym puts.rest.phase ∙ waits));
+  paused = λ waits. paid_again main.seat seat main.grey puts.rest.space puts.view puts.rest.home
+      puts.colours (told.paused (sym puts.rest.phase ∙ waits));
+  waits = λ waits. puts.rest.home ∙ told.waits (sym puts.rest.phase ∙ waits);
   clean = λ quiet. let was = told.clean (sym puts.rest.phase ∙ quiet) in record {
     out = puts.rest.out ∙ was.out;
     listed = was.listed;

@@ -16,13 +16,15 @@ use Rattle.shared_table.specs.Changes.{opened}
 use Rattle.shared_table.specs.Owned.{Own}
 use Rattle.shared_table.specs.Worlds.{world_at_home}
 use Rattle.heap_table.specs.Overviews.{known, knowing, overview}
-use Rattle.heap_table.specs.Phases.{Quiet}
+use Rattle.heap_table.specs.Phases.{Phase, Mark, Quiet}
 use Rattle.heap_table.specs.Seats.{Seat as TableSeat, Beside, own_in}
 use Rattle.write_barrier.specs.declared.main_side.Main.TheInside.{Inside}
 use Rattle.write_barrier.specs.Cycles.{IsQuietOverview, MayOpenWith, HasOpened}
 use Rattle.write_barrier.specs.Layouts.{HasLayouts, IsUnmarked}
 use Rattle.write_barrier.specs.Model.{mutator_of, without_words, IsTold}
 use Rattle.write_barrier.specs.MutatorState.{Mutator}
+use Rattle.write_barrier.specs.Pauses.{with_marks}
+use Rattle.write_barrier.specs.Seats.{Marks, marks_by, marks_in}
 use Rattle.write_barrier.proofs.CycleSteps.{KnowsLayouts}
 use Rattle.write_barrier.proofs.KnownSeats.{mutator_knowing, read_alike, told_knowing_on}
 
@@ -85,6 +87,7 @@ begun_paid main grey cycle room empty = record {
     waits = λ at on. absurd (in_none [] at refl on);
     was = λ at on. absurd (none_on grey at empty on);
     born = λ at on. absurd (none_on grey at empty on);
+    passed = λ at on. absurd (in_none grey.passed.addresses at empty.passed on);
   };
   owed = refl;
 }
@@ -129,5 +132,7 @@ begun_opens fits main now seat made is told knows quiet own begins =
       cycle = begins.0;
       begins = (begins.1, begins.2);
       is = ap (λ (one : TableSeat). mutator_of (begun main one)) begins.3
-          ∙ mutator_knowing main (opened (overview main.seat) begins.0) knows.shared main.grey;
+          ∙ mutator_knowing main (opened (overview main.seat) begins.0) knows.shared main.grey
+          ∙ ap (λ (one : Option Marks). with_marks (mutator_of main) Mark begins.0 one)
+          (sym (ap (λ (one : Phase). marks_in one (marks_by (known main.seat.shared))) at_rest));
     })

@@ -33,7 +33,7 @@ use Rattle.write_barrier.proofs.SeatSteps.{mutator_steps}
 use Rattle.write_barrier.proofs.SlotCycles.{open_mark}
 
 -- there are as many layout words as shapes
-layouts_count : (space : Space) (words : List ℕ) → length words ≡ marks_start space
+pub layouts_count : (space : Space) (words : List ℕ) → length words ≡ marks_start space
     → length (layouts_in space words) ≡ shapes_most
 unfolding layouts_in
 layouts_count space words counted =
@@ -181,7 +181,7 @@ black_steps main now seat grey at is shared mark same steps =
     (cycle_in main.seat) at in
     subst (λ (one : Mutator). mutator_of (record main { seat = seat; grey = Some grey })
     ≡ record one { cycle = while_open one.seat.phase one.cycle (blackened one at) }) is (
-    mutator_steps main seat grey main.seat.table (by (overview main.seat).layouts) shared steps
+    mutator_steps main seat grey main.seat.table (by (overview main.seat).layouts) shared steps mark
     ∙ ap (λ (layouts : List ℕ). record old { cycle = by layouts }) (sym same)
     ∙ ap (λ (one : Cycle). record old { cycle = one })
     (sym (open_mark main.seat.phase old.cycle (blackened old at) mark)))

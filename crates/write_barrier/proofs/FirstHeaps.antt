@@ -6,7 +6,7 @@ use Rattle.std.specs.FinMap.{get-empty}
 use Rattle.std.proofs.lemmas.Bool.{false≢true}
 use Rattle.std.proofs.lemmas.Option.{none-some}
 use Rattle.std.proofs.lemmas.List.{map-id}
-use Rattle.std.proofs.lemmas.List.Elements.{All-nil, All-map, All-contains_itself}
+use Rattle.std.proofs.lemmas.List.Elements.{All-map, All-contains_itself}
 use Rattle.std.proofs.lemmas.List.Sums.{sum_by-cons}
 use Rattle.std.proofs.lemmas.Simd.{map-map}
 use Rattle.tagged_word.specs.Cells.{scavenge_offsets, is_object_kind}
@@ -17,7 +17,6 @@ use Rattle.page_space.proofs.Lists.{contains_none}
 use Rattle.nursery.specs.Young.{Young, other_half}
 use Rattle.remembered_set.specs.Recorded.{Recorded}
 use Rattle.object_graph.specs.Graphs.{start}
-use Rattle.object_graph.specs.Invariants.{IsObject, HasItsPath, IsGraph}
 use Rattle.object_graph.proofs.FirstPaths.{empty_paths_are, length-empty_paths}
 use Rattle.object_graph.proofs.FirstGraph.{start_is_graph}
 use Rattle.shape_tree.specs.Shapes.{AreShapes}
@@ -33,6 +32,7 @@ use Rattle.heap_model.proofs.StaysCollectable.{half_behind}
 use Rattle.heap_model.specs.Showing.{Shows, ShowsHeld}
 use Rattle.heap_model.specs.Showing.ShowsHeld.{unbound}
 use Rattle.write_barrier.specs.MutatorState.{Mutator, IsTied, MainShows, IsOpened, heap_of}
+use Rattle.write_barrier.proofs.SlotCycles.{quiet_idle}
 use Rattle.write_barrier.specs.Opening.{IsStarted}
 use Rattle.write_barrier.proofs.FirstCells.{page_gap, first_row, first_end, first_row_stands, has_gaps}
 use Rattle.write_barrier.proofs.FirstCells.{begins_below_eden}
@@ -172,7 +172,7 @@ started_shows main is = (
   record {
     tied = first_is_tied main is;
     is_graph = start_is_graph;
-    quiet = is.beside.phase;
+    calm = λ mark. absurd (quiet_idle is.beside.phase mark);
     shows = first_shows main is;
     collectable = first_is_collectable main (other_half main.young.half) is;
     free = first_are_free main is;

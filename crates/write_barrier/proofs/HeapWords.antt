@@ -6,7 +6,16 @@ use Rattle.write_barrier.specs.Seats.{Seat, RestStays}
 pub stays_beside : (seat : Seat) (words : List ℕ) → length words ≡ length seat.table
     → RestStays seat (record seat { table = words })
 stays_beside seat words count =
-    record { space = refl; phase = refl; count = count; shared = refl; home = refl; out = refl; lent = refl }
+    record {
+      space = refl;
+      phase = refl;
+      count = count;
+      shared = refl;
+      home = refl;
+      out = refl;
+      lent = refl;
+      marks = refl;
+    }
 
 -- a word that is put changes nothing but the heap words
 pub stays_beside-put : (seat : Seat) (a word : ℕ) → RestStays seat (record seat { table = slice_set seat.table a word })

@@ -1,27 +1,33 @@
 -- Seats that were lent, and taken back.
-use Rattle.std.proofs.Common.{◌≡◌, ◌==◌, ◌<◌, ◌+◌, ◌-◌, inl, inr, ℕ, Bool, List, Option, Some, None, IsTrue}
+use Rattle.std.proofs.Common.{◌≡◌, ◌==◌, ◌<◌, ◌+◌, ◌-◌, inl, inr, ℕ, Bool, true, List, Option, Some, None, IsTrue}
 use Rattle.std.proofs.Common.{refl, sym, ap, subst, ◌∙◌, arith, eq-eqb}
 use Rattle.std.specs.Prelude.{is_some}
-use Rattle.std.proofs.lemmas.Bool.{cases_lt}
+use Rattle.std.proofs.lemmas.Bool.{cases_lt, false≢true}
 use Rattle.core_parts.proofs.Tested.{not_equal}
 use Rattle.mark_laws.specs.Types.{HelperView}
 use Rattle.mark_barrier.specs.Paid.{IsPaid}
 use Rattle.mark_barrier.specs.Waiting.{Waiting}
 use Rattle.shared_table.specs.Changes.{home_with, lending, taking}
-use Rattle.heap_table.specs.Overviews.{knowing, overview}
+use Rattle.heap_table.specs.Overviews.{known, knowing, overview}
 use Rattle.heap_table.specs.Phases.{Mark}
 use Rattle.heap_table.specs.Seats.{Seat as TableSeat}
 use Rattle.write_barrier.specs.declared.main_side.Main.TheInside.{Inside}
 use Rattle.write_barrier.specs.Model.{mutator_of, without_words, IsTold}
-use Rattle.write_barrier.specs.Seats.{seat_back, seat_lent, told_of}
-use Rattle.write_barrier.proofs.KnownSeats.{mutator_knowing, told_knowing_on}
-use Rattle.write_barrier.proofs.SeatSteps.{no_list, paid_list, paid_without}
+use Rattle.write_barrier.specs.Seats.{Marks, marks_by, marks_in, seat_back, seat_lent, told_of}
+use Rattle.write_barrier.proofs.KnownSeats.{marks_of, mutator_knowing, told_knowing_on}
+use Rattle.write_barrier.proofs.SeatSteps.{no_list, no_marks, paid_list, paid_without}
 
 -- the list is as before a seat was lent
 lent_paid : (seat : TableSeat) (grey : Waiting) → IsPaid seat grey
     → IsPaid (without_words (knowing seat seat.table (lending (overview seat)))) grey
 lent_paid seat grey paid = record {
-  lists = record { room = paid.lists.room; waits = paid.lists.waits; was = paid.lists.was; born = paid.lists.born };
+  lists = record {
+    room = paid.lists.room;
+    waits = paid.lists.waits;
+    was = paid.lists.was;
+    born = paid.lists.born;
+    passed = λ at on home. absurd (false≢true home);
+  };
   owed = paid.owed;
 }
 
@@ -69,6 +75,15 @@ module _ (main : Inside) (seat : TableSeat) (grey : Waiting) (view : HelperView)
   still_out more =
       told.home ∙ not_equal out 0 (omega (arith, more)) ∙ sym (not_equal out 1 (omega (arith, more)))
 
+  -- no marks are told of it, as before
+  no_marks_back : (home : Bool) (marks : Marks) → record (mutator_of main) {
+    seat = record (told_of main.seat) { home = home; out = out - 1; marks = marks_in main.seat.phase marks };
+  } ≡ record (mutator_of main) { seat = record (told_of main.seat) { home = home; out = out - 1 } }
+  no_marks_back home marks =
+      ap (λ (one : Option Marks). record (mutator_of main) {
+        seat = record (told_of main.seat) { home = home; out = out - 1; marks = one };
+      }) (no_marks mark marks ∙ sym (no_marks mark (marks_by (known main.seat.shared))))
+
   -- the mutator with a seat fewer out
   pub back_is : mutator_of (record main { seat = seat; grey = Some grey })
       ≡ record (mutator_of main) { seat = seat_back (told_of main.seat) }
@@ -76,6 +91,7 @@ module _ (main : Inside) (seat : TableSeat) (grey : Waiting) (view : HelperView)
     | inl more ↦
         ap (λ (one : TableSeat). mutator_of (record main { seat = one; grey = Some grey })) (taken more)
         ∙ mutator_knowing main (taking (overview main.seat) view) shared (Some grey)
+        ∙ no_marks_back (overview main.seat).home (marks_of (taking (overview main.seat) view))
         ∙ ap (λ (home : Bool). record (mutator_of main) {
           seat = record (told_of main.seat) { home = home; out = out - 1 };
         }) (still_out more)
@@ -84,6 +100,7 @@ module _ (main : Inside) (seat : TableSeat) (grey : Waiting) (view : HelperView)
         let (colours, board, is) = last one_out in
         ap (λ (one : TableSeat). mutator_of (record main { seat = one; grey = Some grey })) is
         ∙ mutator_knowing main (home_with (taking (overview main.seat) view) colours board) shared (Some grey)
+        ∙ no_marks_back true (marks_of (home_with (taking (overview main.seat) view) colours board))
         ∙ ap (λ (home : Bool). record (mutator_of main) {
           seat = record (told_of main.seat) { home = home; out = out - 1 };
         }) (sym (eq-eqb out 1 one_out))

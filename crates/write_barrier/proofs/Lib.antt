@@ -29,3 +29,16 @@ mod BegunCycles
 mod DroppedCycles
 mod ScannedCycles
 mod LentSeats
+mod PausedCycles
+pub mod ResumedCycles
+pub mod SureStores
+pub mod SeenWorlds
+pub mod StoresOn
+pub mod MayPuts
+pub mod PutWords
+pub mod SlotStores
+pub mod MarksOn
+pub mod BlackenedOn
+pub mod PublishedOn
+pub mod LaidOn
+pub mod FreedOn

@@ -132,6 +132,7 @@ is_told space shared old main parts =
       home = at_home (parts.puts.rest.home ∙ ap (λ (seat : Seat). seat.home) told) out;
       paid = λ mark. absurd (quiet_idle quiet mark);
       paused = λ waits. absurd (quiet_paused quiet waits);
+      waits = λ waits. absurd (quiet_paused quiet waits);
       clean = λ again. record {
         out = out;
         listed = parts.empty;

@@ -21,7 +21,7 @@ use Rattle.mark_world.specs.Conditions.{MayAddLayout}
 use Rattle.heap_table.specs.Overviews.{known}
 use Rattle.heap_table.specs.Seats.{Seat as TableSeat, Beside, with_layout, with_read_layout}
 use Rattle.write_barrier.specs.Layouts.{AreLayouts, AreLayoutsBelow, HasBoth, HasBothBelow, IsUnmarked, PutsLayouts}
-use Rattle.write_barrier.specs.Seats.{told_of}
+use Rattle.write_barrier.specs.Seats.{marks_by, marks_in, told_of, Marks}
 use Rattle.write_barrier.specs.Staying.{rest_stays_itself, rest_stays_again}
 
 -- words of 0 are layout words that are still to be put, but for that of shape 0, which is 0
@@ -167,6 +167,7 @@ puts_none seat = record {
   rest = rest_stays_itself (told_of seat);
   cycle = refl;
   view = refl;
+  colours = refl;
   marks = λ many none. none;
   beside = λ a out. refl;
 }
@@ -187,9 +188,12 @@ puts_more first old new shape word few before is =
         home = still_same (λ beside. beside.home) old.shared shape word (λ beside. refl);
         out = still_same (λ beside. beside.out) old.shared shape word (λ beside. refl);
         lent = still_same (λ beside. beside.lent) old.shared shape word (λ beside. refl);
+        marks = ap (λ (all : Marks). marks_in old.phase all)
+            (still_same marks_by old.shared shape word (λ beside. refl));
       });
       cycle = still_known old.shared shape word ∙ before.cycle;
       view = still_same (λ beside. beside.view) old.shared shape word (λ beside. refl) ∙ before.view;
+      colours = still_same (λ beside. beside.colours) old.shared shape word (λ beside. refl) ∙ before.colours;
       marks = λ many none. still_unmarked old.shared shape word many (before.marks many none);
       beside = λ a out.
           let start : layouts_start old.space ≡ layouts_start first.space = ap layouts_start same in

@@ -15,11 +15,14 @@ use Rattle.mark_barrier.specs.Paid.{IsPaid, Scans}
 use Rattle.mark_barrier.specs.Waiting.{Waiting}
 use Rattle.shared_table.specs.Worlds.{world_at_home}
 use Rattle.cycle_state.specs.Cycles.{world_in}
-use Rattle.heap_table.specs.Overviews.{cycle_in, overview}
+use Rattle.heap_table.specs.Overviews.{cycle_in, known, overview}
+use Rattle.heap_table.specs.Phases.{Mark}
 use Rattle.heap_table.specs.Seats.{Seat as TableSeat}
 use Rattle.write_barrier.specs.declared.main_side.Main.TheInside.{Inside}
-use Rattle.write_barrier.specs.Cycles.{HasSoundView, HasWholeWorld, ScansOn}
+use Rattle.write_barrier.specs.Cycles.{HasSoundView, HasWholeWorld, IsWholeWorld, ScansOn}
 use Rattle.write_barrier.specs.Model.{mutator_of}
+use Rattle.write_barrier.specs.Pauses.{world_with}
+use Rattle.write_barrier.specs.Seats.{marks_by}
 use Rattle.write_barrier.specs.MutatorState.{Mutator, heap_of}
 use Rattle.write_barrier.proofs.SeatSteps.{mutator_steps}
 
@@ -81,38 +84,41 @@ module _ (main : Inside) (same : layouts_in main.seat.space main.seat.table ≡ 
         slots = here.slots;
       }
 
-  -- and where no seat is out the world is whole
-  pub whole_world : IsSoundAndBorn home → HasWholeWorld (mutator_of main)
-  whole_world whole =
+  -- the world, by the heap's layout words: nothing is owed
+  abbrev pub here : World
+  here = world_with (mutator_of main) (marks_by (known main.seat.shared))
+
+  -- and where no seat is out it is whole
+  pub whole_here : IsSoundAndBorn home → IsWholeWorld here
+  whole_here whole =
       let paid : World = record home { main = record view { owed = [] } } in
-      let here : World = laid paid (layouts_in main.seat.space main.seat.table) in
       let is : home ≡ here =
       ap (λ (v : MainView). record home { main = v }) view_paid ∙ ap (laid paid) (sym same) in
       let both : IsSoundAndBorn here = subst IsSoundAndBorn is whole in
       record {
-        world = here;
-        is = record { is = refl };
-        holds = record {
-          sound = both.0;
-          born = both.1;
-          none_out = All-replicate (λ (v : HelperView). v.out ≡ false) (overview main.seat).lent returned refl;
-          owed = refl;
-        };
+        sound = both.0;
+        born = both.1;
+        none_out = All-replicate (λ (v : HelperView). v.out ≡ false) (overview main.seat).lent returned refl;
+        owed = refl;
       }
+
+  -- so the heap's pages are a whole world
+  pub whole_world : IsSoundAndBorn home → HasWholeWorld (mutator_of main)
+  whole_world whole = record { world = here; is = record { is = refl }; holds = whole_here whole }
 
 -- what a scan leaves
 pub scanned : (main : Inside) (now : Mutator) (seat : TableSeat) (grey : Waiting) → mutator_of main ≡ now
-    → IsTrue (is_some main.seat.shared)
+    → main.seat.phase ≡ Mark → IsTrue (is_some main.seat.shared)
     → layouts_in main.seat.space main.seat.table ≡ (overview main.seat).layouts
     → (overview main.seat).view.owed ≡ [] → IsPaid seat grey → Scans main.seat seat
     → ScansOn now (mutator_of (record main { seat = seat; grey = Some grey }))
-scanned main now seat grey is shared same owed paid scans =
+scanned main now seat grey is mark shared same owed paid scans =
     let new : Inside = record main { seat = seat; grey = Some grey } in
     let still : layouts_in seat.space seat.table ≡ (overview seat).layouts =
     ap (λ (s : Space). layouts_in s seat.table) scans.steps.moves.space
     ∙ ap (layouts_in main.seat.space) scans.steps.moves.table ∙ same ∙ sym scans.steps.moves.layouts in
     subst (λ (one : Mutator). ScansOn one (mutator_of new)) is (record {
-      is = mutator_steps main seat grey main.seat.table (cycle_in seat) shared scans.steps
+      is = mutator_steps main seat grey main.seat.table (cycle_in seat) shared scans.steps mark
           ∙ ap (λ (one : Cycle). record (mutator_of main) { cycle = one }) scans.cycle;
       mine = scans.grows.mine;
       sure = scans.grows.sure;

@@ -1,6 +1,6 @@
 -- What the mutator is, and what it keeps, after steps on its seat.
 use Rattle.std.proofs.Common.{◌≡◌, ◌⊎◌, ◌==◌, ℕ, Bool, true, List, [], Contains, Option, Some, None, IfSome, IsTrue}
-use Rattle.std.proofs.Common.{eq-eqb, refl, sym, ◌∙◌, ap, subst}
+use Rattle.std.proofs.Common.{eq-eqb, slice_index, refl, sym, ◌∙◌, ap, subst}
 use Rattle.std.specs.Prelude.{is_some, option_map, IsSomeAnd}
 use Rattle.std.proofs.lemmas.Bool.{false≢true}
 use Rattle.atomic_table.specs.Seated.{TableId}
@@ -16,19 +16,31 @@ use Rattle.write_barrier.specs.declared.main_side.Main.TheInside.{Inside}
 use Rattle.write_barrier.specs.Layouts.{AreLayouts}
 use Rattle.write_barrier.specs.Model.{mutator_of, without_words, IsTold}
 use Rattle.write_barrier.specs.MutatorState.{Mutator}
-use Rattle.write_barrier.specs.Seats.{Seat, table_of, told_of}
+use Rattle.write_barrier.specs.Seats.{Marks, Seat, marks_by, marks_in, table_of, told_of}
 
 -- own words play no part in what the mutator owes
 pub paid_without : {seat : TableSeat} {grey : Waiting} → IsPaid seat grey → IsPaid (without_words seat) grey
 paid_without paid = record {
-  lists = record { room = paid.lists.room; waits = paid.lists.waits; was = paid.lists.was; born = paid.lists.born };
+  lists = record {
+    room = paid.lists.room;
+    waits = paid.lists.waits;
+    was = paid.lists.was;
+    born = paid.lists.born;
+    passed = paid.lists.passed;
+  };
   owed = paid.owed;
 }
 
 -- own words play no part in what is paid
 pub paid_with : {seat : TableSeat} {grey : Waiting} → IsPaid (without_words seat) grey → IsPaid seat grey
 paid_with paid = record {
-  lists = record { room = paid.lists.room; waits = paid.lists.waits; was = paid.lists.was; born = paid.lists.born };
+  lists = record {
+    room = paid.lists.room;
+    waits = paid.lists.waits;
+    was = paid.lists.was;
+    born = paid.lists.born;
+    passed = paid.lists.passed;
+  };
   owed = paid.owed;
 }
 
@@ -48,7 +60,7 @@ pub in_mark : (main : Inside) (now : Mutator) → mutator_of main ≡ now → no
 in_mark main now is mark = ap (λ (one : Mutator). one.seat.phase) is ∙ mark
 
 -- what is owed in an open cycle, where there is a list
-owed_by : (seat : TableSeat) (list : Option Waiting) → IsSomeAnd list (IsPaid (without_words seat))
+pub owed_by : (seat : TableSeat) (list : Option Waiting) → IsSomeAnd list (IsPaid (without_words seat))
     → (overview seat).view.owed ≡ []
 owed_by seat (Some grey) paid = paid.owed
 owed_by seat None paid = absurd paid
@@ -87,6 +99,15 @@ at_home home out = home ∙ sym (eq-eqb _ 0 out)
 pub mark_quiet : {phase : Phase} → phase ≡ Mark → phase ≡ Quiet → ⊥
 mark_quiet mark quiet = let no : Mark ≡ Quiet = sym mark ∙ quiet in cc
 
+-- no marks are told in an open cycle
+pub no_marks : {phase : Phase} → phase ≡ Mark → (marks : Marks) → marks_in phase marks ≡ None
+no_marks mark marks = ap (λ (one : Phase). marks_in one marks) mark
+
+-- nor in another state of it
+unmarked_there : {new old : Phase} → new ≡ Mark → (now was : Marks) → old ≡ Mark
+    → marks_in new now ≡ marks_in old was
+unmarked_there new now was old = no_marks new now ∙ sym (no_marks old was)
+
 module _ (main : Inside) (seat : TableSeat) (grey : Waiting) (words : List ℕ) (next : Cycle)
     (shared : IsTrue (is_some main.seat.shared)) (moves : MovesTo main.seat seat words next) where
   -- the mutator after whole steps of marking
@@ -100,28 +121,36 @@ module _ (main : Inside) (seat : TableSeat) (grey : Waiting) (words : List ℕ) 
       ∙ sym (table_there main.seat.shared shared)
 
   -- what is told of its seat
-  told_moves : told_of seat ≡ record (told_of main.seat) { table = words }
-  told_moves =
+  told_moves : main.seat.phase ≡ Mark → told_of seat ≡ record (told_of main.seat) { table = words }
+  told_moves mark =
       let old : Seat = told_of main.seat in
       let new : Seat = told_of seat in
-      ap (λ (one : Space). record new { space = one }) moves.space
-      ∙ ap (λ (one : Phase). record new { space = old.space; phase = one }) moves.phase
-      ∙ ap (λ (one : List ℕ). record new { space = old.space; phase = old.phase; table = one }) moves.table
+      ap (λ (one : Option Marks). record new { marks = one })
+      (unmarked_there (moves.phase ∙ mark) (marks_by (known seat.shared)) (marks_by (known main.seat.shared)) mark)
+      ∙ ap (λ (one : Space). record new { space = one; marks = old.marks }) moves.space
+      ∙ ap (λ (one : Phase). record new { space = old.space; phase = one; marks = old.marks }) moves.phase
+      ∙ ap (λ (one : List ℕ). record new {
+        space = old.space;
+        phase = old.phase;
+        table = one;
+        marks = old.marks;
+      }) moves.table
       ∙ ap (λ (one : Option TableId). record new {
         space = old.space;
         phase = old.phase;
         table = words;
         shared = one;
+        marks = old.marks;
       }) named_moves
       ∙ ap (λ (one : Bool). record old { table = words; home = one; out = new.out; lent = new.lent }) moves.home
       ∙ ap (λ (one : ℕ). record old { table = words; out = one; lent = new.lent }) moves.out
       ∙ ap (λ (one : ℕ). record old { table = words; lent = one }) moves.lent
 
   -- the words and the cycle are others, and nothing else
-  pub mutator_moves : mutator_of stepped_to
+  pub mutator_moves : main.seat.phase ≡ Mark → mutator_of stepped_to
       ≡ record (mutator_of main) { seat = record (told_of main.seat) { table = words }; cycle = next }
-  mutator_moves =
-      ap (λ (one : Seat). record (mutator_of stepped_to) { seat = one }) told_moves
+  mutator_moves mark =
+      ap (λ (one : Seat). record (mutator_of stepped_to) { seat = one }) (told_moves mark)
       ∙ ap (λ (one : Cycle). record (mutator_of main) {
         seat = record (told_of main.seat) { table = words };
         cycle = one;
@@ -138,15 +167,16 @@ module _ (main : Inside) (seat : TableSeat) (grey : Waiting) (words : List ℕ) 
     home = moves.home ∙ told.home ∙ ap (λ (many : ℕ). many == 0) (sym moves.out);
     paid = λ again. paid_without paid;
     paused = λ waits. absurd (mark_paused (moves.phase ∙ mark) waits);
+    waits = λ waits. absurd (mark_paused (moves.phase ∙ mark) waits);
     clean = λ quiet. absurd (mark_quiet (moves.phase ∙ mark) quiet);
   }
 
 module _ (main : Inside) (seat : TableSeat) (grey : Waiting) (words : List ℕ) (next : Cycle)
     (shared : IsTrue (is_some main.seat.shared)) (steps : StepsTo main.seat seat words next) where
   -- so after steps that give no cell to the board
-  pub mutator_steps : mutator_of (record main { seat = seat; grey = Some grey })
+  pub mutator_steps : main.seat.phase ≡ Mark → mutator_of (record main { seat = seat; grey = Some grey })
       ≡ record (mutator_of main) { seat = record (told_of main.seat) { table = words }; cycle = next }
-  mutator_steps = mutator_moves main seat grey words next shared steps.moves
+  mutator_steps mark = mutator_moves main seat grey words next shared steps.moves mark
 
   -- it keeps what it kept
   pub told_steps_on : IsTold main → main.seat.phase ≡ Mark → IsPaid seat grey
@@ -165,6 +195,7 @@ told_put main words told =
       home = told.home;
       paid = told.paid;
       paused = told.paused;
+      waits = told.waits;
       clean = told.clean;
     }
 
@@ -176,16 +207,19 @@ named_some None = refl
 
 -- a list of grey cells is right for a seat with the same regions and view
 pub paid_again : (old new : TableSeat) (list : Option Waiting) → new.space ≡ old.space
-    → (overview new).view ≡ (overview old).view → IsSomeAnd list (IsPaid (without_words old))
+    → (overview new).view ≡ (overview old).view → (overview new).home ≡ (overview old).home
+    → (overview new).colours ≡ (overview old).colours → IsSomeAnd list (IsPaid (without_words old))
     → IsSomeAnd list (IsPaid (without_words new))
-paid_again old new None space view was = was
-paid_again old new (Some grey) space view was = record {
+paid_again old new None space view home colours was = was
+paid_again old new (Some grey) space view home colours was = record {
   lists = record {
     room = subst (HasRoom grey) (sym (ap eden_start space)) was.lists.room;
     waits = subst (λ (one : MainView). (at : ℕ) → Contains one.grey at → IsOn grey at) (sym view) was.lists.waits;
     was = subst (λ (one : MainView). (at : ℕ) → IsOn grey at → Contains one.grey at ⊎ Contains one.mine at) (sym view)
         was.lists.was;
     born = subst (λ (one : MainView). (at : ℕ) → IsOn grey at → Contains one.born at) (sym view) was.lists.born;
+    passed = λ at on known.
+        ap (λ (all : List ℕ). slice_index all at) colours ∙ was.lists.passed at on (sym home ∙ known);
   };
   owed = ap (λ (one : MainView). one.owed) view ∙ was.owed;
 }

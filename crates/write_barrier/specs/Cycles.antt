@@ -17,7 +17,7 @@ use Rattle.shared_table.specs.Owned.{Own}
 use Rattle.shared_table.specs.Worlds.{world_at_home}
 use Rattle.cycle_state.specs.Cycles.{IsWorldOf, words_of_pages, world_in}
 use Rattle.heap_table.specs.Phases.{Phase, Mark, Quiet}
-use Rattle.write_barrier.specs.MutatorState.{Mutator, heap_of}
+use Rattle.write_barrier.specs.MutatorState.{Mutator, heap_of, world_of}
 use Rattle.write_barrier.specs.Seats.{heap_words}
 
 -- the regions, and the words before the marks
@@ -69,7 +69,7 @@ pub record IsWorldWith (main : Mutator) (P : World → Type 0) : Type 0 where
 
 -- the mutator's view is as it is in a sound world, by the words of the heap and what is known of the cycle
 abbrev pub HasSoundView : Mutator → Type 0
-HasSoundView main = HasMainSound (world_in (heap_of main) main.cycle)
+HasSoundView main = HasMainSound (world_of main)
 
 -- a world is sound, marking reaches born cells alone, no seat is out, and nothing is owed
 pub record IsWholeWorld (world : World) : Type 0 where

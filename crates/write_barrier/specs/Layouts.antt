@@ -59,6 +59,7 @@ pub record PutsLayouts (old new : TableSeat) : Type 0 where
   pub rest : RestStays (told_of old) (told_of new)
   pub cycle : cycle_in new ≡ cycle_in old
   pub view : (overview new).view ≡ (overview old).view
+  pub colours : (overview new).colours ≡ (overview old).colours
   pub marks : (many : ℕ) → IfSome old.shared (IsUnmarked many) → IfSome new.shared (IsUnmarked many)
   pub beside : (a : ℕ) → (a < layouts_start old.space) ⊎ (marks_start old.space ≤ a)
       → slice_get new.table a ≡ slice_get old.table a

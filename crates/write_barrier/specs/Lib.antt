@@ -7,8 +7,11 @@ pub mod Layouts
 pub mod Marking
 pub mod Model
 pub mod Cycles
+pub mod Pauses
 pub mod Lending
 pub mod Reading
 pub mod Opening
 pub mod Values
 pub mod ValueLaws
+pub mod Storing
+pub mod SureStores

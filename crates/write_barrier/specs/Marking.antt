@@ -49,11 +49,12 @@ pub record MayStoreAll (main : Mutator) (from to : ℕ) : Type 0 where
   pub may : (at word : ℕ) → from ≤ at → at < to
       → MayIn (world_in (heap_of main) main.cycle) (event.StoreOwned at word)
 
--- so many words at an address may become a free cell, if they are those of a page and a cycle is open
+-- In an open cycle so many words at an address of a page may become a free cell: any word may be stored there. Of words
+-- behind the pages, or while no cycle is open or it waits, nothing is asked.
 abbrev pub MayPutFree : Mutator → ℕ → ℕ → Type 0
 MayPutFree main at count = at < eden_start main.seat.space → main.seat.phase ≡ Mark → MayStoreAll main at (at + count)
 
--- a new cell of a page is black, and is published
+-- in an open cycle a new cell of a page is black, and is published
 abbrev pub with_published : Mutator → ℕ → Mutator
 with_published main at = record main { cycle = cycle_after main at (published main.cycle at) }
 
@@ -63,6 +64,6 @@ blackened main at =
     made_black (eden_start main.seat.space) (words_of_pages (heap_of main))
     (layouts_in main.seat.space (heap_words main.seat)) main.cycle at
 
--- a cell was made black, if it is one of a page
+-- in an open cycle a cell was made black, if it is one of a page
 abbrev pub with_blackened : Mutator → ℕ → Mutator
 with_blackened main at = record main { cycle = cycle_after main at (blackened main at) }

@@ -1,5 +1,5 @@
 -- What the mutator keeps in its fields.
-use Rattle.std.specs.Prelude.{◌≡◌, ◌==◌, [], Option, is_some, IfSome, IsSomeAnd}
+use Rattle.std.specs.Prelude.{◌≡◌, ◌==◌, true, [], Option, is_some, IfSome, IsSomeAnd}
 use Rattle.page_space.specs.Extents.{eden_start}
 use Rattle.heap_table.specs.Overviews.{cycle_in, known}
 use Rattle.heap_table.specs.Phases.{Quiet, Mark, Paused}
@@ -35,7 +35,8 @@ pub record IsClean (seat : TableSeat) (list : Option Waiting) : Type 0 where
 -- An address is below the bound of what is recorded exactly if it is one of a page. The layout words that helpers read
 -- are those of the shapes, and else 0. Colours and board are known exactly while no seat is out. There are lists of
 -- grey cells where there is a shared table. While a cycle is open, or waits, they have the grey cells that wait with
--- the mutator, and nothing is owed; else they have none, and no cell has a colour.
+-- the mutator, and nothing is owed; else they have none, and no cell has a colour. While a cycle waits colours and
+-- board are known.
 pub record IsTold (main : Inside) : Type 0 where
   pub bound : main.remembered.bound ≡ eden_start main.seat.space
   pub layouts : ReadLayouts main.seat main.shapes
@@ -44,4 +45,5 @@ pub record IsTold (main : Inside) : Type 0 where
   pub home : (known main.seat.shared).home ≡ ((known main.seat.shared).out == 0)
   pub paid : main.seat.phase ≡ Mark → IsSomeAnd main.grey (IsPaid (without_words main.seat))
   pub paused : main.seat.phase ≡ Paused → IsSomeAnd main.grey (IsPaid (without_words main.seat))
+  pub waits : main.seat.phase ≡ Paused → (known main.seat.shared).home ≡ true
   pub clean : main.seat.phase ≡ Quiet → IsClean (without_words main.seat) main.grey

@@ -1,6 +1,6 @@
 -- The mutator's side of a heap as those above it see it.
 use Rattle.std.specs.Prelude.{◌≡◌, ℕ, ◌+◌, ◌*◌, ◌<◌, ◌≤◌, Bool, false, not, nat_lt, if◌then◌else◌}
-use Rattle.std.specs.Prelude.{List, [], Contains, Option, Some, None, slice_get, slice_set}
+use Rattle.std.specs.Prelude.{List, [], length, Contains, Option, Some, None, slice_get, slice_set}
 use Rattle.heap_model.specs.Types.{Path, Header, Run, Held}
 use Rattle.object_graph.specs.Graphs.{Graph}
 use Rattle.object_graph.specs.Invariants.{IsGraph}
@@ -14,7 +14,11 @@ use Rattle.handle_roots.specs.Roots.{with_root}
 use Rattle.nursery.specs.Young.{Young, new_young, next_of, bumped, other_half}
 use Rattle.free_runs.specs.FreeRuns.{whole_rows}
 use Rattle.remembered_set.specs.Recorded.{Recorded, noted, forgotten}
+use Rattle.mark_world.specs.declared.world.World.{World}
 use Rattle.mark_world.specs.Cycles.{Cycle}
+use Rattle.mark_laws.specs.PageWords.{HasMainSound}
+use Rattle.cycle_state.specs.Cycles.{world_in}
+use Rattle.cycle_state.specs.Resting.{Rests}
 use Rattle.heap_table.specs.Overviews.{unopened}
 use Rattle.heap_table.specs.Phases.{Phase, Quiet, Mark, Paused}
 use Rattle.mark_barrier.specs.CycleSteps.{sure_of_target}
@@ -45,6 +49,10 @@ heap_of main = record {
   words = heap_words main.seat;
 }
 
+-- the world of marking that the heap's pages are by what is known of the cycle, without colours, board or helpers
+abbrev pub world_of : Mutator → World
+world_of main = world_in (heap_of main) main.cycle
+
 -- each granted word is a filler of one page, where there are any
 abbrev pub AreGranted : Heap → Run → Type 0
 AreGranted heap run = 0 < run.words → AreFillers heap run.at (run.at + run.words)
@@ -60,13 +68,27 @@ pub record IsTied (main : Mutator) : Type 0 where
   pub space : main.young.space ≡ main.seat.space
   pub granted : AreGranted (heap_of main) main.young.granted
 
--- The parts agree, only the mutator runs, and the heap shows the graph, which is one that a script makes. A scavenge
+-- The heap rests in an open cycle. The mutator's view is as in a sound world, what is kept is closed, and the mutator's
+-- part is done. No word of a page is granted, so the next cells are young. There are at least as many objects as the
+-- cycle counts, so the next one is none of these.
+pub record RestsInCycle (main : Mutator) (graph : Graph) : Type 0 where
+  pub view : HasMainSound (world_of main)
+  pub rests : Rests (heap_of main) main.cycle
+  pub granted : main.young.granted.words ≡ 0
+  pub counted : main.cycle.made ≤ length graph.objects
+
+-- Calm, as between two commands: where a cycle is open and does not wait, the heap rests in it. Of one that waits
+-- nothing is asked: a scavenge moves cells then, and no command is carried out.
+abbrev pub IsCalm : Mutator → Graph → Type 0
+IsCalm main graph = main.seat.phase ≡ Mark → RestsInCycle main graph
+
+-- The parts agree, the mutator is calm, and the heap shows the graph, which is one that a script makes. A scavenge
 -- may come: the half that the survivors are not in is empty, each free run is one free cell, no such begins in what is
 -- granted, and recorded are exactly the slots of pages that refer to young cells.
 pub record MainShows (main : Mutator) (graph : Graph) : Type 0 where
   pub tied : IsTied main
   pub is_graph : IsGraph graph
-  pub quiet : main.seat.phase ≡ Quiet
+  pub calm : IsCalm main graph
   pub shows : Shows (heap_of main) graph
   pub collectable : IsCollectable (heap_of main) (other_half main.young.half)
   pub free : AreFreeRuns (heap_of main) main.free
@@ -74,9 +96,9 @@ pub record MainShows (main : Mutator) (graph : Graph) : Type 0 where
   pub bounded : main.recorded.bound ≡ eden_start main.seat.space
   pub remembered : AreRemembered (heap_of main) main.recorded.slots
 
--- the mutator may store words of cells of pages, whatever they are: only it runs
+-- the mutator may store words of cells of pages, whatever they are: no cycle is open, or it waits
 abbrev pub MayStore : Mutator → Type 0
-MayStore main = main.seat.phase ≡ Quiet
+MayStore main = main.seat.phase ≡ Mark → ⊥
 
 -- one word of the table is another
 abbrev pub put_word : Mutator → ℕ → ℕ → Mutator

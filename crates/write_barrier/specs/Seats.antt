@@ -1,15 +1,40 @@
 -- The seat of the thread that runs commands, as the mutator and those above it see it.
-use Rattle.std.specs.Prelude.{◌≡◌, ◌+◌, ◌-◌, ◌==◌, ℕ, Bool, true, false, List, length, replicate, Option, option_map}
+use Rattle.std.specs.Prelude.{◌≡◌, ◌+◌, ◌-◌, ◌==◌, ℕ, Bool, true, false, List, length, replicate}
+use Rattle.std.specs.Prelude.{Option, Some, None, option_map}
 use Rattle.atomic_table.specs.Seated.{TableId}
 use Rattle.page_space.specs.Extents.{Space, marks_start}
-use Rattle.heap_table.specs.Phases.{Phase, Quiet}
+use Rattle.core_parts.specs.declared.note.Note.{Note}
+use Rattle.heap_table.specs.Phases.{Phase, Quiet, Mark, Paused}
 use Rattle.heap_table.specs.Overviews.{known}
 use Rattle.heap_table.specs.Seats.{Seat as TableSeat, Beside}
+
+-- What a cycle of marking that waits has beside the heap's words and what is known of the cycle: the colours of cells
+-- of pages, the board, the grey cells that wait with the mutator, and the log of its steps on the board.
+pub record Marks : Type 0 where
+  pub colours : List ℕ
+  pub board : List ℕ
+  pub grey : List ℕ
+  pub log : List Note
+
+-- these, as the seat knows them
+abbrev pub marks_by : Beside → Marks
+marks_by beside = record {
+  colours = beside.colours;
+  board = beside.board;
+  grey = beside.view.grey;
+  log = beside.view.log;
+}
+
+-- they are told exactly while a cycle waits
+abbrev pub marks_in : Phase → Marks → Option Marks
+marks_in Paused marks = Some marks
+marks_in Mark marks = None
+marks_in Quiet marks = None
 
 -- The regions of the heap, the phase, the words before the marks, and which shared table there is, which helpers read,
 -- if there is one. Its words of pages are those of the heap, and its layout words those of the shapes. Then whether its
 -- colours and its board are known, how many seats are out, and how many were ever lent. A heap without a shared table
--- is at home, with no seat out. What else the table has is not told.
+-- is at home, with no seat out. While a cycle waits its marks are told, too. What else the table has is not told.
 pub record Seat : Type 0 where
   pub space : Space
   pub phase : Phase
@@ -18,6 +43,7 @@ pub record Seat : Type 0 where
   pub home : Bool
   pub out : ℕ
   pub lent : ℕ
+  pub marks : Option Marks
 
 -- the words that stand before the marks: pages, eden, segments, roots and layout words; the table has these alone
 abbrev pub heap_words : Seat → List ℕ
@@ -37,6 +63,7 @@ told_of seat = record {
   home = (known seat.shared).home;
   out = (known seat.shared).out;
   lent = (known seat.shared).lent;
+  marks = marks_in seat.phase (marks_by (known seat.shared));
 }
 
 -- all words are 0, the phase is quiet, this is the shared table, if there is one, and no seat was ever lent
@@ -49,9 +76,11 @@ fresh space shared = record {
   home = true;
   out = 0;
   lent = 0;
+  marks = None;
 }
 
--- The regions, the phase, how many heap words there are, which shared table there is, and its seats, stay.
+-- The regions, the phase, how many heap words there are, which shared table there is, its seats, and the marks of a
+-- cycle that waits, stay.
 pub record RestStays (old new : Seat) : Type 0 where
   pub space : new.space ≡ old.space
   pub phase : new.phase ≡ old.phase
@@ -60,6 +89,7 @@ pub record RestStays (old new : Seat) : Type 0 where
   pub home : new.home ≡ old.home
   pub out : new.out ≡ old.out
   pub lent : new.lent ≡ old.lent
+  pub marks : new.marks ≡ old.marks
 
 -- one seat more is out, so colours and board are not known
 abbrev pub seat_lent : Seat → Seat

@@ -6,7 +6,16 @@ use Rattle.write_barrier.specs.Seats.{Seat, RestStays}
 -- where nothing has happened, everything has stayed
 pub rest_stays_itself : (seat : Seat) → RestStays seat seat
 rest_stays_itself seat =
-    record { space = refl; phase = refl; count = refl; shared = refl; home = refl; out = refl; lent = refl }
+    record {
+      space = refl;
+      phase = refl;
+      count = refl;
+      shared = refl;
+      home = refl;
+      out = refl;
+      lent = refl;
+      marks = refl;
+    }
 
 -- what has stayed twice has stayed
 pub rest_stays_again : (a b c : Seat) → RestStays a b → RestStays b c → RestStays a c
@@ -19,4 +28,5 @@ rest_stays_again a b c first then =
       home = then.home ∙ first.home;
       out = then.out ∙ first.out;
       lent = then.lent ∙ first.lent;
+      marks = then.marks ∙ first.marks;
     }

@@ -2,7 +2,7 @@
 //!
 //! Model: a `Mutator` of `specs/MutatorState.antt`: the seat with its words, the field paths, the young
 //! generation, the free runs of pages, which slots of pages are recorded, and what is known of the open cycle of
-//! marking. `heap_of` is the heap that stands in the words.
+//! marking. `heap_of` is the heap that stands in the words. While a cycle waits the seat has its marks, too.
 //! Invariant: an address is below the bound of what is recorded exactly if it is one of a page, and the layout
 //! words of the shared table, where there is one, are those of the shapes. While a cycle of marking is open, or waits,
 //! nothing is owed, and listed are just the grey cells that wait with the mutator. Else none is listed, all cells are

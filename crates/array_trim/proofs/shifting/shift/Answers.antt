@@ -4,6 +4,7 @@ use Rattle.std.specs.Prelude.{FitsSigned}
 use Rattle.std.specs.Int.{w64}
 use Rattle.object_cells.proofs.ListCells.{list_shown, shown_there, shown_ready, count_shown}
 use Rattle.object_cells.proofs.ElementsRead.{place_below}
+use Rattle.array_trim.proofs.OwnStores.{may_trim}
 use Rattle.array_trim.proofs.TrimOutcomes.{number_named, some_shifted, none_shifted}
 use Rattle.array_trim.proofs.shifting.shift.Goals as goal
 
@@ -17,6 +18,9 @@ returns-in_default c graph one shows is =
           fits c.checked_index.ensures ∙ c.in_default.is,
       refl,
     )
+
+pub shift_store-requires-clause-may : goal.shift_store-requires-clause-may
+shift_store-requires-clause-may c = may_trim c.requires.shows c.requires.is
 
 pub shift_store-requires-clause-ready : goal.shift_store-requires-clause-ready
 shift_store-requires-clause-ready c =

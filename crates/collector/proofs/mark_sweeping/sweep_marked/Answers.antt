@@ -31,6 +31,7 @@ returns-clause-swept c graph shows =
     (sym (heap_stays c.ungrant.ensures)) c.requires.marked.1 in
     subst (λ (all : List ℕ). SweepsMarked c.args.main.now c.sweep.new.main all graph) c.cells-marked.ensures.cells
     (swept_marked (record {
+      quiet = c.requires.quiet;
       shown = shows;
       within = c.addresses_fit.ensures.within;
       ungrants = c.ungrant.ensures;
@@ -47,6 +48,7 @@ returns-clause-exact c graph shows live =
     let bare_live = subst (λ (heap : Heap). AreLive heap c.args.marking.now.cells)
     (sym (heap_stays c.ungrant.ensures)) live in
     collected (record {
+      quiet = c.requires.quiet;
       shown = shows;
       within = c.addresses_fit.ensures.within;
       ungrants = c.ungrant.ensures;

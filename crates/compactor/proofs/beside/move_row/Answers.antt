@@ -78,10 +78,10 @@ next-requires-clause-within c =
     )
 
 pub move_slots-requires-clause-quiet : goal.move_slots-requires-clause-quiet
-move_slots-requires-clause-quiet c =
+move_slots-requires-clause-quiet c mark =
     let (first, was, may) = c.requires.may in
     let state = c.cells.invariant.in_row first was may in
-    (keeps_again state.slid.rest state.moved.rest).seat.phase ∙ state.begun.quiet
+    state.begun.quiet (sym (keeps_again state.slid.rest state.moved.rest).seat.phase ∙ mark)
 
 pub move_slots-requires-clause-within : goal.move_slots-requires-clause-within
 move_slots-requires-clause-within c =

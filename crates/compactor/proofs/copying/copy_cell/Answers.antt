@@ -1,5 +1,5 @@
 -- One word after another is copied.
-use Rattle.std.proofs.Common.{◌≡◌, ℕ, ◌∙◌, ap, subst, arith}
+use Rattle.std.proofs.Common.{◌≡◌, ℕ, sym, ◌∙◌, ap, subst, arith}
 use Rattle.page_space.specs.Extents.{Space, marks_start}
 use Rattle.compactor.specs.Copying.{Copies}
 use Rattle.compactor.proofs.Copied.{none_copied, copies_more}
@@ -10,7 +10,8 @@ loop-offset-init c =
     record { copies = none_copied c.args.main.now c.args.moves.now c.args.cell.now c.args.to }
 
 pub copy_word-requires-clause-quiet : goal.copy_word-requires-clause-quiet
-copy_word-requires-clause-quiet c = c.loop-offset.invariant.copies.rest.seat.phase ∙ c.requires.quiet
+copy_word-requires-clause-quiet c mark =
+    c.requires.quiet (sym c.loop-offset.invariant.copies.rest.seat.phase ∙ mark)
 
 pub copy_word-requires-clause-within : goal.copy_word-requires-clause-within
 copy_word-requires-clause-within c =

@@ -2,12 +2,11 @@
 use Rattle.std.proofs.Common.{ℕ, ◌+◌, sym, ◌∙◌, ap, arith}
 use Rattle.std.proofs.lemmas.Bool.{false≢true}
 use Rattle.write_barrier.specs.MutatorState.{with_slot}
-use Rattle.write_barrier.proofs.SlotCycles.{quiet_may}
 use Rattle.compactor.proofs.Copied.{slot_copied, raw_copied}
 use Rattle.compactor.proofs.copying.copy_word.Goals as goal
 
 pub store-requires-clause-may_store : goal.store-requires-clause-may_store
-store-requires-clause-may_store c = quiet_may c.requires.quiet
+store-requires-clause-may_store c page mark = absurd (c.requires.quiet mark)
 
 pub returns-then-is_scavenge_slot : goal.returns-then-is_scavenge_slot
 returns-then-is_scavenge_slot c =
@@ -18,7 +17,7 @@ returns-then-is_scavenge_slot c =
     ∙ ap (λ (word : ℕ). with_slot c.args.main.now (c.args.to + c.args.offset) word) c.moved.ensures)
 
 pub write_slot-requires-clause-may_store : goal.write_slot-requires-clause-may_store
-write_slot-requires-clause-may_store c = quiet_may c.requires.quiet
+write_slot-requires-clause-may_store c page mark = absurd (c.requires.quiet mark)
 
 pub returns-else-is_scavenge_slot : goal.returns-else-is_scavenge_slot
 returns-else-is_scavenge_slot c =

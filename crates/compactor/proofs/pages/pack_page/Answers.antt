@@ -88,10 +88,10 @@ cells-preserved c = record {
 }
 
 pub end_page-requires-clause-quiet : goal.end_page-requires-clause-quiet
-end_page-requires-clause-quiet c =
+end_page-requires-clause-quiet c mark =
     let (first, may) = c.requires.may in
     let state = c.cells.invariant.in_page first may in
-    state.rest.seat.phase ∙ state.begun.quiet
+    state.begun.quiet (sym state.rest.seat.phase ∙ mark)
 
 pub end_page-requires-clause-there : goal.end_page-requires-clause-there
 end_page-requires-clause-there c =

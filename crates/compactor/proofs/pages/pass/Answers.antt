@@ -10,9 +10,9 @@ returns-then-is_free c first page limit may =
     free_passed may (ap not (sym c.is_free.ensures ∙ c.if-is_free.true))
 
 pub copy_cell-requires-clause-quiet : goal.copy_cell-requires-clause-quiet
-copy_cell-requires-clause-quiet c =
+copy_cell-requires-clause-quiet c mark =
     let may = c.requires.may.3 in
-    may.in_page.rest.seat.phase ∙ may.in_page.begun.quiet
+    may.in_page.begun.quiet (sym may.in_page.rest.seat.phase ∙ mark)
 
 pub copy_cell-requires-clause-within : goal.copy_cell-requires-clause-within
 copy_cell-requires-clause-within c =

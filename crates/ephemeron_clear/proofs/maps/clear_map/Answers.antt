@@ -6,7 +6,7 @@ use Rattle.ephemeron_clear.proofs.FilledKeys.{some_pairs}
 use Rattle.ephemeron_clear.proofs.MapCounts.{count_few}
 use Rattle.ephemeron_clear.proofs.Passes.{are_one, left_long, marked_all, one_cleared}
 use Rattle.ephemeron_clear.proofs.TakenTwice.{takes_twice}
-use Rattle.ephemeron_clear.proofs.Takings.{map_stays, takes_nothing}
+use Rattle.ephemeron_clear.proofs.Takings.{map_stays, may_go_on, takes_nothing}
 use Rattle.ephemeron_clear.proofs.maps.clear_map.Goals as goal
 
 pub loop-last-init : goal.loop-last-init
@@ -18,17 +18,20 @@ loop-last-init c = record {
 pub take_down-gone-requires-clause-there : goal.take_down-gone-requires-clause-there
 take_down-gone-requires-clause-there c = map_stays c.loop-last.invariant.takes c.requires.there
 
+pub take_down-gone-requires-clause-may_store : goal.take_down-gone-requires-clause-may_store
+take_down-gone-requires-clause-may_store c = may_go_on c.loop-last.invariant.takes c.requires.may_store
+
 pub take_down-gone-requires-clause-last : goal.take_down-gone-requires-clause-last
 take_down-gone-requires-clause-last c pairs has = (c.in-Some.ensures pairs has).is
 
 pub overflow_add-gone : goal.overflow_add-gone
 overflow_add-gone c =
-    let some = some_pairs c.requires.whole.whole c.requires.there in
+    let some = some_pairs c.requires.whole c.requires.there in
     omega (
       arith,
       c.loop-last.invariant.counted,
       c.take_down-gone.ensures.counted,
-      count_few c.requires.whole.whole some.are,
+      count_few c.requires.whole some.are,
     )
 
 pub loop-last-smaller : goal.loop-last-smaller
@@ -38,7 +41,7 @@ pub loop-last-preserved : goal.loop-last-preserved
 loop-last-preserved c =
     let far = c.loop-last.invariant in
     record {
-      takes = takes_twice c.requires.whole.whole (are_one c.requires.there) far.takes c.take_down-gone.ensures.takes;
+      takes = takes_twice c.requires.whole (are_one c.requires.there) far.takes c.take_down-gone.ensures.takes;
       counted = omega (arith, far.counted, c.take_down-gone.ensures.counted);
     }
 
@@ -46,7 +49,7 @@ pub returns-clause-cleared : goal.returns-clause-cleared
 returns-clause-cleared c =
     let marked = c.args.marked.now.addresses in
     let takes = c.loop-last.invariant.takes in
-    let some = some_pairs c.requires.whole.whole c.requires.there in
+    let some = some_pairs c.requires.whole c.requires.there in
     let capacity = c.table_of-capacity.result.capacity in
     one_cleared takes
     (λ pairs has.

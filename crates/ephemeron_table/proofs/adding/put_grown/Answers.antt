@@ -4,6 +4,8 @@ use Rattle.handle_roots.specs.Roots.{FitsHeld}
 use Rattle.ephemeron_table.specs.Rehashing.{PutsInNewTable}
 use Rattle.ephemeron_table.proofs.FullTables.{put_known}
 use Rattle.ephemeron_table.proofs.GrowableMaps.{can_grow}
+use Rattle.ephemeron_table.proofs.KnownClaims.{known_map_may, shown_may_change}
+use Rattle.write_barrier.proofs.StoresOn.{next_is_young}
 use Rattle.ephemeron_table.proofs.NewTableEntries.{IsGrowing, growing_refused, grown_entry, grown_pair}
 use Rattle.ephemeron_table.proofs.KnownTables.{shown_known}
 use Rattle.ephemeron_table.proofs.PutRefusals.{both_refused}
@@ -15,7 +17,9 @@ put_in_new_table-requires c =
     let shown = c.requires.shown in
     record {
       can = can_grow (put_known shown c.addresses_fit.ensures.within c.requires.table) c.args.key c.args.count
-          shown.is_key.place shown.shows.quiet c.requires.few c.requires.over;
+          shown.is_key.place (next_is_young shown.shows)
+          (known_map_may (put_known shown c.addresses_fit.ensures.within c.requires.table)
+          (shown_may_change shown.shows)) c.requires.few c.requires.over;
     }
 
 pub returns : goal.returns

@@ -1,5 +1,6 @@
 -- The pair is removed, and the heap is whole again.
 use Rattle.std.proofs.Common.{arith}
+use Rattle.ephemeron_table.proofs.KnownClaims.{idle_may_change_each, known_map_may, known_pairs_may}
 use Rattle.ephemeron_table.proofs.KnownTables.{keys_beside, map_beside}
 use Rattle.ephemeron_table.proofs.TablesRead.{count_within}
 use Rattle.ephemeron_table.proofs.RemovedPairs.{known_map, place_below, counts_some, removes_pair}
@@ -9,6 +10,21 @@ pub remove_pair-requires-clause-place : goal.remove_pair-requires-clause-place
 remove_pair-requires-clause-place c =
     let there = c.requires.there in
     place_below c.table_of-table.result c.table_of-table.ensures there.2 there.3
+
+pub remove_pair-requires-clause-may : goal.remove_pair-requires-clause-may
+remove_pair-requires-clause-may c =
+    let there = c.requires.there in
+    let known = known_map c.table_of-table.result c.requires.whole c.requires.tied
+    c.addresses_fit.ensures.within there.2 c.table_of-table.ensures in
+    let below = place_below c.table_of-table.result c.table_of-table.ensures there.2 there.3 in
+    known_pairs_may known (idle_may_change_each c.requires.may_store) (omega (arith, below))
+
+pub remove_pair-requires-clause-counts : goal.remove_pair-requires-clause-counts
+remove_pair-requires-clause-counts c =
+    let there = c.requires.there in
+    let known = known_map c.table_of-table.result c.requires.whole c.requires.tied
+    c.addresses_fit.ensures.within there.2 c.table_of-table.ensures in
+    known_map_may known (idle_may_change_each c.requires.may_store)
 
 pub remove_pair-requires-clause-keys : goal.remove_pair-requires-clause-keys
 remove_pair-requires-clause-keys c =
@@ -45,5 +61,5 @@ returns c before has =
     let there = c.requires.there in
     let known = known_map c.table_of-table.result c.requires.whole c.requires.tied
     c.addresses_fit.ensures.within there.2 c.table_of-table.ensures in
-    removes_pair known before has there.2 there.3 c.remove_pair.ensures c.requires.whole.quiet
+    removes_pair known before has there.2 there.3 c.remove_pair.ensures
     c.laws_of_pairs.ensures.own

@@ -4,6 +4,7 @@ use Rattle.object_cells.proofs.CellsRead.{place_before_marks}
 use Rattle.ephemeron_table.proofs.EntryPairs.{entry_counted, entry_pair}
 use Rattle.ephemeron_table.proofs.KeysFound.{weak_shown, shown_there, key_told}
 use Rattle.ephemeron_table.proofs.KeysProbed.{comes_within, none_at_free, none_passed}
+use Rattle.ephemeron_table.proofs.KnownClaims.{known_map_may, known_pairs_may, shown_may_change}
 use Rattle.ephemeron_table.proofs.KnownTables.{keys_beside, map_beside, shown_known}
 use Rattle.ephemeron_table.proofs.TablesRead.{count_within}
 use Rattle.ephemeron_table.proofs.DeletedPairs.{deletes_nothing, deletes_pair}
@@ -19,6 +20,19 @@ number_at-requires c =
 
 pub remove_pair-requires-clause-place : goal.remove_pair-requires-clause-place
 remove_pair-requires-clause-place c = comes_within c.in-Key.ensures.0
+
+pub remove_pair-requires-clause-may : goal.remove_pair-requires-clause-may
+remove_pair-requires-clause-may c =
+    let shown = c.requires.shown in
+    let below = comes_within c.in-Key.ensures.0 in
+    known_pairs_may (shown_known shown.shows shown.is c.addresses_fit.ensures.within c.table_of-table.ensures)
+    (shown_may_change shown.shows) (omega (arith, below))
+
+pub remove_pair-requires-clause-counts : goal.remove_pair-requires-clause-counts
+remove_pair-requires-clause-counts c =
+    let shown = c.requires.shown in
+    known_map_may (shown_known shown.shows shown.is c.addresses_fit.ensures.within c.table_of-table.ensures)
+    (shown_may_change shown.shows)
 
 pub remove_pair-requires-clause-keys : goal.remove_pair-requires-clause-keys
 remove_pair-requires-clause-keys c =

@@ -3,6 +3,7 @@ use Rattle.std.proofs.Common.{◌+◌, unwrap_or, sym, ◌∙◌, ap, subst}
 use Rattle.tagged_word.specs.Readings.{reference_in}
 use Rattle.write_barrier.specs.MutatorState.{Mutator}
 use Rattle.ephemeron_table.specs.Rehashing.{RehashesPairs}
+use Rattle.ephemeron_table.proofs.ClaimedMaps.{pairs_may_still}
 use Rattle.ephemeron_table.proofs.RehashedTables.{rehashing_begins, rehashing_free, rehashing_key, rehashing_passes}
 use Rattle.ephemeron_table.proofs.RehashedTables.{rehashing_inserts}
 use Rattle.ephemeron_table.proofs.RehashedTables.{next_read}
@@ -12,6 +13,9 @@ use Rattle.ephemeron_table.proofs.growing.rehash.Goals.{in-Some, in_default}
 
 pub loop-at-init : goal.loop-at-init
 loop-at-init c = rehashing_begins c.args.main.now c.args.from c.args.to c.requires.empty
+
+pub insert_rehashed-requires-clause-may : goal.insert_rehashed-requires-clause-may
+insert_rehashed-requires-clause-may c = pairs_may_still c.loop-at.invariant.changes.stores c.requires.may
 
 pub insert_rehashed-requires-clause-key : goal.insert_rehashed-requires-clause-key
 insert_rehashed-requires-clause-key c =

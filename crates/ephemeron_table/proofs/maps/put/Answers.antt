@@ -1,9 +1,11 @@
 -- An entry is put: where the key is there, in its pair.
-use Rattle.std.proofs.Common.{◌∙◌}
+use Rattle.std.proofs.Common.{◌∙◌, arith}
 use Rattle.object_cells.proofs.CellsRead.{place_before_marks}
 use Rattle.ephemeron_table.proofs.KeysFound.{weak_shown, shown_there}
 use Rattle.ephemeron_table.proofs.KeysProbed.{comes_within}
 use Rattle.ephemeron_table.proofs.EntryPairs.{entry_pair}
+use Rattle.ephemeron_table.proofs.KnownClaims.{known_pairs_may, shown_box_may, shown_may_change}
+use Rattle.ephemeron_table.proofs.KnownTables.{shown_known}
 use Rattle.ephemeron_table.proofs.PutKeys.{value_before}
 use Rattle.ephemeron_table.proofs.maps.put.Goals as goal
 
@@ -21,6 +23,21 @@ put_there-requires-clause-held c =
     c.addresses_fit.ensures.within c.table_of-table.ensures (comes_within c.in-Key.ensures.0)
     (c.in-Key.ensures.1 ∙ c.reference.ensures) in
     value_before has c.args.value
+
+pub put_there-requires-clause-may : goal.put_there-requires-clause-may
+put_there-requires-clause-may c =
+    let shown = c.requires.shown in
+    let below = comes_within c.in-Key.ensures.0 in
+    known_pairs_may (shown_known shown.shows shown.is c.addresses_fit.ensures.within c.table_of-table.ensures)
+    (shown_may_change shown.shows) (omega (arith, below))
+
+pub put_there-requires-clause-boxed : goal.put_there-requires-clause-boxed
+put_there-requires-clause-boxed c =
+    let shown = c.requires.shown in
+    let has = entry_pair c.table_of-table.result c.in-Key.place shown.shows shown.is shown.is_key
+    c.addresses_fit.ensures.within c.table_of-table.ensures (comes_within c.in-Key.ensures.0)
+    (c.in-Key.ensures.1 ∙ c.reference.ensures) in
+    shown_box_may _ _ shown.shows (value_before has c.args.value)
 
 pub returns-in-Key : goal.returns-in-Key
 returns-in-Key c =

@@ -6,6 +6,9 @@ use Rattle.write_barrier.specs.MutatorState.{heap_of}
 use Rattle.weak_pairs.specs.Tables as tables
 use Rattle.ephemeron_table.specs.Probes.{EndsNew}
 use Rattle.ephemeron_table.proofs.FullTables.{put_known, over_nowhere, counted_within}
+use Rattle.write_barrier.proofs.StoresOn.{next_is_young}
+use Rattle.ephemeron_table.proofs.KeysProbed.{comes_within}
+use Rattle.ephemeron_table.proofs.KnownClaims.{known_map_may, known_pairs_may, shown_may_change}
 use Rattle.ephemeron_table.proofs.KeysFound.{weak_shown, shown_there, number_is}
 use Rattle.ephemeron_table.proofs.NewEntries.{refuses_entry, refuses_pair}
 use Rattle.ephemeron_table.proofs.NewKeys.{lacks_new}
@@ -37,6 +40,23 @@ returns-then-count-ge-ENTRIES_MOST c graph weak number what shows is is_key held
       entry = refuses_entry what c.slot-count.result lacks read many;
       pairs = λ before has. refuses_pair c.args.value c.slot-count.result lacks read many has;
     }
+
+pub put_free-requires-clause-may : goal.put_free-requires-clause-may
+put_free-requires-clause-may c =
+    let shown = c.requires.shown in
+    let ends = subst (EndsNew (heap_of c.args.main.now) c.args.table
+    (tables.number_at (heap_of c.args.main.now) c.args.key) (reference_word c.args.key)) c.in-Some.is c.requires.ends in
+    let below = comes_within ends.0 in
+    known_pairs_may (put_known shown c.addresses_fit.ensures.within c.requires.table) (shown_may_change shown.shows)
+    (omega (arith, below))
+
+pub put_free-requires-clause-counts : goal.put_free-requires-clause-counts
+put_free-requires-clause-counts c =
+    let shown = c.requires.shown in
+    known_map_may (put_known shown c.addresses_fit.ensures.within c.requires.table) (shown_may_change shown.shows)
+
+pub put_free-requires-clause-young : goal.put_free-requires-clause-young
+put_free-requires-clause-young c = next_is_young c.requires.shown.shows
 
 pub put_free-requires-clause-map : goal.put_free-requires-clause-map
 put_free-requires-clause-map c =

@@ -1,26 +1,48 @@
 -- The box that is made stands in the words that were reserved; the pair's words are slots, and the count is none.
-use Rattle.std.proofs.Common.{◌≡◌, ◌+◌, ◌<◌, ap, ◌∙◌, subst, arith, rules}
+use Rattle.std.proofs.Common.{◌≡◌, ◌+◌, ◌<◌, sym, ap, ◌∙◌, subst, arith, rules}
 use Rattle.page_space.specs.Extents.{Space, marks_start}
 use Rattle.write_barrier.specs.Seats.{RestStays}
 use Rattle.write_barrier.specs.Staying.{rest_stays_again}
 use Rattle.write_barrier.specs.MutatorState.{Mutator}
 use Rattle.write_barrier.specs.Recording.{Touches}
+use Rattle.write_barrier.specs.Storing.{IsMadeYoung, StoresOn}
 use Rattle.write_barrier.proofs.Recording.{then_touch}
+use Rattle.write_barrier.proofs.StoresOn.{made_young_stays, stores_on_again, stores_on_itself}
 use Rattle.object_cells.specs.declared.content.SlotContent.{SlotContent}
 use Rattle.object_cells.specs.Contents.{next_at}
 use Rattle.object_cells.specs.Made.{content_need, content_touch, store_content}
 use Rattle.object_cells.proofs.RestOfWords.{reserved_rest, put_rest}
 use Rattle.object_cells.proofs.TouchedWords.{content_reserved, then_wiped}
-use Rattle.object_cells.proofs.UnusedWords.{run_before_marks}
+use Rattle.object_cells.proofs.UnusedWords.{run_before_layouts}
+use Rattle.ephemeron_table.proofs.ClaimedMaps.{count_may_put, count_stores_on, map_may_still, pairs_may_still}
+use Rattle.ephemeron_table.proofs.ClaimedMaps.{used_stores_on}
 use Rattle.ephemeron_table.proofs.putting.put_in_table.Goals as goal
 
 pub boxed_word-word-requires-clause-within : goal.boxed_word-word-requires-clause-within
 boxed_word-word-requires-clause-within c v boxed =
     let need : c.need_of.result ≡ 2 = c.need_of.ensures ∙ ap content_need boxed in
     let space = ap (λ (main : Mutator). main.seat.space) c.in_ok-box_at.ensures.reserved in
-    let before = run_before_marks c.args.main.now c.need_of.result c.in_ok-box_at.box_at c.room_for.new.main.seat.space
-    c.requires.tied c.in_ok-box_at.ensures.room (c.in_ok-box_at.ensures.at (omega arith)) space in
+    let before = run_before_layouts c.args.main.now c.need_of.result c.in_ok-box_at.box_at
+    c.room_for.new.main.seat.space c.requires.tied c.in_ok-box_at.ensures.room
+    (c.in_ok-box_at.ensures.at (omega arith)) space in
     omega (arith, before, need)
+
+pub boxed_word-word-requires-clause-young : goal.boxed_word-word-requires-clause-young
+boxed_word-word-requires-clause-young c v boxed =
+    let need : c.need_of.result ≡ 2 = c.need_of.ensures ∙ ap content_need boxed in
+    let used : StoresOn c.args.main.now c.room_for.new.main =
+    used_stores_on c.need_of.result c.in_ok-box_at.ensures.reserved (stores_on_itself c.room_for.new.main) in
+    made_young_stays used
+    (subst (IsMadeYoung c.args.main.now) (sym (c.in_ok-box_at.ensures.at (omega arith))) c.requires.young)
+
+pub put_pair-requires-clause-may : goal.put_pair-requires-clause-may
+put_pair-requires-clause-may c =
+    pairs_may_still (used_stores_on _ c.in_ok-box_at.ensures.reserved c.boxed_word-word.ensures.stores) c.requires.may
+
+pub write_slot-requires-clause-may_store : goal.write_slot-requires-clause-may_store
+write_slot-requires-clause-may_store c =
+    count_may_put _ (map_may_still (stores_on_again (used_stores_on _ c.in_ok-box_at.ensures.reserved
+    c.boxed_word-word.ensures.stores) c.put_pair.ensures.stores) c.requires.counts)
 
 pub returns-clause-ok : goal.returns-clause-ok
 returns-clause-ok c =
@@ -53,4 +75,6 @@ returns-clause-ok c =
       };
       touches = then_wiped (c.args.map + 2) (c.args.count + 1) (then_touch first c.put_pair.ensures.touches)
           c.write_slot.ensures.written before;
+      stores = count_stores_on _ c.requires.counts (stores_on_again (used_stores_on _ c.in_ok-box_at.ensures.reserved
+          c.boxed_word-word.ensures.stores) c.put_pair.ensures.stores) c.write_slot.ensures.written;
     }

@@ -9,6 +9,7 @@ use Rattle.object_cells.proofs.CellsRead.{fits_address}
 use Rattle.weak_pairs.specs.Tables.{numbers, pairs_of}
 use Rattle.weak_pairs.proofs.PairLists.{pairs_read}
 use Rattle.ephemeron_table.proofs.ChangedPairs.{nothing_changed, pair_changed}
+use Rattle.ephemeron_table.proofs.ClaimedMaps.{pairs_may_still}
 use Rattle.weak_pairs.proofs.BackwardShifts.{shift_begins, read, key_beside, numbers_long, hole_below, stays_below}
 use Rattle.weak_pairs.proofs.BackwardShifts.{ends_here, passes_on, moves_on, less_left}
 use Rattle.ephemeron_table.proofs.TableBounds.{none_from_not_some, table_within}
@@ -96,6 +97,9 @@ loop-passed-preserved-then-steps-passed c =
           c.number_at-number.result c.steps.result c.number_at-number.ensures c.steps.ensures c.if-steps-passed.true;
     }
 
+pub copy_pair-requires-clause-may : goal.copy_pair-requires-clause-may
+copy_pair-requires-clause-may c = pairs_may_still c.loop-passed.invariant.changes.stores c.requires.may
+
 pub copy_pair-requires-clause-to : goal.copy_pair-requires-clause-to
 copy_pair-requires-clause-to c =
     let within = table_within c.args.main.now c.args.table c.requires.within c.addresses_fit.ensures.heap_counted in
@@ -130,7 +134,7 @@ loop-passed-preserved c =
     record {
       changes = pair_changed c.args.table c.loop-passed.hole _ far.changes (hole_below (heap_of c.args.main.now)
           (heap_of c.loop-passed.main) c.args.table within far.changes.long far.shifting)
-          c.copy_pair.ensures.puts c.copy_pair.ensures.touches;
+          c.copy_pair.ensures.puts c.copy_pair.ensures.touches c.copy_pair.ensures.stores;
       cycle = c.copy_pair.ensures.cycle ∙ far.cycle;
       shifting = moves_on (heap_of c.args.main.now) (heap_of c.loop-passed.main) c.args.table within far.changes.long
           far.shifting next few c.place-next.ensures far.changes.beside c.in-Some.key refers c.requires.keys

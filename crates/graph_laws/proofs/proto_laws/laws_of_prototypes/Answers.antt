@@ -3,6 +3,7 @@ use Rattle.graph_laws.proofs.ProtoChains.{ring_leads}
 use Rattle.graph_laws.proofs.ReachedProtos.{proto_is_reached}
 use Rattle.graph_laws.proofs.NewProtos.{with_proto_is_graph, refused_makes_ring}
 use Rattle.graph_laws.proofs.NearestFields.{nearest_is_found, none_is_found}
+use Rattle.graph_laws.proofs.ProtoSteps.{none_makes_no_ring, gets_are_nearest, protos_are_given}
 use Rattle.graph_laws.proofs.proto_laws.laws_of_prototypes.Goals as goal
 
 pub returns : goal.returns
@@ -18,4 +19,7 @@ returns c = record {
   refused_make_rings = refused_makes_ring;
   nearest_is_found = nearest_is_found;
   none_is_found = none_is_found;
+  none_makes_no_ring = none_makes_no_ring;
+  gets_are_nearest = gets_are_nearest;
+  protos_are_given = protos_are_given;
 }

@@ -8,6 +8,7 @@ use Rattle.heap_model.specs.Needs.{capacity_at}
 use Rattle.object_cells.proofs.ListCells.{list_shown, shown_there, shown_ready, count_shown}
 use Rattle.object_cells.proofs.ListChanging.{changing}
 use Rattle.list_store.proofs.PushNeeds.{push_need_is}
+use Rattle.list_store.proofs.PushSteps.{may_push}
 use Rattle.list_store.proofs.PushOutcomes.{has_pushed}
 use Rattle.list_store.proofs.pushing.push.Goals as goal
 
@@ -21,6 +22,10 @@ returns-then-count-ge-ELEMENTS_MOST c graph one what shows is holds =
 pub push_value-requires-clause-ready : goal.push_value-requires-clause-ready
 push_value-requires-clause-ready c =
     shown_ready c.requires.shows (list_shown c.requires.shows c.requires.is) c.count_of-count.ensures.counted
+
+pub push_value-requires-clause-may : goal.push_value-requires-clause-may
+push_value-requires-clause-may c =
+    may_push c.requires.shows c.requires.is c.requires.is_held c.addresses_fit.ensures.fit
 
 pub returns-in-Ok : goal.returns-in-Ok
 returns-in-Ok c graph one what shows is holds =

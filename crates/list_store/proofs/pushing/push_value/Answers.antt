@@ -10,7 +10,7 @@ use Rattle.list_store.proofs.PushNeeds.{need_to_store, need_to_new_store}
 use Rattle.list_store.proofs.pushing.push_value.Goals as goal
 
 pub store_of-store-requires-clause-there : goal.store_of-store-requires-clause-there
-store_of-store-requires-clause-there c = list_beside c.requires.ready.whole.whole c.requires.ready.there
+store_of-store-requires-clause-there c = list_beside c.requires.ready.whole c.requires.ready.there
 
 pub push_to_new_store-requires-clause-full : goal.push_to_new_store-requires-clause-full
 push_to_new_store-requires-clause-full c =

@@ -16,6 +16,8 @@ use Rattle.object_cells.proofs.ListCells.{store_has_room}
 use Rattle.object_cells.proofs.ElementsRead.{place_below, slot_read}
 use Rattle.object_cells.proofs.NamedPlaces.{index_named, place_stands}
 use Rattle.object_cells.proofs.ListChanging.{changing}
+use Rattle.object_cells.proofs.FillsOn.{may_fill}
+use Rattle.list_store.proofs.PutsInCycle.{can_put}
 use Rattle.list_store.proofs.PutOutcomes.{need_to_put, has_put}
 use Rattle.list_store.proofs.putting.put.Goals as goal
 
@@ -53,6 +55,21 @@ fill_slot-requires-clause-held c =
     held_before heap _ (store_content c.args.value)
     (subst (IsSlotWord heap) (sym (ap (λ found. unwrap_or found 0) read.stands)) read.is)
 
+pub fill_slot-requires-clause-may : goal.fill_slot-requires-clause-may
+fill_slot-requires-clause-may c =
+    let asked = c.requires in
+    let fits : FitsHeld c.args.value = search rules in
+    let old = c.args.main.now in
+    let store = c.store_of-store.result in
+    let place : ℕ = c.in-Some.place in
+    let ready = shown_ready asked.shows (list_shown asked.shows asked.is) c.count_of.ensures.counted in
+    let below = place_below c.count_of.result place _ (sym c.checked_index.ensures ∙ c.in-Some.is) in
+    let stands = place_stands store place ready c.store_of-store.ensures below in
+    let at : ℕ = store.at + (2 + place) in
+    may_fill old at (filling_at old at (store_content c.args.value))
+    (can_put store place (changing c.args.value asked.shows asked.is asked.is_held fits) c.store_of-store.ensures
+    stands.below c.addresses_fit.ensures.fit)
+
 pub returns-in-Ok : goal.returns-in-Ok
 returns-in-Ok c graph one what shows is holds =
     let old = c.args.main.now in
@@ -76,7 +93,7 @@ returns-in-Ok c graph one what shows is holds =
       has_put store place known c.store_of-store.ensures stands.below (omega (arith, below, counted))
           (omega (arith, counted, c.count_of.ensures.few))
           (omega (arith, counted, store_has_room store ready c.store_of-store.ensures))
-          c.addresses_fit.ensures.within fills by,
+          c.addresses_fit.ensures.within c.addresses_fit.ensures.fit fills by,
     )
 
 pub returns-in-Err : goal.returns-in-Err

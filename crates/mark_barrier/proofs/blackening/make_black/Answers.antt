@@ -58,10 +58,12 @@ shade_slots-requires c =
     let other : number_of c.blacken.result ≢ black = λ e. c.in_default.not-Black (black_is c.blacken.result e) in
     let reads = subst (λ (s : Seat). own_cell s.space s.table c.args.at ≡ Some (reading_of c.known_cell-cell.result))
     (sym is) c.known_cell-cell.ensures.reads in
+    let found = subst (λ (s : Seat). (overview s).home ≡ true → number_of c.blacken.result
+    ≡ slice_index (overview s).colours c.args.at) c.sound.ensures.same c.blacken.ensures.home in
     record {
       mark = subst (λ (s : Seat). s.phase ≡ Mark) is c.requires.mark;
       lists = subst (λ (s : Seat). ListsGrey s c.args.grey.now) is
-          (black_lists now c.args.at c.blacken.result c.args.grey.now c.requires.lists);
+          (black_lists now c.args.at c.blacken.result c.args.grey.now found c.requires.lists);
       owes = subst (λ (s : Seat). Owes s c.known_cell-cell.result 0) is
           (black_owes now c.args.at c.sound.ensures.sound c.requires.born mine c.requires.layouts
           c.known_cell-cell.result c.known_cell-cell.ensures.at reads c.blacken.result other c.requires.owed);
@@ -72,8 +74,10 @@ returns-in-Black-clause-paid c =
     let now : Seat = c.args.seat.now in
     let is = after_is now c.sound.new.self c.blacken.new.self c.sound.ensures.same c.args.at c.blacken.result
     c.blacken.ensures.blackened in
+    let found = subst (λ (s : Seat). (overview s).home ≡ true → number_of c.blacken.result
+    ≡ slice_index (overview s).colours c.args.at) c.sound.ensures.same c.blacken.ensures.home in
     subst (λ (s : Seat). IsPaid s c.args.grey.now) is (record {
-      lists = black_lists now c.args.at c.blacken.result c.args.grey.now c.requires.lists;
+      lists = black_lists now c.args.at c.blacken.result c.args.grey.now found c.requires.lists;
       owed = black_owed now c.args.at c.blacken.result (ap number_of c.in-Black.is) ∙ c.requires.owed;
     })
 

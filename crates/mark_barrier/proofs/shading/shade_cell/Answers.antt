@@ -30,7 +30,7 @@ returns-in-White-clause-lists c =
     (white_listed c.args.seat.now (waiting_in c.grey.inside) now c.args.at
     (subst (ListsGrey c.args.seat.now) (sym c.grey.view_is) c.requires.lists)
     (adds_listed c.grey.inside.list c.add.new.self c.grey.inside.passed c.args.at c.add.ensures.bound
-    c.add.ensures.members) (number_of c.shade.result) (ap number_of is_white) c.requires.born)
+    c.add.ensures.members) (number_of c.shade.result) c.shade.ensures.home (ap number_of is_white) c.requires.born)
 
 pub returns-in-White-clause-passed : goal.returns-in-White-clause-passed
 returns-in-White-clause-passed c = ap (λ (w : Waiting). w.passed) c.grey.view_is
@@ -43,7 +43,7 @@ returns-in_default c =
     let owed : List ℕ = left (overview before).view.owed c.args.at in
     record {
       lists = subst (λ (s : Seat). ListsGrey s c.args.grey.now) (sym c.shade.ensures.shaded)
-          (other_listed before c.args.grey.now c.args.at found c.requires.lists other);
+          (other_listed before c.args.grey.now c.args.at found c.requires.lists c.shade.ensures.home other);
       passed = refl;
       owed = subst (λ (s : Seat). (overview s).view.owed ≡ owed) (sym c.shade.ensures.shaded) refl;
       steps = subst (λ (s : Seat). StepsTo before s before.table (sure_of (cycle_in before) c.args.at))

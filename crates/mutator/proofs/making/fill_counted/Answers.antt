@@ -7,7 +7,8 @@ use Rattle.write_barrier.specs.Seats.{Seat, heap_words}
 use Rattle.write_barrier.specs.MutatorState.{Mutator, with_slot}
 use Rattle.write_barrier.specs.Recording.{Touches, touched}
 use Rattle.write_barrier.proofs.Recording.{then_touch, word_touch}
-use Rattle.mutator.proofs.PutRows.{PutsTwo, counted_after, two_touch, two_counted, two_paths, two_seat, two_young}
+use Rattle.mutator.proofs.PutRows.{PutsTwo, counted_after, two_touch, two_counted, two_cycle, two_paths, two_seat}
+use Rattle.mutator.proofs.PutRows.{two_young, young_may}
 use Rattle.mutator.proofs.PutWords.{three_in_a_row}
 use Rattle.mutator.proofs.making.fill_counted.Goals as goal
 
@@ -22,6 +23,23 @@ two c = record {
       c.set_header.ensures.written c.set_header.ensures.heap c.addresses_fit.ensures.heap_counted;
   within = omega (arith, c.requires.within);
 }
+
+pub set_header-requires-clause-may_store : goal.set_header-requires-clause-may_store
+set_header-requires-clause-may_store c of_page mark =
+    let from = c.requires.young mark in absurd (omega (arith, from, of_page))
+
+pub store-requires-clause-may_store : goal.store-requires-clause-may_store
+store-requires-clause-may_store c =
+    young_may c.args.main.now (ap (λ (now : Mutator). now.seat.space) c.set_header.ensures.written)
+    (ap (λ (now : Mutator). now.seat.phase) c.set_header.ensures.written) (omega arith) c.requires.young
+
+pub write_slot-requires-clause-may_store : goal.write_slot-requires-clause-may_store
+write_slot-requires-clause-may_store c =
+    young_may c.args.main.now
+    (ap (λ (now : Mutator). now.seat.space) c.store.ensures.stored
+    ∙ ap (λ (now : Mutator). now.seat.space) c.set_header.ensures.written)
+    (ap (λ (now : Mutator). now.seat.phase) c.store.ensures.stored
+    ∙ ap (λ (now : Mutator). now.seat.phase) c.set_header.ensures.written) (omega arith) c.requires.young
 
 pub returns-clause-filled : goal.returns-clause-filled
 returns-clause-filled c =
@@ -69,6 +87,11 @@ pub returns-clause-paths : goal.returns-clause-paths
 returns-clause-paths c =
     ap (λ (now : Mutator). now.paths) c.write_slot.ensures.written
     ∙ two_paths (two c)
+
+pub returns-clause-cycle : goal.returns-clause-cycle
+returns-clause-cycle c =
+    ap (λ (now : Mutator). now.cycle) c.write_slot.ensures.written
+    ∙ two_cycle (two c) c.addresses_fit.ensures.bounded c.requires.young
 
 pub returns-clause-young : goal.returns-clause-young
 returns-clause-young c =

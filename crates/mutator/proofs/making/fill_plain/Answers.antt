@@ -4,7 +4,7 @@ use Rattle.std.specs.Prelude.{slice_set}
 use Rattle.std.proofs.lemmas.List.{length-replicate}
 use Rattle.tagged_word.specs.Headers.{header_bits}
 use Rattle.tagged_word.specs.Cells.{plain_head, proto_slot}
-use Rattle.page_space.specs.Extents.{marks_start}
+use Rattle.page_space.specs.Extents.{eden_start, marks_start}
 use Rattle.heap_model.specs.Remembered.{Touch}
 use Rattle.heap_model.specs.Slots.{hole_word, undefined_word}
 use Rattle.write_barrier.specs.Seats.{Seat, heap_words}
@@ -15,7 +15,8 @@ use Rattle.write_barrier.proofs.PutRanges.{with_range-put}
 use Rattle.write_barrier.proofs.Recording.{slot_touch, then_touch}
 use Rattle.mutator.specs.Making.{head_touch}
 use Rattle.mutator.proofs.PutRows.{PutsTwo, counted_after, head_grows, row_seat, two_counted, two_paths, two_touch}
-use Rattle.mutator.proofs.PutRows.{two_young, others_wiped}
+use Rattle.mutator.proofs.PutRows.{two_bound, two_cycle, two_phase, two_space, two_young, others_wiped}
+use Rattle.mutator.proofs.PutRows.{young_may, young_slot_keeps}
 use Rattle.mutator.proofs.making.fill_plain.Goals as goal
 
 -- the header and the slot for a store are put
@@ -53,6 +54,36 @@ third_counted c =
 -- the slots behind them
 abbrev holes : goal.After-fill_holes → List ℕ
 holes c = replicate c.args.cap hole_word
+
+pub set_header-requires-clause-may_store : goal.set_header-requires-clause-may_store
+set_header-requires-clause-may_store c of_page mark =
+    let from = c.requires.young mark in absurd (omega (arith, from, of_page))
+
+pub store-requires-clause-may_store : goal.store-requires-clause-may_store
+store-requires-clause-may_store c =
+    young_may c.args.main.now (ap (λ (now : Mutator). now.seat.space) c.set_header.ensures.written)
+    (ap (λ (now : Mutator). now.seat.phase) c.set_header.ensures.written) (omega arith) c.requires.young
+
+pub fill_holes-requires-clause-may_store : goal.fill_holes-requires-clause-may_store
+fill_holes-requires-clause-may_store c of_page mark =
+    let stored = c.store-2.ensures.stored in
+    let space = ap (λ (now : Mutator). eden_start now.seat.space) stored
+    ∙ ap (λ (now : Mutator). eden_start now.seat.space) c.store.ensures.stored
+    ∙ ap (λ (now : Mutator). eden_start now.seat.space) c.set_header.ensures.written in
+    let phase = ap (λ (now : Mutator). now.seat.phase) stored
+    ∙ ap (λ (now : Mutator). now.seat.phase) c.store.ensures.stored
+    ∙ ap (λ (now : Mutator). now.seat.phase) c.set_header.ensures.written in
+    let from = c.requires.young (sym phase ∙ mark) in
+    absurd (omega (arith, from, of_page, space))
+
+pub returns-clause-cycle : goal.returns-clause-cycle
+returns-clause-cycle c =
+    let bounded = c.addresses_fit.ensures.bounded in
+    ap (λ (now : Mutator). now.cycle) c.fill_holes.ensures.filled
+    ∙ young_slot_keeps c.store.new.self undefined_word (two_bound (two c) bounded) (λ mark.
+    let from = c.requires.young (sym (two_phase (two c)) ∙ mark) in
+    omega (arith, from, ap eden_start (two_space (two c)))) (third c)
+    ∙ two_cycle (two c) bounded c.requires.young
 
 pub returns-clause-filled : goal.returns-clause-filled
 returns-clause-filled c =

@@ -5,15 +5,22 @@ use Rattle.page_space.proofs.Starts.{roots_start_is}
 use Rattle.handle_roots.specs.Roots.{root_at}
 use Rattle.heap_model.specs.Types.{Header}
 use Rattle.write_barrier.specs.MutatorState.{Mutator, reserved}
+use Rattle.write_barrier.specs.Storing.{IsMadeYoung}
 use Rattle.mutator.specs.declared.stop.Stop.TheVariants.{NoRoom}
 use Rattle.mutator.proofs.BoundFirst.{BindsFirst, makes_first}
 use Rattle.mutator.proofs.EmptyCounted.{IsCountedKind, counted_cell, kind_of_counted, object_of_counted, is_counted}
 use Rattle.mutator.proofs.MadeCells.{counted_making, counted_made}
-use Rattle.mutator.proofs.MadeHeaps.{binds_made}
+use Rattle.mutator.proofs.MadeHeaps.{binds_made, run_is_young}
 use Rattle.mutator.proofs.MadeObjects.{making_carried, making_stopped}
 use Rattle.mutator.proofs.StoppedBy.{stopped_with}
 use Rattle.mutator.specs.Making.{making_of}
 use Rattle.mutator.proofs.making.new_counted.Goals as goal
+
+pub fill_counted-requires-clause-young : goal.fill_counted-requires-clause-young
+fill_counted-requires-clause-young g c =
+    let (graph, shows, made) = c.requires.shown in
+    let taken = run_is_young 3 c.in_ok-run.ensures.reserved c.in_ok-run.ensures.run.at shows in
+    subst (λ (main : Mutator). IsMadeYoung main c.in_ok-run.run'.at) (sym c.hold.ensures.held) taken
 
 pub returns : goal.returns
 returns g c =
@@ -36,6 +43,7 @@ returns g c =
       put = c.fill_counted.ensures.filled;
       paths = c.fill_counted.ensures.paths;
       young = c.fill_counted.ensures.young;
+      cycle = c.fill_counted.ensures.cycle;
       touches = c.fill_counted.ensures.touches;
       within = omega (
         arith,

@@ -1,15 +1,21 @@
 -- The new object: its cell is put and bound, or there is no room for it.
-use Rattle.std.proofs.Common.{[], refl, subst, arith}
+use Rattle.std.proofs.Common.{◌+◌, [], refl, subst, arith}
 use Rattle.heap_model.specs.Types.{Header}
+use Rattle.tagged_word.specs.Cells.{plain_head}
 use Rattle.heap_command.specs.declared.command.Command.TheVariants.{New}
 use Rattle.shape_tree.specs.Shapes.{IsShapeOf}
 use Rattle.mutator.specs.declared.stop.Stop.TheVariants.{NoRoom}
 use Rattle.mutator.proofs.EmptyCells.{length-empty_plain, plain_cell}
 use Rattle.mutator.proofs.MadeCells.{plain_making, plain_made}
-use Rattle.mutator.proofs.MadeHeaps.{MakesObject, binds_made}
+use Rattle.mutator.proofs.MadeHeaps.{MakesObject, binds_made, run_is_young}
 use Rattle.mutator.proofs.MadeObjects.{making_carried, making_stopped}
 use Rattle.mutator.proofs.StoppedBy.{stopped_with}
 use Rattle.mutator.proofs.making.new_plain.Goals as goal
+
+pub fill_plain-requires-clause-young : goal.fill_plain-requires-clause-young
+fill_plain-requires-clause-young c =
+    let (graph, shows, made) = c.requires.shown in
+    run_is_young (plain_head + c.args.cap) c.in_ok-run.ensures.reserved c.in_ok-run.ensures.run.at shows
 
 pub returns : goal.returns
 returns c =
@@ -22,6 +28,7 @@ returns c =
       heap = c.fill_plain.ensures.heap;
       paths = c.fill_plain.ensures.paths;
       young = c.fill_plain.ensures.young;
+      cycle = c.fill_plain.ensures.cycle;
       touches = c.fill_plain.ensures.touches;
       holds = record { held = c.hold.ensures.held; heap = c.hold.ensures.heap };
     } in

@@ -17,7 +17,7 @@ slot-requires c =
       arith,
       slice_get_within there.words 1 there.word there.slot,
       words_are_size there.has,
-      cell_before_marks c.requires.whole.whole.sized there.has,
+      cell_before_marks c.requires.whole.sized there.has,
       there.stands,
     )
 
@@ -26,7 +26,7 @@ length_within : (c : goal.In-Some) → c.in-Some.at + 1 < marks_start c.args.mai
 length_within c =
     let one = (read_store c.args.object c.slot.result c.in-Some.at c.requires.there c.slot.ensures.of_heap
     (sym c.address.ensures ∙ c.in-Some.is)).found in
-    omega (arith, cell_before_marks c.requires.whole.whole.sized one.refers.has, one.size, one.stands)
+    omega (arith, cell_before_marks c.requires.whole.sized one.refers.has, one.size, one.stands)
 
 pub slot-requires-in-Some : goal.slot-requires-in-Some
 slot-requires-in-Some c = length_within c
@@ -41,10 +41,10 @@ overflow_cast-result c =
 
 pub returns-in-Some : goal.returns-in-Some
 returns-in-Some c =
-    store_is c.args.object c.slot.result c.in-Some.at c.slot-in-Some.result c.requires.whole.whole c.requires.there
+    store_is c.args.object c.slot.result c.in-Some.at c.slot-in-Some.result c.requires.whole c.requires.there
     c.slot.ensures.of_heap (sym c.address.ensures ∙ c.in-Some.is) c.slot-in-Some.ensures.of_heap
 
 pub returns-in-None : goal.returns-in-None
 returns-in-None c =
-    store_is_none c.args.object c.slot.result c.requires.whole.whole c.addresses_fit.ensures.within c.requires.there
+    store_is_none c.args.object c.slot.result c.requires.whole c.addresses_fit.ensures.within c.requires.there
     c.slot.ensures.of_heap (sym c.address.ensures ∙ c.in-None.is)

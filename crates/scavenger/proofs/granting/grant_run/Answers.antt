@@ -40,7 +40,7 @@ is_granted c =
     let free : Cell = taken.1 in
     let takes = subst (λ (one : Run). TakesFront old.free mid.free n one) (given c) taken.3 in
     let took = subst (λ (one : Run). CutsFreeCell old mid n one free) (given c) taken.5 in
-    run_granted c.requires.shown.1 c.requires.some c.free_runs_fit.ensures takes taken.4 took
+    run_granted c.requires.shown.1 c.requires.quiet c.requires.some c.free_runs_fit.ensures takes taken.4 took
     c.grant.ensures.young c.grant.ensures.heap c.grant.ensures.beside c.grant.ensures.paths c.grant.ensures.cycle
     c.grant.ensures.touches
 

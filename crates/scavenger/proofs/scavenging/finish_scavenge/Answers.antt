@@ -22,6 +22,7 @@ scavenge_left-requires-clause-scavenging c =
     let leaves = leaves_slots given.0 c.args.main.now c.begin-worker.new.main given.1 given.2 c.args.left.now
     c.args.copied
     c.begin-worker.result.0 c.begin-worker.result.1.progress c.begin-worker.result.1.list.items given.3
+    (λ mark. c.requires.quiet (given.4.changes.seat.phase ∙ mark))
     c.begin-worker.ensures.young given.4
     c.begin-worker.ensures.same c.begin-worker.ensures.spaces c.begin-worker.ensures.progress
     c.begin-worker.ensures.empty in
@@ -42,6 +43,7 @@ follow_all-requires-clause-limits c =
     let leaves = leaves_slots given.0 c.args.main.now c.begin-worker.new.main given.1 given.2 c.args.left.now
     c.args.copied
     c.begin-worker.result.0 c.begin-worker.result.1.progress c.begin-worker.result.1.list.items given.3
+    (λ mark. c.requires.quiet (given.4.changes.seat.phase ∙ mark))
     c.begin-worker.ensures.young given.4
     c.begin-worker.ensures.same c.begin-worker.ensures.spaces c.begin-worker.ensures.progress
     c.begin-worker.ensures.empty in
@@ -55,6 +57,7 @@ follow_all-requires-clause-tied c =
     let leaves = leaves_slots given.0 c.args.main.now c.begin-worker.new.main given.1 given.2 c.args.left.now
     c.args.copied
     c.begin-worker.result.0 c.begin-worker.result.1.progress c.begin-worker.result.1.list.items given.3
+    (λ mark. c.requires.quiet (given.4.changes.seat.phase ∙ mark))
     c.begin-worker.ensures.young given.4
     c.begin-worker.ensures.same c.begin-worker.ensures.spaces c.begin-worker.ensures.progress
     c.begin-worker.ensures.empty in
@@ -67,6 +70,7 @@ follow_all-requires-clause-scavenging c =
     let leaves = leaves_slots given.0 c.args.main.now c.begin-worker.new.main given.1 given.2 c.args.left.now
     c.args.copied
     c.begin-worker.result.0 c.begin-worker.result.1.progress c.begin-worker.result.1.list.items given.3
+    (λ mark. c.requires.quiet (given.4.changes.seat.phase ∙ mark))
     c.begin-worker.ensures.young given.4
     c.begin-worker.ensures.same c.begin-worker.ensures.spaces c.begin-worker.ensures.progress
     c.begin-worker.ensures.empty in
@@ -80,6 +84,7 @@ follow_all-requires-clause-room c =
     let leaves = leaves_slots given.0 c.args.main.now c.begin-worker.new.main given.1 given.2 c.args.left.now
     c.args.copied
     c.begin-worker.result.0 c.begin-worker.result.1.progress c.begin-worker.result.1.list.items given.3
+    (λ mark. c.requires.quiet (given.4.changes.seat.phase ∙ mark))
     c.begin-worker.ensures.young given.4
     c.begin-worker.ensures.same c.begin-worker.ensures.spaces c.begin-worker.ensures.progress
     c.begin-worker.ensures.empty in
@@ -98,6 +103,7 @@ pub returns-clause-scavenged : goal.returns-clause-scavenged
 returns-clause-scavenged c start handed graph shows hands =
     let leaves = leaves_slots start c.args.main.now c.begin-worker.new.main handed graph c.args.left.now c.args.copied
     c.begin-worker.result.0 c.begin-worker.result.1.progress c.begin-worker.result.1.list.items shows
+    (λ mark. c.requires.quiet (hands.changes.seat.phase ∙ mark))
     c.begin-worker.ensures.young hands
     c.begin-worker.ensures.same c.begin-worker.ensures.spaces c.begin-worker.ensures.progress
     c.begin-worker.ensures.empty in
@@ -111,6 +117,7 @@ pub returns-clause-keeps : goal.returns-clause-keeps
 returns-clause-keeps c start handed graph shows hands =
     let leaves = leaves_slots start c.args.main.now c.begin-worker.new.main handed graph c.args.left.now c.args.copied
     c.begin-worker.result.0 c.begin-worker.result.1.progress c.begin-worker.result.1.list.items shows
+    (λ mark. c.requires.quiet (hands.changes.seat.phase ∙ mark))
     c.begin-worker.ensures.young hands
     c.begin-worker.ensures.same c.begin-worker.ensures.spaces c.begin-worker.ensures.progress
     c.begin-worker.ensures.empty in

@@ -21,7 +21,8 @@ follow_all-requires-clause-scavenging c =
     let begun = c.begin-worker.ensures in
     let first = comes_first main c.begin-worker.new.main c.requires.shown.0 c.begin-worker.result.0 all
     c.begin-worker.result.1.progress
-    c.begin-worker.result.1.list.items c.requires.shown.1 begun.limits begun.young begun.free begun.same begun.spaces
+    c.begin-worker.result.1.list.items c.requires.shown.1 c.requires.quiet begun.limits begun.young begun.free
+    begun.same begun.spaces
     begun.progress begun.empty in (
       main,
       handed,
@@ -46,7 +47,8 @@ returns-clause-scavenged c =
     let begun = c.begin-worker.ensures in
     let first = comes_first main c.begin-worker.new.main c.requires.shown.0 c.begin-worker.result.0 all
     c.begin-worker.result.1.progress
-    c.begin-worker.result.1.list.items c.requires.shown.1 begun.limits begun.young begun.free begun.same begun.spaces
+    c.begin-worker.result.1.list.items c.requires.shown.1 c.requires.quiet begun.limits begun.young begun.free
+    begun.same begun.spaces
     begun.progress begun.empty in
     let ended = c.follow_all.ensures.ended main (nothing_handed main.seat.space) all first.are first.state
     (sym (hands_nothing _ first.state.fixed first.state.begun refl).none) in
@@ -60,7 +62,8 @@ returns-clause-alone c =
     let begun = c.begin-worker.ensures in
     let first = comes_first main c.begin-worker.new.main c.requires.shown.0 c.begin-worker.result.0 all
     c.begin-worker.result.1.progress
-    c.begin-worker.result.1.list.items c.requires.shown.1 begun.limits begun.young begun.free begun.same begun.spaces
+    c.begin-worker.result.1.list.items c.requires.shown.1 c.requires.quiet begun.limits begun.young begun.free
+    begun.same begun.spaces
     begun.progress begun.empty in
     let ended = c.follow_all.ensures.ended main (nothing_handed main.seat.space) all first.are first.state
     (sym (hands_nothing _ first.state.fixed first.state.begun refl).none) in
@@ -74,7 +77,8 @@ returns-clause-keeps c =
     let begun = c.begin-worker.ensures in
     let first = comes_first main c.begin-worker.new.main c.requires.shown.0 c.begin-worker.result.0 all
     c.begin-worker.result.1.progress
-    c.begin-worker.result.1.list.items c.requires.shown.1 begun.limits begun.young begun.free begun.same begun.spaces
+    c.begin-worker.result.1.list.items c.requires.shown.1 c.requires.quiet begun.limits begun.young begun.free
+    begun.same begun.spaces
     begun.progress begun.empty in
     let ended = c.follow_all.ensures.ended main (nothing_handed main.seat.space) all first.are first.state
     (sym (hands_nothing _ first.state.fixed first.state.begun refl).none) in

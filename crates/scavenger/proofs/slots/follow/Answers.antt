@@ -7,7 +7,6 @@ use Rattle.scavenger.specs.Following.{IsFromSpace}
 use Rattle.scavenger.proofs.CodeStores.{moved_follows}
 use Rattle.scavenger.proofs.LoopTargets.{refers_by, refers_nowhere, passed, failed, slot_before_marks, left_at_start}
 use Rattle.scavenger.proofs.LoopMoves.{done_already}
-use Rattle.write_barrier.proofs.SlotCycles.{quiet_may}
 use Rattle.scavenger.proofs.slots.follow.Goals as goal
 
 pub word-requires : goal.word-requires
@@ -60,7 +59,7 @@ store-requires-clause-may_store c =
     let moved = c.home_of-home.ensures.moved may.start may.handed c.requires.spaces.0 may.front may.scavenging
     c.args.slot
     may.place c.requires.spaces.1 may.stood refers left in
-    quiet_may moved.on.next.quiet
+    λ page mark. absurd (moved.on.next.quiet mark)
 
 pub store-requires-clause-within : goal.store-requires-clause-within
 store-requires-clause-within c =

@@ -16,7 +16,7 @@ add_own-requires-clause-can c =
     let new = c.requires.new.of_held held gives in
     subst (λ n. CanAdd old c.args.object c.args.header n c.args.new.value) (sym new.named)
     (subst (CanAdd old c.args.object c.args.header c.args.name) (sym new.value_is)
-    (can_add setting c.requires.headed c.requires.is_new new.few new.may))
+    (can_add gives.fits c.addresses_fit.ensures.within setting c.requires.headed c.requires.is_new new.few new.may))
 
 pub add_own-requires-clause-new : goal.add_own-requires-clause-new
 add_own-requires-clause-new c =
@@ -41,7 +41,8 @@ returns c held gives graph plain what shows is holds fresh =
     let new = c.requires.new.of_held held gives in
     let setting : IsShownSetting old c.args.object held =
     record { graph = graph; plain = plain; value = what; shows = shows; is = is; is_held = holds } in
-    let can = can_add setting c.requires.headed c.requires.is_new new.few new.may in
+    let can = can_add gives.fits c.addresses_fit.ensures.within setting c.requires.headed c.requires.is_new new.few
+    new.may in
     let adds : AddsField old c.add_own.new.main c.args.object c.args.header c.args.new.field.name c.args.new.value =
     AddsField.own c.requires.new.own c.add_own.ensures in
     field_is_set (adding can shows is holds (held_is_value held what shows gives.fits holds.shows) fresh)

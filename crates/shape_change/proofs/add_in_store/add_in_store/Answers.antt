@@ -35,13 +35,15 @@ store_field-requires-clause-can c =
     let new = c.in_ok-new.ensures.new in
     subst (λ n. CanAdd old c.args.object c.args.header n c.in_ok-new.new.value) (sym new.named)
     (subst (CanAdd old c.args.object c.args.header c.args.name) (sym new.value_is)
-    (can_add c.requires.shown c.requires.headed c.requires.is_new new.few new.may))
+    (can_add (search rules) c.addresses_fit.ensures.within c.requires.shown c.requires.headed c.requires.is_new new.few
+    new.may))
 
 pub returns : goal.returns
 returns c graph plain what shows is holds fresh =
     let old = c.args.main.now in
     let new = c.in_ok-new.ensures.new in
-    let can = can_add c.requires.shown c.requires.headed c.requires.is_new new.few new.may in
+    let can = can_add (search rules) c.addresses_fit.ensures.within c.requires.shown c.requires.headed
+    c.requires.is_new new.few new.may in
     let fits : FitsHeld c.args.value = search rules in
     field_is_set (adding can shows is holds (held_is_value c.args.value what shows fits holds.shows) fresh)
     c.addresses_fit.ensures.within
@@ -57,7 +59,8 @@ returns-in_err-store_field c graph plain what shows is holds fresh =
     let no_room = c.in_err-store_field.field-0.0 in
     let path = shape_path old.paths c.args.header.shape in
     let capacity = capacity_at (heap_of old) c.args.object in
-    let can = can_add c.requires.shown c.requires.headed c.requires.is_new new.few new.may in
+    let can = can_add (search rules) c.addresses_fit.ensures.within c.requires.shown c.requires.headed
+    c.requires.is_new new.few new.may in
     let fits : FitsHeld c.args.value = search rules in
     let held = adding can shows is holds (held_is_value c.args.value what shows fits holds.shows) fresh in
     let refused = subst (λ v. RefusesRoom old c.store_field.new.main

@@ -9,7 +9,7 @@ use Rattle.shape_change.proofs.add_in_store.store_field.Goals as goal
 pub store_of-store-requires-clause-there : goal.store_of-store-requires-clause-there
 store_of-store-requires-clause-there c =
     let there = c.requires.can.there in
-    let are = (plain_sound c.requires.can.whole.whole there.has there.plain).has in
+    let are = (plain_sound c.requires.can.whole there.has there.plain).has in
     record {
       cell = there.cell;
       words = there.words;

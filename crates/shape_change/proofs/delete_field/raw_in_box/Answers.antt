@@ -10,14 +10,14 @@ use Rattle.shape_change.proofs.delete_field.raw_in_box.Goals as goal
 pub unreachable-requires : goal.unreachable-requires
 unreachable-requires c =
     let refers = c.requires.boxed.1 in
-    let fits = cell_fits c.requires.whole.whole.sized c.addresses_fit.ensures.within refers.target.has in
+    let fits = cell_fits c.requires.whole.sized c.addresses_fit.ensures.within refers.target.has in
     none-some refers.cell.at
     (sym c.in-None.is ∙ c.address.ensures ∙ reference_to c.args.word.0 refers.cell.at fits refers.target.refers)
 
 pub returns : goal.returns
 returns c v refers =
     let has = refers.target.has in
-    let fits = cell_fits c.requires.whole.whole.sized c.addresses_fit.ensures.within has in
+    let fits = cell_fits c.requires.whole.sized c.addresses_fit.ensures.within has in
     let at : refers.cell.at ≡ c.in-Some.at = same_Some refers.cell.at c.in-Some.at
     (sym (reference_to c.args.word.0 refers.cell.at fits refers.target.refers) ∙ sym c.address.ensures
     ∙ c.in-Some.is) in

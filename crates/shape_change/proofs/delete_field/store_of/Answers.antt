@@ -12,7 +12,7 @@ unreachable-requires c =
     let there = c.requires.there.1 in
     let read = word_is 1 there.word c.slot.result c.args.object there.has there.stands there.slot
     c.slot.ensures.of_heap in
-    let fits = cell_fits c.requires.whole.whole.sized c.addresses_fit.ensures.within there.refers.has in
+    let fits = cell_fits c.requires.whole.sized c.addresses_fit.ensures.within there.refers.has in
     none-some there.other.at
     (sym c.in-None.is ∙ c.address.ensures ∙ ap reference_in read
     ∙ reference_to there.word there.other.at fits there.refers.refers)
@@ -22,7 +22,7 @@ returns c =
     let there = c.requires.there.1 in
     let read = word_is 1 there.word c.slot.result c.args.object there.has there.stands there.slot
     c.slot.ensures.of_heap in
-    let fits = cell_fits c.requires.whole.whole.sized c.addresses_fit.ensures.within there.refers.has in
+    let fits = cell_fits c.requires.whole.sized c.addresses_fit.ensures.within there.refers.has in
     record {
       cell = there.cell;
       words = there.words;

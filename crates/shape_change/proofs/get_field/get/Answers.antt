@@ -1,6 +1,5 @@
 -- A variable holds a field by the slot that is cached.
 use Rattle.std.proofs.Common.{arith, refl}
-use Rattle.object_cells.proofs.PlainFields.{shown_whole}
 use Rattle.shape_change.proofs.HeldByName.{held_found}
 use Rattle.shape_change.proofs.FieldsAlong.{own_held}
 use Rattle.shape_change.proofs.ShownFields.{name_is_new}
@@ -10,7 +9,7 @@ use Rattle.shape_change.proofs.get_field.get.Goals as goal
 pub own_place-place-requires-clause-whole : goal.own_place-place-requires-clause-whole
 own_place-place-requires-clause-whole o c =
     let (found, field, same, at, below) = c.in-InObject.ensures in
-    shown_whole (c.requires.plain (word_field_shape field)).shows
+    (c.requires.plain (word_field_shape field)).shows.shows.whole
 
 pub own_place-place-requires-clause-there : goal.own_place-place-requires-clause-there
 own_place-place-requires-clause-there o c =
@@ -21,7 +20,7 @@ own_place-place-requires-clause-there o c =
 pub hold_word_at-requires-clause-whole : goal.hold_word_at-requires-clause-whole
 hold_word_at-requires-clause-whole o c =
     let (found, field, same, at, below) = c.in-InObject.ensures in
-    shown_whole (c.requires.plain (word_field_shape field)).shows
+    (c.requires.plain (word_field_shape field)).shows.shows.whole
 
 pub hold_word_at-requires-clause-stands : goal.hold_word_at-requires-clause-stands
 hold_word_at-requires-clause-stands o c =
@@ -50,7 +49,7 @@ returns-in-InObject-clause-plain o c =
 pub stored_place-place-requires-clause-whole : goal.stored_place-place-requires-clause-whole
 stored_place-place-requires-clause-whole o c =
     let (found, field, same, at) = c.in-InStore.ensures in
-    shown_whole (c.requires.plain (word_field_shape field)).shows
+    (c.requires.plain (word_field_shape field)).shows.shows.whole
 
 pub stored_place-place-requires-clause-there : goal.stored_place-place-requires-clause-there
 stored_place-place-requires-clause-there o c =
@@ -61,7 +60,7 @@ stored_place-place-requires-clause-there o c =
 pub hold_word_at-requires-in-InStore-clause-whole : goal.hold_word_at-requires-in-InStore-clause-whole
 hold_word_at-requires-in-InStore-clause-whole o c =
     let (found, field, same, at) = c.in-InStore.ensures in
-    shown_whole (c.requires.plain (word_field_shape field)).shows
+    (c.requires.plain (word_field_shape field)).shows.shows.whole
 
 pub hold_word_at-requires-in-InStore-clause-stands : goal.hold_word_at-requires-in-InStore-clause-stands
 hold_word_at-requires-in-InStore-clause-stands o c =

@@ -1,7 +1,7 @@
 -- A variable holds a field of the object itself by the slot that is cached.
 use Rattle.std.proofs.Common.{refl, arith}
 use Rattle.write_barrier.proofs.Headers.{has_header}
-use Rattle.object_cells.proofs.PlainFields.{plain_shown, shown_whole}
+use Rattle.object_cells.proofs.PlainFields.{plain_shown}
 use Rattle.shape_change.proofs.HeldByName.{held_found}
 use Rattle.shape_change.proofs.ShownFields.{name_is_new, shown_shape}
 use Rattle.shape_change.proofs.WordFields.{own_there, own_word, stored_there, stored_word}
@@ -13,7 +13,7 @@ header-header-requires c =
     has_header shown.has shown.stands
 
 pub own_place-place-requires-clause-whole : goal.own_place-place-requires-clause-whole
-own_place-place-requires-clause-whole c = shown_whole c.requires.plain.shows
+own_place-place-requires-clause-whole c = c.requires.plain.shows.shows.whole
 
 pub own_place-place-requires-clause-there : goal.own_place-place-requires-clause-there
 own_place-place-requires-clause-there c =
@@ -22,7 +22,7 @@ own_place-place-requires-clause-there c =
     below
 
 pub hold_word_at-requires-clause-whole : goal.hold_word_at-requires-clause-whole
-hold_word_at-requires-clause-whole c = shown_whole c.requires.plain.shows
+hold_word_at-requires-clause-whole c = c.requires.plain.shows.shows.whole
 
 pub hold_word_at-requires-clause-stands : goal.hold_word_at-requires-clause-stands
 hold_word_at-requires-clause-stands c =
@@ -44,7 +44,7 @@ returns-in-InObject c graph plain shows is =
     (field.located, field.of_shape, field.of_name) (c.hold_word_at.ensures found stands)
 
 pub stored_place-place-requires-clause-whole : goal.stored_place-place-requires-clause-whole
-stored_place-place-requires-clause-whole c = shown_whole c.requires.plain.shows
+stored_place-place-requires-clause-whole c = c.requires.plain.shows.shows.whole
 
 pub stored_place-place-requires-clause-there : goal.stored_place-place-requires-clause-there
 stored_place-place-requires-clause-there c =
@@ -52,7 +52,7 @@ stored_place-place-requires-clause-there c =
     stored_there c.requires.plain.shows c.requires.plain.is c.header-header.ensures.of_cell field c.in-InStore.slot at
 
 pub hold_word_at-requires-in-InStore-clause-whole : goal.hold_word_at-requires-in-InStore-clause-whole
-hold_word_at-requires-in-InStore-clause-whole c = shown_whole c.requires.plain.shows
+hold_word_at-requires-in-InStore-clause-whole c = c.requires.plain.shows.shows.whole
 
 pub hold_word_at-requires-in-InStore-clause-stands : goal.hold_word_at-requires-in-InStore-clause-stands
 hold_word_at-requires-in-InStore-clause-stands c =

@@ -10,16 +10,16 @@ use Rattle.object_cells.proofs.PlainFields.{field_slot_there, shape_there, cap_t
 use Rattle.shape_change.proofs.get_field.hold_slot.Goals as goal
 
 pub slot_place-place-requires-clause-there : goal.slot_place-place-requires-clause-there
-slot_place-place-requires-clause-there c = field_slot_there c.requires.whole.whole c.requires.there
+slot_place-place-requires-clause-there c = field_slot_there c.requires.whole c.requires.there
 
 pub slot_place-place-requires-clause-cap : goal.slot_place-place-requires-clause-cap
 slot_place-place-requires-clause-cap c =
-    cap_there c.args.found.cap c.requires.whole.whole c.requires.there c.requires.located.cap
+    cap_there c.args.found.cap c.requires.whole c.requires.there c.requires.located.cap
 
 pub hold_field-requires-clause-field : goal.hold_field-requires-clause-field
 hold_field-requires-clause-field c =
     let found = c.args.found in
-    let whole = c.requires.whole.whole in
+    let whole = c.requires.whole in
     let there = field_slot_there whole c.requires.there in
     let own : c.is_own.result ≡ nat_lt found.at (shape_path c.args.main.now.paths found.shape).cap =
     c.is_own.ensures ∙ c.slot_place-place.ensures.own ∙ ap (nat_lt found.at) c.requires.located.cap in

@@ -21,14 +21,14 @@ hold_tagged-requires-clause-class c =
     let (found, is) = c.requires.stands in
     let word = c.word_of_place-word.result in
     let by = slot_class {heap = heap_of c.args.main.now} word c.addresses_fit.ensures.within
-    c.requires.whole.whole.sized (slot_word word c.requires.whole.whole is c.word_of_place-word.ensures) in
+    c.requires.whole.sized (slot_word word c.requires.whole is c.word_of_place-word.ensures) in
     (by.class, by.is_class, by.bits)
 
 pub hold_tagged-requires-clause-within : goal.hold_tagged-requires-clause-within
 hold_tagged-requires-clause-within c at refers =
     let (found, is) = c.requires.stands in
     let word = c.word_of_place-word.result in
-    slot_within word at (slot_word word c.requires.whole.whole is c.word_of_place-word.ensures) refers
+    slot_within word at (slot_word word c.requires.whole is c.word_of_place-word.ensures) refers
 
 pub returns : goal.returns
 returns c found is cell words slots field word value has stands are there slot shows =
@@ -38,7 +38,7 @@ returns c found is cell words slots field word value has stands are there slot s
     (sym there ∙ ap (λ s. slice_get (shape_path c.args.main.now.paths s).fields found.at) shape ∙ is.located.field) in
     let read : c.word_of_place-word.result ≡ word = same_Some c.word_of_place-word.result word
     (sym c.word_of_place-word.ensures ∙ is.stands cell words slots has stands are ∙ slot) in
-    let by = field_by_class c.addresses_fit.ensures.within c.requires.whole.whole.sized
+    let by = field_by_class c.addresses_fit.ensures.within c.requires.whole.sized
     (λ raw wide. is.not_wide (sym (ap (λ (f : PathField). f.rep) one) ∙ wide)) shows in
     let bits = read ∙ by.bits in
     record {

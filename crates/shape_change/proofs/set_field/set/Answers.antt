@@ -1,13 +1,12 @@
 -- A set goes by the slot that is cached.
 use Rattle.std.proofs.Common.{arith}
-use Rattle.object_cells.proofs.PlainFields.{shown_whole}
 use Rattle.shape_change.proofs.WordFields.{word_field_shape, own_there, own_word, stored_there, stored_word}
 use Rattle.shape_change.proofs.set_field.set.Goals as goal
 
 pub own_place-place-requires-clause-whole : goal.own_place-place-requires-clause-whole
 own_place-place-requires-clause-whole o c =
     let (found, field, same, at, below) = c.in-InObject.ensures in
-    shown_whole (c.requires.may.plain (word_field_shape field)).shows
+    (c.requires.may.plain (word_field_shape field)).shows.shows.whole
 
 pub own_place-place-requires-clause-there : goal.own_place-place-requires-clause-there
 own_place-place-requires-clause-there o c =
@@ -33,7 +32,7 @@ set_at-requires-clause-there o c =
 pub stored_place-place-requires-clause-whole : goal.stored_place-place-requires-clause-whole
 stored_place-place-requires-clause-whole o c =
     let (found, field, same, at) = c.in-InStore.ensures in
-    shown_whole (c.requires.may.plain (word_field_shape field)).shows
+    (c.requires.may.plain (word_field_shape field)).shows.shows.whole
 
 pub stored_place-place-requires-clause-there : goal.stored_place-place-requires-clause-there
 stored_place-place-requires-clause-there o c =

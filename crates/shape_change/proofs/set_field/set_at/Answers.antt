@@ -4,7 +4,7 @@ use Rattle.heap_model.specs.Types.{Rep}
 use Rattle.object_graph.specs.declared.value.Rep.TheVariants.{Wide}
 use Rattle.shape_change.specs.Fillings.{KeepsTagged}
 use Rattle.shape_change.specs.Places.{place_at}
-use Rattle.shape_change.proofs.SetByPlace.{kept_setting, kept_sets}
+use Rattle.shape_change.proofs.SetByPlace.{kept_may, kept_setting, kept_sets}
 use Rattle.shape_change.proofs.Settings.{setting}
 use Rattle.shape_change.proofs.SetsTold.{plain_sets}
 use Rattle.shape_change.proofs.ShownFields.{located_rep, located_cap}
@@ -17,10 +17,21 @@ taken_by-requires-clause-not_wide o c =
     let (found, has, same) = c.requires.there in
     subst (λ (r : Rep). r ≢ Wide) same has.stands.not_wide
 
-pub fill-requires-clause-may_store : goal.fill-requires-clause-may_store
-fill-requires-clause-may_store o c =
+pub fill-requires-clause-may : goal.fill-requires-clause-may
+fill-requires-clause-may o c =
     let (found, has, same) = c.requires.there in
-    (c.requires.may.plain (word_field_shape (word_field has))).shows.quiet
+    let paths = c.args.main.now.paths in
+    let field = word_field has in
+    let shown = c.requires.may.plain (word_field_shape field) in
+    let held = c.requires.may.held in
+    let keeps = subst (λ (r : Rep). KeepsTagged r held c.in-Some.word) (sym same)
+    (c.in-Some.ensures.1 held c.requires.may.gives) in
+    let sets = kept_setting has.stands.at_place has.stands.within
+    (located_cap paths found found.shape has.stands.located refl)
+    (located_rep paths found found.shape has.stands.located refl) keeps in
+    kept_may (setting shown.shows shown.is shown.is_held c.requires.may.gives.fits
+    (named_there shown.shows shown.is c.requires.may.headed field)) c.addresses_fit.ensures.within has.stands.there sets
+    shown.is_held.shows c.in-Some.word keeps
 
 pub fill-requires-clause-within : goal.fill-requires-clause-within
 fill-requires-clause-within o c =

@@ -13,7 +13,7 @@ pub hold_tagged-requires-clause-class : goal.hold_tagged-requires-clause-class
 hold_tagged-requires-clause-class c =
     let slot = field_is_slot c.args.rep c.args.word c.requires.field (c.is_raw.ensures.tagged c.if-is_raw.false) in
     let by = slot_class {heap = heap_of c.args.main.now} c.args.word c.addresses_fit.ensures.within
-    c.requires.whole.whole.sized slot in
+    c.requires.whole.sized slot in
     (by.class, by.is_class, by.bits)
 
 pub hold_tagged-requires-clause-within : goal.hold_tagged-requires-clause-within
@@ -35,7 +35,7 @@ returns-then-is_raw c value shows =
 
 pub returns-else-is_raw : goal.returns-else-is_raw
 returns-else-is_raw c value shows =
-    let by = field_by_class c.addresses_fit.ensures.within c.requires.whole.whole.sized
+    let by = field_by_class c.addresses_fit.ensures.within c.requires.whole.sized
     (c.is_raw.ensures.tagged c.if-is_raw.false) shows in
     record {
       held = held_of_class (heap_of c.args.main.now) by.class;

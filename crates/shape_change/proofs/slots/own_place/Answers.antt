@@ -7,7 +7,7 @@ use Rattle.shape_change.proofs.slots.own_place.Goals as goal
 pub overflow_add-result : goal.overflow_add-result
 overflow_add-result c =
     let (cap, caps, there, below) = c.requires.there in
-    let within = own_within c.args.slot cap c.requires.whole.whole.sized caps there below in
+    let within = own_within c.args.slot cap c.requires.whole.sized caps there below in
     let fits = fits_address within c.addresses_fit.ensures.within in
     omega (arith, fits)
 
@@ -25,4 +25,4 @@ returns-clause-place c cap caps =
 pub returns-clause-within : goal.returns-clause-within
 returns-clause-within c =
     let (cap, caps, there, below) = c.requires.there in
-    own_within c.args.slot cap c.requires.whole.whole.sized caps there below
+    own_within c.args.slot cap c.requires.whole.sized caps there below

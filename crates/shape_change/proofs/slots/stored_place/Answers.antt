@@ -14,14 +14,14 @@ use Rattle.shape_change.proofs.slots.stored_place.Goals as goal
 pub slot-requires : goal.slot-requires
 slot-requires c =
     let (cap, caps, there) = c.requires.there in
-    omega (arith, store_within c.requires.whole.whole.sized there.has there.plain, there.stands)
+    omega (arith, store_within c.requires.whole.sized there.has there.plain, there.stands)
 
 pub known_address-store-requires : goal.known_address-store-requires
 known_address-store-requires c =
     let (cap, caps, there) = c.requires.there in
     let read = c.slot.result in (
       read / 4,
-      (stored_slot c.args.slot cap read c.requires.whole.whole.sized c.addresses_fit.ensures.within caps there
+      (stored_slot c.args.slot cap read c.requires.whole.sized c.addresses_fit.ensures.within caps there
           c.slot.ensures.of_heap).refers,
     )
 
@@ -31,13 +31,13 @@ quarter c =
     let (cap, caps, there) = c.requires.there in
     let read = c.slot.result in
     same_Some (read / 4) c.known_address-store.result
-    (sym (stored_slot c.args.slot cap read c.requires.whole.whole.sized c.addresses_fit.ensures.within caps there
+    (sym (stored_slot c.args.slot cap read c.requires.whole.sized c.addresses_fit.ensures.within caps there
     c.slot.ensures.of_heap).refers ∙ c.known_address-store.ensures)
 
 pub overflow_add-result : goal.overflow_add-result
 overflow_add-result c =
     let (cap, caps, there) = c.requires.there in
-    let stored = stored_slot c.args.slot cap c.slot.result c.requires.whole.whole.sized c.addresses_fit.ensures.within
+    let stored = stored_slot c.args.slot cap c.slot.result c.requires.whole.sized c.addresses_fit.ensures.within
     caps there c.slot.ensures.of_heap in
     let fits = fits_address stored.stands.within c.addresses_fit.ensures.within in
     omega (arith, fits)
@@ -50,7 +50,7 @@ returns-clause-stands c cap caps =
     (InStore c.known_address-store.result (2 + c.args.slot))) same
     (subst (λ store. StandsSlot (heap_of c.args.main.now) c.args.object (first + c.args.slot)
     (InStore store (2 + c.args.slot))) (quarter c)
-    (stored_stands c.args.slot first c.slot.result c.requires.whole.whole.sized c.addresses_fit.ensures.within
+    (stored_stands c.args.slot first c.slot.result c.requires.whole.sized c.addresses_fit.ensures.within
     first_caps there c.slot.ensures.of_heap))
 
 pub returns-clause-place : goal.returns-clause-place
@@ -63,6 +63,6 @@ returns-clause-place c cap caps = (
 pub returns-clause-within : goal.returns-clause-within
 returns-clause-within c =
     let (cap, caps, there) = c.requires.there in
-    let below = (stored_slot c.args.slot cap c.slot.result c.requires.whole.whole.sized c.addresses_fit.ensures.within
+    let below = (stored_slot c.args.slot cap c.slot.result c.requires.whole.sized c.addresses_fit.ensures.within
     caps there c.slot.ensures.of_heap).stands.within in
     omega (arith, below, quarter c)

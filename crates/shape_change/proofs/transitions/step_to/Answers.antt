@@ -3,6 +3,7 @@ use Rattle.std.proofs.Common.{refl, subst}
 use Rattle.shape_tree.specs.Shapes.{shape_path, stepped}
 use Rattle.shape_tree.specs.Growth.{IsStep}
 use Rattle.shape_tree.proofs.LedPaths.{leads_there}
+use Rattle.write_barrier.proofs.StoresOn.{stores_on_itself}
 use Rattle.write_barrier.specs.Staying.{rest_stays_itself}
 use Rattle.shape_change.proofs.LaidPaths.{path_added}
 use Rattle.shape_change.proofs.transitions.step_to.Goals as goal
@@ -20,7 +21,8 @@ returns-in-Found c =
           (subst (IsStep paths path) c.in-Found.is c.requires.step);
       sized = c.requires.sized;
       stay = λ at below. refl;
+      stores = stores_on_itself c.args.main.now;
     }
 
 pub returns-in-Missing : goal.returns-in-Missing
-returns-in-Missing c = path_added c.step_path.ensures
+returns-in-Missing c = path_added c.requires.sized c.step_path.ensures

@@ -1,5 +1,6 @@
 use Rattle.std.proofs.Common.{◌≡◌, ◌≤◌, ◌∙◌, ℕ, refl, sym, ap, subst}
 use Rattle.std.specs.Vec.{vec_capacity}
+use Rattle.write_barrier.proofs.SlotCycles.{quiet_idle}
 use Rattle.collector.specs.States.{Rest}
 use Rattle.collector.proofs.Keeping.{still_shows}
 use Rattle.collector.proofs.script_heap.Heap.collect.Goals as goal
@@ -9,6 +10,7 @@ scavenge-requires c =
     let (graph, shown) = c.requires.shown in
     let Room : ℕ → Type 0 = λ places. c.self.inside.main.seat.space.sizes.young ≤ places in
     record {
+      quiet = quiet_idle (rw (← c.self.view_is) at shown.quiet);
       shown = (graph, rw (← c.self.view_is) at shown.main);
       room = subst Room (sym (ap (λ list. vec_capacity list) c.replace-list.ensures.value))
           (rw (← c.self.view_is) at shown.listed);
@@ -29,7 +31,7 @@ returns c =
     (record {
       scavenged = done.scavenged;
       shows = λ graph shown.
-          still_shows _ _ graph shown rest done.scavenged.seat.space done.scavenged.rows
+          still_shows _ _ graph shown rest done.scavenged.seat.space done.scavenged.seat.phase done.scavenged.rows
           (done.keeps.shows graph shown.main);
       rooms = done.keeps;
       rest = rest;

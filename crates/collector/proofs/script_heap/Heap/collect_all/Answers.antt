@@ -1,6 +1,7 @@
 -- What is live is marked and kept, all else is swept, and what is left is scavenged: that is a full collection.
 use Rattle.std.proofs.Common.{ℕ, ap}
 use Rattle.std.specs.Vec.{vec_capacity}
+use Rattle.write_barrier.proofs.SlotCycles.{quiet_idle}
 use Rattle.collector.specs.States.{Rest}
 use Rattle.collector.proofs.CollectedAll.{swept_shows}
 use Rattle.collector.proofs.script_heap.Heap.collect_all.Goals as goal
@@ -9,6 +10,7 @@ pub mark_sweep-requires : goal.mark_sweep-requires
 mark_sweep-requires c =
     let (graph, shown) = c.requires.shown in
     record {
+      quiet = quiet_idle (rw (← c.self.view_is) at shown.quiet);
       shown = (graph, rw (← c.self.view_is) at shown.main);
       rows = rw (← c.self.view_is) at shown.rows;
       bound = rw (← c.self.view_is) at shown.marks;

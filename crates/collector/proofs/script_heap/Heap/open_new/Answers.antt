@@ -16,6 +16,7 @@ returns-clause-opened c =
     let opened = c.in_ok-main.ensures.opened in (
       record {
         main = opened.0;
+        quiet = opened.1.beside.phase;
         rows = ap length opened.1.free ∙ length-map-range_with_len whole_row 0 main.seat.space.sizes.pages;
         listed = search rules;
         marks = ap (λ (marked : Marked). marked.bound) c.in_ok-marking.ensures ∙ c.cells_end.ensures

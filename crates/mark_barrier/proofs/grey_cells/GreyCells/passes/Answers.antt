@@ -1,6 +1,9 @@
 -- The cell is passed over, where it is black.
-use Rattle.std.proofs.Common.{◌≡◌, inl, inr, refl, sym, ap, subst, ◌∙◌, Contains}
+use Rattle.std.proofs.Common.{inl, inr, ℕ, refl, sym, ap, subst, ◌∙◌, Contains, slice_index}
+use Rattle.shared_table.specs.Colours.{number_of}
 use Rattle.shared_table.proofs.ColourNumbers.{black_is}
+use Rattle.heap_table.specs.Overviews.{overview}
+use Rattle.heap_table.specs.Seats.{Seat}
 use Rattle.mark_barrier.specs.Waiting.{Waiting}
 use Rattle.mark_barrier.proofs.grey_cells.GreyCells.passes.Goals as goal
 
@@ -18,3 +21,14 @@ returns-in-Black-clause-others c one other = (
 pub returns-in_default-clause-not_black : goal.returns-in_default-clause-not_black
 returns-in_default-clause-not_black c other home is =
     c.in_default.not-Black (black_is c.colour.result (c.colour.ensures.home home ∙ is))
+
+pub returns-in-Black-clause-black : goal.returns-in-Black-clause-black
+returns-in-Black-clause-black c one on home =
+    let seat : Seat = c.args.seat.now in
+    elim ((c.add.ensures.members one).0 on) [
+      | inl was ↦ c.requires.black one
+          (subst (λ (w : Waiting). Contains w.passed.addresses one) c.self.view_is was) home
+      | inr is ↦
+          ap (λ (a : ℕ). slice_index (overview seat).colours a) is
+          ∙ sym (c.colour.ensures.home home) ∙ ap number_of c.in-Black.is
+    ]

@@ -18,7 +18,8 @@ module _ (c : goal.After-new_black) where
 pub returns-clause-paid : goal.returns-clause-paid
 returns-clause-paid c =
     subst (λ (s : Seat). IsPaid s c.args.self.now) (sym (made c))
-    (publish_paid c.args.seat.now c.args.self.now c.args.a c.requires.paid)
+    (publish_paid c.args.seat.now c.args.self.now c.args.a c.colour-colour.result c.colour-colour.ensures.home
+    c.requires.paid)
 
 pub returns-clause-steps : goal.returns-clause-steps
 returns-clause-steps c =

@@ -26,7 +26,7 @@ returns c =
     let paid = paid_list c.self.inside c.in-Some.grey c.self.invariant c.in-Some.is mark in
     record {
       scans = scanned c.self.inside c.args.self.now c.scan.new.seat c.scan.new.self c.self.view_is
-          (c.layouts_fit.ensures.shared mark) same paid.owed c.scan.ensures.paid c.scan.ensures.scans;
+          mark (c.layouts_fit.ensures.shared mark) same paid.owed c.scan.ensures.paid c.scan.ensures.scans;
     }
 
 pub scan-requires-clause-paid : goal.scan-requires-clause-paid

@@ -1,0 +1,5 @@
+mod AlikeCells
+mod AlikeCycles
+mod Chosen
+mod Shaded
+mod ShownAgain
